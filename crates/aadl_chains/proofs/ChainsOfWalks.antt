@@ -4,81 +4,81 @@ use Rattle.std.proofs.Common.{◌∙◌}
 use Rattle.std.proofs.lemmas.Option.{same_Some}
 use Rattle.list_lemmas.proofs.Elements.{Contains-head, Contains-cons}
 use Rattle.aadl_tree.specs.Declarations.{PackageTree}
-use Rattle.aadl_names.specs.declared.port_place.PortPlace.{PortPlace}
-use Rattle.aadl_names.specs.declared.port_place.PortPlace.TheVariants.{Own, Inner}
-use Rattle.aadl_uses.specs.Uses.{standing}
+use Rattle.aadl_names.specs.declared.port_place.NumberedPort.{NumberedPort}
+use Rattle.aadl_names.specs.declared.port_place.NumberedPort.TheVariants.{Own, Inner}
+use Rattle.aadl_uses.specs.Uses.{number_at_path}
 use Rattle.aadl_uses.specs.proof.IncomingConnections.{connection_into}
-use Rattle.aadl_chains.specs.Chains.{Port, Place, Goes, Leads}
-use Rattle.aadl_chains.specs.proof.Walks.{Crossing, Climb, nowhere, at_root, crosses, climb_along, climb_into, climb}
+use Rattle.aadl_chains.specs.Chains.{Port, ConnectionAt, Goes, Leads}
+use Rattle.aadl_chains.specs.proof.Walks.{Crossing, WalkEnd, nowhere, at_root, crosses, walk_back_along, walk_back_into, walk_back}
 use Rattle.aadl_chains.proofs.FirstIncomingConnections.{Entered, entered, goes_into}
 
 abbrev port : List ℕ → ℕ → Port
 port path p = record { path = path; port = p }
 
-abbrev place : List ℕ → ℕ → Place
+abbrev place : List ℕ → ℕ → ConnectionAt
 place path k = record { path = path; connection = k }
 
 -- ---- ends of walks
 module _ (tree : PackageTree ℕ) (root : ℕ) where
-  pub climb_none : (last : Option ℕ) (path : List ℕ) (s p n : ℕ) → standing tree root path ≡ Some n
+  pub climb_none : (last : Option ℕ) (path : List ℕ) (s p n : ℕ) → number_at_path tree root path ≡ Some n
       → connection_into tree n (Inner s p) ≡ None
-      → climb tree root last (s ∷ path) p ≡ nowhere
+      → walk_back tree root last (s ∷ path) p ≡ nowhere
   climb_none last path s p n e f =
-      ap (climb_into tree (λ k q. climb tree root (Some k) path q) path s p) e
-      ∙ ap (climb_along (λ k q. climb tree root (Some k) path q) path n) f
+      ap (walk_back_into tree (λ k q. walk_back tree root (Some k) path q) path s p) e
+      ∙ ap (walk_back_along (λ k q. walk_back tree root (Some k) path q) path n) f
 
-  pub climb_own : (last : Option ℕ) (path : List ℕ) (s p n k q : ℕ) → standing tree root path ≡ Some n
+  pub climb_own : (last : Option ℕ) (path : List ℕ) (s p n k q : ℕ) → number_at_path tree root path ≡ Some n
       → connection_into tree n (Inner s p) ≡ Some (k, Own q)
-      → climb tree root last (s ∷ path) p ≡ climb tree root (Some k) path q
+      → walk_back tree root last (s ∷ path) p ≡ walk_back tree root (Some k) path q
   climb_own last path s p n k q e f =
-      ap (climb_into tree (λ k q. climb tree root (Some k) path q) path s p) e
-      ∙ ap (climb_along (λ k q. climb tree root (Some k) path q) path n) f
+      ap (walk_back_into tree (λ k q. walk_back tree root (Some k) path q) path s p) e
+      ∙ ap (walk_back_along (λ k q. walk_back tree root (Some k) path q) path n) f
 
-  pub climb_inner : (last : Option ℕ) (path : List ℕ) (s p n k t q : ℕ) → standing tree root path ≡ Some n
+  pub climb_inner : (last : Option ℕ) (path : List ℕ) (s p n k t q : ℕ) → number_at_path tree root path ≡ Some n
       → connection_into tree n (Inner s p) ≡ Some (k, Inner t q)
-      → climb tree root last (s ∷ path) p
+      → walk_back tree root last (s ∷ path) p
       ≡ crosses (record { path = path; declaration = n; connection = k; sub = t; port = q })
   climb_inner last path s p n k t q e f =
-      ap (climb_into tree (λ k q. climb tree root (Some k) path q) path s p) e
-      ∙ ap (climb_along (λ k q. climb tree root (Some k) path q) path n) f
+      ap (walk_back_into tree (λ k q. walk_back tree root (Some k) path q) path s p) e
+      ∙ ap (walk_back_along (λ k q. walk_back tree root (Some k) path q) path n) f
 
   -- the first connection that a walk passes, if it goes on
-  pub data Turn (last : Option ℕ) (path : List ℕ) (s p : ℕ) (r : Climb) : Type 0 where
+  pub data Turn (last : Option ℕ) (path : List ℕ) (s p : ℕ) (r : WalkEnd) : Type 0 where
     stops : r ≡ nowhere → Turn last path s p r
-    up : (n k q : ℕ) → standing tree root path ≡ Some n → Entered tree n (Inner s p) k (Own q)
-        → climb tree root (Some k) path q ≡ r → Turn last path s p r
-    over : (n k t q : ℕ) → standing tree root path ≡ Some n → Entered tree n (Inner s p) k (Inner t q)
+    up : (n k q : ℕ) → number_at_path tree root path ≡ Some n → Entered tree n (Inner s p) k (Own q)
+        → walk_back tree root (Some k) path q ≡ r → Turn last path s p r
+    over : (n k t q : ℕ) → number_at_path tree root path ≡ Some n → Entered tree n (Inner s p) k (Inner t q)
         → r ≡ crosses (record { path = path; declaration = n; connection = k; sub = t; port = q })
         → Turn last path s p r
 
-  turn_at : (last : Option ℕ) (path : List ℕ) (s p n k : ℕ) (r : Climb) (source : PortPlace)
-      → standing tree root path ≡ Some n
-      → connection_into tree n (Inner s p) ≡ Some (k, source) → climb tree root last (s ∷ path) p ≡ r → Turn last path s p r
+  turn_at : (last : Option ℕ) (path : List ℕ) (s p n k : ℕ) (r : WalkEnd) (source : NumberedPort)
+      → number_at_path tree root path ≡ Some n
+      → connection_into tree n (Inner s p) ≡ Some (k, source) → walk_back tree root last (s ∷ path) p ≡ r → Turn last path s p r
   turn_at last path s p n k r (Own q) e i is =
       up n k q e (entered tree n (Inner s p) (k, Own q) i) (sym (climb_own last path s p n k q e i) ∙ is)
   turn_at last path s p n k r (Inner t q) e i is = over n k t q e (entered tree n (Inner s p) (k, Inner t q) i)
       (sym is ∙ climb_inner last path s p n k t q e i)
 
-  turn_along : (last : Option ℕ) (path : List ℕ) (s p n : ℕ) (r : Climb) (o : Option (ℕ × PortPlace))
-      → standing tree root path ≡ Some n
-      → connection_into tree n (Inner s p) ≡ o → climb tree root last (s ∷ path) p ≡ r → Turn last path s p r
+  turn_along : (last : Option ℕ) (path : List ℕ) (s p n : ℕ) (r : WalkEnd) (o : Option (ℕ × NumberedPort))
+      → number_at_path tree root path ≡ Some n
+      → connection_into tree n (Inner s p) ≡ o → walk_back tree root last (s ∷ path) p ≡ r → Turn last path s p r
   turn_along last path s p n r None e i is = stops (sym is ∙ climb_none last path s p n e i)
   turn_along last path s p n r (Some from) e i is = turn_at last path s p n from.0 r from.1 e i is
 
-  turn_by : (last : Option ℕ) (path : List ℕ) (s p : ℕ) (r : Climb) (o : Option ℕ) → standing tree root path ≡ o
-      → climb tree root last (s ∷ path) p ≡ r → Turn last path s p r
+  turn_by : (last : Option ℕ) (path : List ℕ) (s p : ℕ) (r : WalkEnd) (o : Option ℕ) → number_at_path tree root path ≡ o
+      → walk_back tree root last (s ∷ path) p ≡ r → Turn last path s p r
   turn_by last path s p r None e is =
-      stops (sym is ∙ ap (climb_into tree (λ k q. climb tree root (Some k) path q) path s p) e)
+      stops (sym is ∙ ap (walk_back_into tree (λ k q. walk_back tree root (Some k) path q) path s p) e)
   turn_by last path s p r (Some n) e is = turn_along last path s p n r (connection_into tree n (Inner s p)) e refl is
 
-  pub turn : (last : Option ℕ) (path : List ℕ) (s p : ℕ) (r : Climb) → climb tree root last (s ∷ path) p ≡ r
+  pub turn : (last : Option ℕ) (path : List ℕ) (s p : ℕ) (r : WalkEnd) → walk_back tree root last (s ∷ path) p ≡ r
       → Turn last path s p r
-  turn last path s p r is = turn_by last path s p r (standing tree root path) refl is
+  turn last path s p r is = turn_by last path s p r (number_at_path tree root path) refl is
 
   -- ---- a walk is a chain
   -- the last connection passed is of the root's implementation
   pub record Rooted (last : Option ℕ) (path : List ℕ) (p : ℕ) (l : Option ℕ) (q : ℕ) : Type 0 where
-    pub chain : List Place
+    pub chain : List ConnectionAt
     pub leads : Leads tree root chain (port [] q) (port path p)
     pub by_last : ((path ≡ []) × (l ≡ last) × (q ≡ p))
         ⊎ ((k s r : ℕ) × (l ≡ Some k) × Contains chain (place [] k) × Entered tree root (Inner s r) k (Own q))
@@ -90,13 +90,13 @@ module _ (tree : PackageTree ℕ) (root : ℕ) where
   not_root l q c e = cc e
 
   pub rooted : (last : Option ℕ) (path : List ℕ) (p : ℕ) (l : Option ℕ) (q : ℕ)
-      → climb tree root last path p ≡ at_root l q → Rooted last path p l q
+      → walk_back tree root last path p ≡ at_root l q → Rooted last path p l q
   rooted last [] p l q is =
       let same = same_root last l p q is in
       record { chain = []; leads = ap (port []) (sym same.1); by_last = inl (refl, sym same.0, sym same.1) }
   rooted last (s ∷ path) p l q is = by (λ k o f. rooted (Some k) path o l q f) (turn last path s p (at_root l q) is)
     where
-      more : (n k o : ℕ) → standing tree root path ≡ Some n → Entered tree n (Inner s p) k (Own o)
+      more : (n k o : ℕ) → number_at_path tree root path ≡ Some n → Entered tree n (Inner s p) k (Own o)
           → Rooted (Some k) path o l q
           → Rooted last (s ∷ path) p l q
       more n k o e x r = record {
@@ -110,7 +110,7 @@ module _ (tree : PackageTree ℕ) (root : ℕ) where
               → (j t u : ℕ) × (l ≡ Some j) × Contains (place path k ∷ r.chain) (place [] j)
               × Entered tree root (Inner t u) j (Own q)
           last_of (inl h) =
-              let is_root : n ≡ root = sym (same_Some root n (sym (ap (standing tree root) h.0) ∙ e)) in (
+              let is_root : n ≡ root = sym (same_Some root n (sym (ap (number_at_path tree root) h.0) ∙ e)) in (
                 k,
                 s,
                 p,
@@ -122,7 +122,7 @@ module _ (tree : PackageTree ℕ) (root : ℕ) where
               )
           last_of (inr h) = (h.0, h.1, h.2, h.3, Contains-cons (place path k) (place [] h.0) r.chain h.4, h.5)
 
-      by : ((k o : ℕ) → climb tree root (Some k) path o ≡ at_root l q → Rooted (Some k) path o l q)
+      by : ((k o : ℕ) → walk_back tree root (Some k) path o ≡ at_root l q → Rooted (Some k) path o l q)
           → Turn last path s p (at_root l q)
           → Rooted last (s ∷ path) p l q
       by rest (stops e) = absurd (cc e)
@@ -131,7 +131,7 @@ module _ (tree : PackageTree ℕ) (root : ℕ) where
 
   -- the way from a crossing
   pub record Crossed (path : List ℕ) (p : ℕ) (c : Crossing) : Type 0 where
-    pub chain : List Place
+    pub chain : List ConnectionAt
     pub target : Port
     pub sub : ℕ
     pub target_port : ℕ
@@ -141,12 +141,12 @@ module _ (tree : PackageTree ℕ) (root : ℕ) where
     pub source_is : goes.source ≡ Inner c.sub c.port
     pub target_is : goes.target ≡ Inner sub target_port
 
-  pub crossed : (last : Option ℕ) (path : List ℕ) (p : ℕ) (c : Crossing) → climb tree root last path p ≡ crosses c
+  pub crossed : (last : Option ℕ) (path : List ℕ) (p : ℕ) (c : Crossing) → walk_back tree root last path p ≡ crosses c
       → Crossed path p c
   crossed last [] p c is = absurd (not_root last p c is)
   crossed last (s ∷ path) p c is = by (λ k q f. crossed (Some k) path q c f) (turn last path s p (crosses c) is)
     where
-      here : (n k t q : ℕ) → standing tree root path ≡ Some n → Entered tree n (Inner s p) k (Inner t q)
+      here : (n k t q : ℕ) → number_at_path tree root path ≡ Some n → Entered tree n (Inner s p) k (Inner t q)
           → Crossed (s ∷ path) p (record { path = path; declaration = n; connection = k; sub = t; port = q })
       here n k t q e x =
           let g = goes_into tree root path n (Inner s p) k (Inner t q) e x in
@@ -162,7 +162,7 @@ module _ (tree : PackageTree ℕ) (root : ℕ) where
             target_is = g.3;
           }
 
-      by : ((k q : ℕ) → climb tree root (Some k) path q ≡ crosses c → Crossed path q c) → Turn last path s p (crosses c)
+      by : ((k q : ℕ) → walk_back tree root (Some k) path q ≡ crosses c → Crossed path q c) → Turn last path s p (crosses c)
           → Crossed (s ∷ path) p c
       by rest (stops e) = absurd (cc e)
       by rest (up n k q e x f) =

@@ -9,21 +9,21 @@ use Rattle.list_lemmas.proofs.Elements.{Contains-nil}
 use Rattle.list_lemmas.proofs.ElementPositions.{slice_get-from_Contains, Contains-from_slice_get}
 use Rattle.aadl_tree.specs.declared.declarations.Direction.TheVariants as directions
 use Rattle.aadl_tree.specs.Declarations.{Feature, Connection, Implementation, PackageTree}
-use Rattle.aadl_names.specs.declared.port_place.PortPlace.{PortPlace}
-use Rattle.aadl_names.specs.declared.port_place.PortPlace.TheVariants.{Own, Inner}
-use Rattle.aadl_names.specs.ReferenceResolution.{implementation_at, ports_at, site}
+use Rattle.aadl_names.specs.declared.port_place.NumberedPort.{NumberedPort}
+use Rattle.aadl_names.specs.declared.port_place.NumberedPort.TheVariants.{Own, Inner}
+use Rattle.aadl_names.specs.ReferenceResolution.{implementation_at, ports_at, end_port}
 use Rattle.aadl_names.specs.PackageFaults.{goes_in}
-use Rattle.aadl_uses.specs.Uses.{below, standing, IsInUse}
+use Rattle.aadl_uses.specs.Uses.{below, number_at_path, IsInUse}
 use Rattle.aadl_uses.specs.ThreadsBelow.{IsThreadAt}
 use Rattle.aadl_uses.specs.proof.ThreadCounts.{is_thread_in}
-use Rattle.aadl_uses.specs.declared.connections_by_target.Wire.{Wire}
-use Rattle.aadl_uses.specs.Wiring.{wire_of, wires_of, wires_at}
+use Rattle.aadl_uses.specs.declared.connections_by_target.ConnectionPorts.{ConnectionPorts}
+use Rattle.aadl_uses.specs.Wiring.{ports_of_connection, wires_of, connection_ports_at}
 use Rattle.aadl_uses.proofs.DeclarationTables.{listed}
 use Rattle.aadl_uses.proofs.ThreadCounts.{thread_by}
 use Rattle.aadl_chains.specs.proof.PortsJoinedInside.{is_thread_at, is_in_at, Reaches, of_thread, of_inner}
 use Rattle.aadl_chains.specs.proof.PortsJoinedOutside.{LeadsOut, of_root, of_own, of_beside, LeadsFrom}
-use Rattle.aadl_chains.specs.Chains.{Port, Place, port_at, Goes, Leads, is_in, IsStart, IsEnd, IsChain}
-use Rattle.aadl_chains.specs.proof.DeclaredEnds.{MayLeave, MayEnter, NotBothOwn, AreDeclared}
+use Rattle.aadl_chains.specs.Chains.{Port, ConnectionAt, port_at, Goes, Leads, is_in, IsStart, IsEnd, IsChain}
+use Rattle.aadl_chains.specs.proof.DeclaredEnds.{MayLeave, MayEnter, NotBothOwn, ArePermitted}
 use Rattle.aadl_chains.specs.proof.ConnectionsOnChains.{IsOnChain}
 
 abbrev pub port : List ℕ → ℕ → Port
@@ -31,37 +31,37 @@ port path p = record { path = path; port = p }
 
 module _ (tree : PackageTree ℕ) (root : ℕ) where
   -- ---- what stands at a path
-  pub next_at : (path : List ℕ) (n s m : ℕ) → standing tree root path ≡ Some n → below tree n s ≡ Some m
-      → standing tree root (s ∷ path) ≡ Some m
+  pub next_at : (path : List ℕ) (n s m : ℕ) → number_at_path tree root path ≡ Some n → below tree n s ≡ Some m
+      → number_at_path tree root (s ∷ path) ≡ Some m
   next_at path n s m e b = ap (option_and_then (λ k. below tree k s)) e ∙ b
 
-  pub below_at : (path : List ℕ) (n s m : ℕ) → standing tree root path ≡ Some n → standing tree root (s ∷ path) ≡ Some m
+  pub below_at : (path : List ℕ) (n s m : ℕ) → number_at_path tree root path ≡ Some n → number_at_path tree root (s ∷ path) ≡ Some m
       → below tree n s ≡ Some m
   below_at path n s m e b = sym (ap (option_and_then (λ k. below tree k s)) e) ∙ b
 
-  pub is_in-at : (p : Port) (n : ℕ) → standing tree root p.path ≡ Some n → is_in tree root p ≡ is_in_at tree n p.port
+  pub is_in-at : (p : Port) (n : ℕ) → number_at_path tree root p.path ≡ Some n → is_in tree root p ≡ is_in_at tree n p.port
   is_in-at p n e = ap (λ o. goes_in (option_map (λ (f : Feature ℕ). f.direction)
       (slice_get (ports_at tree (option_and_then (implementation_at tree) o)) p.port))) e
 
-  thread_at : (path : List ℕ) (n : ℕ) → standing tree root path ≡ Some n → is_thread_at tree n ≡ true
+  thread_at : (path : List ℕ) (n : ℕ) → number_at_path tree root path ≡ Some n → is_thread_at tree n ≡ true
       → IsThreadAt tree root path
   thread_at path n e t = let x = thread_by (implementation_at tree n) t in
       (x.0, (ap (option_and_then (implementation_at tree)) e ∙ x.1, x.2))
 
-  pub thread_from : (path : List ℕ) (n : ℕ) → standing tree root path ≡ Some n → IsThreadAt tree root path
+  pub thread_from : (path : List ℕ) (n : ℕ) → number_at_path tree root path ≡ Some n → IsThreadAt tree root path
       → is_thread_at tree n ≡ true
   thread_from path n e t = ap is_thread_in (sym (ap (option_and_then (implementation_at tree)) e) ∙ t.1.0) ∙ t.1.1
 
   -- ---- connections
-  goes_if : (place : Place) (n : ℕ) (wire : Wire) (source target : PortPlace) (o : Option (Implementation ℕ))
+  goes_if : (place : ConnectionAt) (n : ℕ) (wire : ConnectionPorts) (source target : NumberedPort) (o : Option (Implementation ℕ))
       → implementation_at tree n ≡ o
-      → standing tree root place.path ≡ Some n
+      → number_at_path tree root place.path ≡ Some n
       → slice_get (wires_of tree o) place.connection ≡ Some wire → wire.source ≡ Some source → wire.target ≡ Some target
       → Goes tree root place (port_at place.path source) (port_at place.path target)
   goes_if place n wire source target None e stands is s t =
       absurd (Contains-nil wire (Contains-from_slice_get [] place.connection wire is))
   goes_if place n wire source target (Some x) e stands is s t =
-      let l = listed (wire_of tree x) x.connections place.connection wire is in
+      let l = listed (ports_of_connection tree x) x.connections place.connection wire is in
       record {
         number = n;
         component = x;
@@ -71,70 +71,70 @@ module _ (tree : PackageTree ℕ) (root : ℕ) where
         stands = stands;
         is_component = e;
         is_link = l.1;
-        is_source = ap (λ (w : Wire). w.source) l.2 ∙ s;
-        is_target = ap (λ (w : Wire). w.target) l.2 ∙ t;
+        is_source = ap (λ (w : ConnectionPorts). w.source) l.2 ∙ s;
+        is_target = ap (λ (w : ConnectionPorts). w.target) l.2 ∙ t;
         leaves = refl;
         enters = refl;
       }
 
-  goes_by : (path : List ℕ) (n : ℕ) (wire : Wire) (source target : PortPlace) → standing tree root path ≡ Some n
-      → (h : Contains (wires_at tree n) wire)
+  goes_by : (path : List ℕ) (n : ℕ) (wire : ConnectionPorts) (source target : NumberedPort) → number_at_path tree root path ≡ Some n
+      → (h : Contains (connection_ports_at tree n) wire)
       → wire.source ≡ Some source → wire.target ≡ Some target
       → Goes tree root (record { path = path; connection = h.0 }) (port_at path source) (port_at path target)
   goes_by path n wire source target stands h s t =
       goes_if (record { path = path; connection = h.0 }) n wire source target (implementation_at tree n) refl
-      stands (slice_get-from_Contains (wires_at tree n) wire h) s t
+      stands (slice_get-from_Contains (connection_ports_at tree n) wire h) s t
 
-  wire_if : (n k : ℕ) (x : Implementation ℕ) (link : Connection ℕ) (source target : PortPlace)
+  wire_if : (n k : ℕ) (x : Implementation ℕ) (link : Connection ℕ) (source target : NumberedPort)
       (o : Option (Implementation ℕ)) → o ≡ Some x
-      → slice_get x.connections k ≡ Some link → site tree x link.source ≡ Some source
-      → site tree x link.target ≡ Some target
+      → slice_get x.connections k ≡ Some link → end_port tree x link.source ≡ Some source
+      → end_port tree x link.target ≡ Some target
       → slice_get (wires_of tree o) k ≡ Some (record { source = Some source; target = Some target })
   wire_if n k x link source target o e is s t =
       ap (λ o. slice_get (wires_of tree o) k) e
       ∙ (mapped x.connections k is
-      ∙ (ap (λ a. Some (record { source = a; target = site tree x link.target })) s
+      ∙ (ap (λ a. Some (record { source = a; target = end_port tree x link.target })) s
       ∙ ap (λ b. Some (record { source = Some source; target = b })) t))
     where
       mapped : (cs : List (Connection ℕ)) (k : ℕ) → slice_get cs k ≡ Some link
-          → slice_get (map (wire_of tree x) cs) k ≡ Some (wire_of tree x link)
+          → slice_get (map (ports_of_connection tree x) cs) k ≡ Some (ports_of_connection tree x link)
       mapped [] k e = absurd (Contains-nil link (Contains-from_slice_get [] k link e))
-      mapped (c ∷ cs) zero e = ap (λ (o : Connection ℕ). Some (wire_of tree x o)) (same_Some c link e)
+      mapped (c ∷ cs) zero e = ap (λ (o : Connection ℕ). Some (ports_of_connection tree x o)) (same_Some c link e)
       mapped (c ∷ cs) (suc k) e = mapped cs k e
 
-  pub wire_of_goes : (place : Place) (from to : Port) → (g : Goes tree root place from to)
-      → slice_get (wires_at tree g.number) place.connection
+  pub wire_of_goes : (place : ConnectionAt) (from to : Port) → (g : Goes tree root place from to)
+      → slice_get (connection_ports_at tree g.number) place.connection
       ≡ Some (record { source = Some g.source; target = Some g.target })
   wire_of_goes place from to g =
       wire_if g.number place.connection g.component g.link g.source g.target (implementation_at tree g.number)
       g.is_component
       g.is_link g.is_source g.is_target
 
-  pub among_goes : (place : Place) (from to : Port) → (g : Goes tree root place from to)
-      → Contains (wires_at tree g.number) (record { source = Some g.source; target = Some g.target })
+  pub among_goes : (place : ConnectionAt) (from to : Port) → (g : Goes tree root place from to)
+      → Contains (connection_ports_at tree g.number) (record { source = Some g.source; target = Some g.target })
   among_goes place from to g =
-      Contains-from_slice_get (wires_at tree g.number) place.connection _ (wire_of_goes place from to g)
+      Contains-from_slice_get (connection_ports_at tree g.number) place.connection _ (wire_of_goes place from to g)
 
   -- ---- chains one behind the other
-  appended : (ds cs : List Place) (a b c : Port) → Leads tree root ds b c → Leads tree root cs a b
+  appended : (ds cs : List ConnectionAt) (a b c : Port) → Leads tree root ds b c → Leads tree root cs a b
       → Leads tree root (ds ++ cs) a c
   appended [] cs a b c l k = subst (λ p. Leads tree root cs a p) l k
   appended (x ∷ ds) cs a b c l k = (l.0, appended ds cs a b l.0 l.1 k, l.2)
 
   -- ---- from what ends lead to, to chains
   pub record Begins (path : List ℕ) (p : ℕ) : Type 0 where
-    pub chain : List Place
+    pub chain : List ConnectionAt
     pub from : Port
     pub leads : Leads tree root chain from (port path p)
     pub start : IsStart tree root from
 
   pub record Ends (path : List ℕ) (p : ℕ) : Type 0 where
-    pub chain : List Place
+    pub chain : List ConnectionAt
     pub to : Port
     pub leads : Leads tree root chain (port path p) to
     pub ends : IsEnd tree root to
 
-  gives_chain : {n p : ℕ} → Reaches tree directions.Out n p → (path : List ℕ) → standing tree root path ≡ Some n
+  gives_chain : {n p : ℕ} → Reaches tree directions.Out n p → (path : List ℕ) → number_at_path tree root path ≡ Some n
       → Begins path p
   gives_chain (of_thread thread way) path stands = record {
     chain = [];
@@ -151,7 +151,7 @@ module _ (tree : PackageTree ℕ) (root : ℕ) where
         start = b.start;
       }
 
-  takes_chain : {n p : ℕ} → Reaches tree directions.In n p → (path : List ℕ) → standing tree root path ≡ Some n
+  takes_chain : {n p : ℕ} → Reaches tree directions.In n p → (path : List ℕ) → number_at_path tree root path ≡ Some n
       → Ends path p
   takes_chain (of_thread thread way) path stands = record {
     chain = [];
@@ -169,15 +169,15 @@ module _ (tree : PackageTree ℕ) (root : ℕ) where
         ends = e.ends;
       }
 
-  module _ (sound : AreDeclared tree) where
+  module _ (sound : ArePermitted tree) where
     -- what is known of an end of a connection
-    leaves_own : (k q : ℕ) (wire : Wire) → Contains (wires_at tree k) wire → wire.source ≡ Some (Own q)
+    leaves_own : (k q : ℕ) (wire : ConnectionPorts) → Contains (connection_ports_at tree k) wire → wire.source ≡ Some (Own q)
         → is_in_at tree k q ≡ true
     leaves_own k q wire among e =
         let d = sound.each k wire among in
         subst (MayLeave tree k) (same_Some d.source (Own q) (sym d.source_is ∙ e)) d.leaves
 
-    enters_own : (k q : ℕ) (wire : Wire) → Contains (wires_at tree k) wire → wire.target ≡ Some (Own q)
+    enters_own : (k q : ℕ) (wire : ConnectionPorts) → Contains (connection_ports_at tree k) wire → wire.target ≡ Some (Own q)
         → is_in_at tree k q ≡ false
     enters_own k q wire among e =
         let d = sound.each k wire among in
@@ -185,12 +185,12 @@ module _ (tree : PackageTree ℕ) (root : ℕ) where
 
     pub record Fed (n p : ℕ) : Type 0 where
       pub path : List ℕ
-      pub stands : standing tree root path ≡ Some n
+      pub stands : number_at_path tree root path ≡ Some n
       pub begins : Begins path p
 
     pub record Led (n p : ℕ) : Type 0 where
       pub path : List ℕ
-      pub stands : standing tree root path ≡ Some n
+      pub stands : number_at_path tree root path ≡ Some n
       pub ends : Ends path p
 
     fed_chain : {n p : ℕ} → LeadsOut tree root directions.In n p → is_in_at tree n p ≡ true → Fed n p
@@ -273,23 +273,23 @@ module _ (tree : PackageTree ℕ) (root : ℕ) where
 
     -- a chain through a connection of the implementation, at some place
     pub record Chained (n connection : ℕ) : Type 0 where
-      pub chain : List Place
+      pub chain : List ConnectionAt
       pub from : Port
       pub to : Port
-      pub place : Place
+      pub place : ConnectionAt
       pub is_chain : IsChain tree root chain from to
       pub among : Contains chain place
-      pub stands : standing tree root place.path ≡ Some n
+      pub stands : number_at_path tree root place.path ≡ Some n
       pub is_connection : place.connection ≡ connection
 
     -- chains that lead to it and on from it are one
-    through_it : (path : List ℕ) (n : ℕ) (wire : Wire) (source target : PortPlace) (h : Contains (wires_at tree n) wire)
-        → standing tree root path ≡ Some n
+    through_it : (path : List ℕ) (n : ℕ) (wire : ConnectionPorts) (source target : NumberedPort) (h : Contains (connection_ports_at tree n) wire)
+        → number_at_path tree root path ≡ Some n
         → wire.source ≡ Some source → wire.target ≡ Some target
-        → (cs ds : List Place) (from to : Port) → Leads tree root cs from (port_at path source) → IsStart tree root from
+        → (cs ds : List ConnectionAt) (from to : Port) → Leads tree root cs from (port_at path source) → IsStart tree root from
         → Leads tree root ds (port_at path target) to → IsEnd tree root to → Chained n h.0
     through_it path n wire source target h stands s t cs ds from to l start m ends =
-        let here : Place = record { path = path; connection = h.0 } in
+        let here : ConnectionAt = record { path = path; connection = h.0 } in
         record {
           chain = ds ++ here ∷ cs;
           from = from;
@@ -309,8 +309,8 @@ module _ (tree : PackageTree ℕ) (root : ℕ) where
           is_connection = refl;
         }
 
-    chained_by : (n : ℕ) (wire : Wire) (source target : PortPlace) → IsInUse tree root n
-        → (h : Contains (wires_at tree n) wire) → wire.source ≡ Some source
+    chained_by : (n : ℕ) (wire : ConnectionPorts) (source target : NumberedPort) → IsInUse tree root n
+        → (h : Contains (connection_ports_at tree n) wire) → wire.source ≡ Some source
         → wire.target ≡ Some target → NotBothOwn source target
         → LeadsFrom tree root directions.In n source → LeadsFrom tree root directions.Out n target → Chained n h.0
     chained_by n wire (Own p) (Own q) used h s t both comes goes = absurd both
@@ -330,7 +330,7 @@ module _ (tree : PackageTree ℕ) (root : ℕ) where
         through_it used.0 n wire (Inner u p) (Inner v q) h used.1 s t f.chain g.chain f.from g.to f.leads f.start
         g.leads g.ends
 
-    pub chained : (n : ℕ) (wire : Wire) → IsInUse tree root n → (h : Contains (wires_at tree n) wire)
+    pub chained : (n : ℕ) (wire : ConnectionPorts) → IsInUse tree root n → (h : Contains (connection_ports_at tree n) wire)
         → IsOnChain tree root n wire → Chained n h.0
     chained n wire used h w =
         let d = sound.each n wire h in

@@ -13,18 +13,18 @@ use Rattle.aadl_tree.specs.Declarations.{Connection, Implementation, PackageTree
 use Rattle.aadl_names.specs.declared.fault.PackageFault.{PackageFault}
 use Rattle.aadl_names.specs.declared.fault.PackageFault.TheVariants.{DeadEnd, TwoSources}
 use Rattle.aadl_names.specs.ReferenceResolution.{implementation_at, connections_of}
-use Rattle.aadl_names.specs.declared.port_place.PortPlace.{PortPlace}
+use Rattle.aadl_names.specs.declared.port_place.NumberedPort.{NumberedPort}
 use Rattle.aadl_names.specs.proof.FirstFaultSoFar.{found}
 use Rattle.aadl_names.proofs.FirstFaultSoFar.{found_append}
 use Rattle.aadl_uses.specs.Uses.{IsInUse}
 use Rattle.aadl_uses.specs.proof.FirstRecursion.{FirstIn}
-use Rattle.aadl_uses.specs.declared.connections_by_target.Wire.{Wire}
+use Rattle.aadl_uses.specs.declared.connections_by_target.ConnectionPorts.{ConnectionPorts}
 use Rattle.aadl_uses.specs.SecondConnections.{IsDuplicate}
-use Rattle.aadl_uses.specs.Wiring.{wire_of, wires_of, wires_at}
+use Rattle.aadl_uses.specs.Wiring.{ports_of_connection, wires_of, connection_ports_at}
 use Rattle.aadl_chains.specs.proof.PortsJoinedOutside.{LeadsFrom}
 use Rattle.aadl_chains.proofs.JoinedInsideByDeclaration.{one_of_two}
 use Rattle.aadl_chains.specs.ChainFaults.{IsDeadEnd, IsEndFault}
-use Rattle.aadl_chains.specs.proof.DeclaredEnds.{AreDeclared}
+use Rattle.aadl_chains.specs.proof.DeclaredEnds.{ArePermitted}
 use Rattle.aadl_chains.specs.proof.ConnectionsOnChains.{IsOnChain}
 use Rattle.aadl_chains.specs.proof.ConnectionFaults.{FindsAll, IsOnChainAt, IsFoundAt, IsFoundIn, dead_end, second}
 use Rattle.aadl_chains.proofs.AccumulatedFaults.{finds_nothing, finds_both, finds_same, first_found}
@@ -33,17 +33,17 @@ use Rattle.aadl_chains.proofs.ChainConnectionEnds.{on_way}
 
 pub wire_if : (tree : PackageTree ℕ) (o : Option (Implementation ℕ)) (k : ℕ) (link : Connection ℕ)
     → slice_get (connections_of o) k ≡ Some link
-    → (wire : Wire) × (slice_get (wires_of tree o) k ≡ Some wire)
+    → (wire : ConnectionPorts) × (slice_get (wires_of tree o) k ≡ Some wire)
 wire_if tree None k link e = absurd (Contains-nil link (Contains-from_slice_get [] k link e))
 wire_if tree (Some x) k link e = by x.connections k e
   where
     by : (cs : List (Connection ℕ)) (k : ℕ) → slice_get cs k ≡ Some link
-        → (wire : Wire) × (slice_get (map (wire_of tree x) cs) k ≡ Some wire)
+        → (wire : ConnectionPorts) × (slice_get (map (ports_of_connection tree x) cs) k ≡ Some wire)
     by [] k e = absurd (Contains-nil link (Contains-from_slice_get [] k link e))
-    by (c ∷ cs) zero e = (wire_of tree x c, refl)
+    by (c ∷ cs) zero e = (ports_of_connection tree x c, refl)
     by (c ∷ cs) (suc k) e = by cs k e
 
-module _ (tree : PackageTree ℕ) (root : ℕ) (sound : AreDeclared tree) where
+module _ (tree : PackageTree ℕ) (root : ℕ) (sound : ArePermitted tree) where
   dead_to : (n k : ℕ) (link : Connection ℕ) → IsInUse tree root n
       → slice_get (connections_of (implementation_at tree n)) k ≡ Some link
       → (IsOnChainAt tree root n k → ⊥) → IsDeadEnd tree root link
@@ -73,11 +73,11 @@ module _ (tree : PackageTree ℕ) (root : ℕ) (sound : AreDeclared tree) where
 
   dead_from : (link : Connection ℕ) → (d : IsDeadEnd tree root link) → IsOnChainAt tree root d.number d.connection → ⊥
   dead_from link d w =
-      let h : Contains (wires_at tree d.number) w.0 = (
+      let h : Contains (connection_ports_at tree d.number) w.0 = (
         d.connection,
-        slice_get_within (wires_at tree d.number) d.connection w.0 w.1,
+        slice_get_within (connection_ports_at tree d.number) d.connection w.0 w.1,
         get_or_from_slice_get
-            (wires_at tree d.number) d.connection w.0 w.0 w.1,
+            (connection_ports_at tree d.number) d.connection w.0 w.0 w.1,
       ) in
       let c = chained tree root sound d.number w.0 d.used h w.2 in
       d.on_none c.chain c.from c.to c.place c.is_chain c.among c.stands c.is_connection
@@ -87,7 +87,7 @@ module _ (tree : PackageTree ℕ) (root : ℕ) (sound : AreDeclared tree) where
   end_fault n fault used f = by f.1.kind
     where
       by : ((IsOnChainAt tree root n f.0 → ⊥) × (fault ≡ DeadEnd f.1.link.name.spelling f.1.link.name.at))
-          ⊎ (IsDuplicate (wires_at tree n) f.0 × (fault ≡ TwoSources f.1.link.name.spelling f.1.link.name.at))
+          ⊎ (IsDuplicate (connection_ports_at tree n) f.0 × (fault ≡ TwoSources f.1.link.name.spelling f.1.link.name.at))
           → IsEndFault tree root fault
       by (inl d) = inl (f.1.link, dead_to n f.0 f.1.link used f.1.is_connection d.0, d.1)
       by (inr s) =
@@ -124,9 +124,9 @@ module _ (tree : PackageTree ℕ) (root : ℕ) (sound : AreDeclared tree) where
   )
 
 -- ---- at one connection
-module _ (tree : PackageTree ℕ) (root n k : ℕ) (link : Connection ℕ) (wire : Wire)
+module _ (tree : PackageTree ℕ) (root n k : ℕ) (link : Connection ℕ) (wire : ConnectionPorts)
     (is_link : slice_get (connections_of (implementation_at tree n)) k ≡ Some link)
-    (is_wire : slice_get (wires_at tree n) k ≡ Some wire) where
+    (is_wire : slice_get (connection_ports_at tree n) k ≡ Some wire) where
   dead_each : (b : Bool) (fault : PackageFault) → (IsTrue b ↔ IsOnChain tree root n wire)
       → Contains (dead_end b link) fault → IsFoundAt tree root n k fault
   dead_each true fault tells h = absurd (Contains-nil fault h)
@@ -145,7 +145,7 @@ module _ (tree : PackageTree ℕ) (root n k : ℕ) (link : Connection ℕ) (wire
             );
       }
 
-  second_each : (b : Bool) (fault : PackageFault) → (IsTrue b ↔ IsDuplicate (wires_at tree n) k)
+  second_each : (b : Bool) (fault : PackageFault) → (IsTrue b ↔ IsDuplicate (connection_ports_at tree n) k)
       → Contains (second b link) fault → IsFoundAt tree root n k fault
   second_each false fault tells h = absurd (Contains-nil fault h)
   second_each true fault tells h = by (Contains-push_cases [] (TwoSources link.name.spelling link.name.at) fault h)
@@ -160,15 +160,15 @@ module _ (tree : PackageTree ℕ) (root n k : ℕ) (link : Connection ℕ) (wire
   dead_all false fault tells none e = subst (Contains (DeadEnd link.name.spelling link.name.at ∷ [])) e
       (Contains-push [] (DeadEnd link.name.spelling link.name.at))
 
-  second_all : (b : Bool) (fault : PackageFault) → (IsTrue b ↔ IsDuplicate (wires_at tree n) k)
-      → IsDuplicate (wires_at tree n) k
+  second_all : (b : Bool) (fault : PackageFault) → (IsTrue b ↔ IsDuplicate (connection_ports_at tree n) k)
+      → IsDuplicate (connection_ports_at tree n) k
       → TwoSources link.name.spelling link.name.at ≡ fault → Contains (second b link) fault
   second_all true fault tells s e = subst (Contains (TwoSources link.name.spelling link.name.at ∷ [])) e
       (Contains-push [] (TwoSources link.name.spelling link.name.at))
   second_all false fault tells s e = absurd (false≢true (tells.1 s))
 
   pub both_found : (b c : Bool) (old new : Option PackageFault) → (IsTrue b ↔ IsOnChain tree root n wire)
-      → (IsTrue c ↔ IsDuplicate (wires_at tree n) k)
+      → (IsTrue c ↔ IsDuplicate (connection_ports_at tree n) k)
       → new ≡ found (found old (dead_end b link)) (second c link)
       → FindsAll (IsFoundAt tree root n k) old new
   both_found b c old new way is_second is = record {
@@ -185,7 +185,7 @@ module _ (tree : PackageTree ℕ) (root n k : ℕ) (link : Connection ℕ) (wire
 
       by_kind : (f : PackageFault) → (a : IsFoundAt tree root n k f) → a.link ≡ link
           → ((IsOnChainAt tree root n k → ⊥) × (f ≡ DeadEnd a.link.name.spelling a.link.name.at))
-          ⊎ (IsDuplicate (wires_at tree n) k × (f ≡ TwoSources a.link.name.spelling a.link.name.at))
+          ⊎ (IsDuplicate (connection_ports_at tree n) k × (f ≡ TwoSources a.link.name.spelling a.link.name.at))
           → Contains (dead_end b link ++ second c link) f
       by_kind f a same (inl d) = Contains-append_left (dead_end b link) (second c link) f
           (dead_all b f way d.0 (sym (d.1 ∙ ap (λ (x : Connection ℕ). DeadEnd x.name.spelling x.name.at) same)))
@@ -215,7 +215,7 @@ module _ (tree : PackageTree ℕ) (root n : ℕ) where
       which f h (inl lt) = inl (h.0, lt, h.2)
       which f h (inr e) = inr (subst (λ k. IsFoundAt tree root n k f) e h.2)
 
-  pub found_all : (i : ℕ) (old new : Option PackageFault) → length (wires_at tree n) ≤ i
+  pub found_all : (i : ℕ) (old new : Option PackageFault) → length (connection_ports_at tree n) ≤ i
       → FindsAll (FoundBelow i) old new
       → FindsAll (IsFoundIn tree root n) old new
   found_all i old new past front =
@@ -224,7 +224,7 @@ module _ (tree : PackageTree ℕ) (root n : ℕ) where
       by : (f : PackageFault) → IsFoundIn tree root n f → FoundBelow i f
       by f h =
           let w = wire_if tree (implementation_at tree n) h.0 h.1.link h.1.is_connection in
-          let lt = slice_get_within (wires_at tree n) h.0 w.0 w.1 in
+          let lt = slice_get_within (connection_ports_at tree n) h.0 w.0 w.1 in
           (h.0, omega arith, h.1)
 
 -- ---- at all declarations in use
@@ -259,7 +259,7 @@ module _ (tree : PackageTree ℕ) (root : ℕ) (keys : List ℕ) where
       which f h (inl lt) = (h.0, h.1, lt, h.3, h.4)
       which f h (inr e) = absurd (none-some h.1 (sym is ∙ (ap (slice_get keys) (sym e) ∙ h.3)))
 
-  pub first_end : AreDeclared tree → ((n : ℕ) → Contains keys n ↔ IsInUse tree root n)
+  pub first_end : ArePermitted tree → ((n : ℕ) → Contains keys n ↔ IsInUse tree root n)
       → (i : ℕ) (new : Option PackageFault) → length keys ≤ i
       → FindsAll (FoundAmong i) None new → FirstIn (IsEndFault tree root) new
   first_end sound used i new past front =
@@ -281,7 +281,7 @@ nothing_at tree root n k old none =
     finds_nothing (IsFoundAt tree root n k) old (λ f h. none-some h.link (sym none ∙ h.is_connection))
 
 -- ---- whether a connection is on a chain
-pub ways_tell : (tree : PackageTree ℕ) (root n : ℕ) (wire : Wire) (s t : PortPlace) (a b : Bool) → wire.source ≡ Some s
+pub ways_tell : (tree : PackageTree ℕ) (root n : ℕ) (wire : ConnectionPorts) (s t : NumberedPort) (a b : Bool) → wire.source ≡ Some s
     → wire.target ≡ Some t
     → (IsTrue a ↔ LeadsFrom tree root directions.In n s) → (IsTrue b ↔ LeadsFrom tree root directions.Out n t)
     → IsTrue (a && b) ↔ IsOnChain tree root n wire
@@ -307,10 +307,10 @@ ways_tell tree root n wire s t a b source target comes goes = (
     of_both : (x y : Bool) → x ≡ true → y ≡ true → (x && y) ≡ true
     of_both x y e f = ap (λ z. z && y) e ∙ f
 
-pub no_source : (tree : PackageTree ℕ) (root n : ℕ) (wire : Wire) → wire.source ≡ None
+pub no_source : (tree : PackageTree ℕ) (root n : ℕ) (wire : ConnectionPorts) → wire.source ≡ None
     → IsTrue false ↔ IsOnChain tree root n wire
 no_source tree root n wire e = (λ t. absurd (false≢true t), λ w. absurd (none-some w.source (sym e ∙ w.source_is)))
 
-pub no_target : (tree : PackageTree ℕ) (root n : ℕ) (wire : Wire) → wire.target ≡ None
+pub no_target : (tree : PackageTree ℕ) (root n : ℕ) (wire : ConnectionPorts) → wire.target ≡ None
     → IsTrue false ↔ IsOnChain tree root n wire
 no_target tree root n wire e = (λ t. absurd (false≢true t), λ w. absurd (none-some w.target (sym e ∙ w.target_is)))

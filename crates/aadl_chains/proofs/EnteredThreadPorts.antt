@@ -5,19 +5,19 @@ use Rattle.std.proofs.lemmas.Option.{same_Some, none-some}
 use Rattle.list_lemmas.proofs.Booleans.{opposed}
 use Rattle.aadl_tree.specs.declared.declarations.Direction.TheVariants as directions
 use Rattle.aadl_tree.specs.Declarations.{PackageTree}
-use Rattle.aadl_names.specs.declared.port_place.PortPlace.{PortPlace}
-use Rattle.aadl_names.specs.declared.port_place.PortPlace.TheVariants.{Own, Inner}
+use Rattle.aadl_names.specs.declared.port_place.NumberedPort.{NumberedPort}
+use Rattle.aadl_names.specs.declared.port_place.NumberedPort.TheVariants.{Own, Inner}
 use Rattle.aadl_uses.specs.Uses.{below}
-use Rattle.aadl_uses.specs.declared.connections_by_target.Wire.{Wire}
-use Rattle.aadl_uses.specs.Wiring.{wires_at}
+use Rattle.aadl_uses.specs.declared.connections_by_target.ConnectionPorts.{ConnectionPorts}
+use Rattle.aadl_uses.specs.Wiring.{connection_ports_at}
 use Rattle.aadl_uses.specs.proof.IncomingConnections.{connection_into, first_into_at}
 use Rattle.aadl_chains.specs.proof.PortsJoinedInside.{is_thread_at, is_in_at, ReachesIn}
 use Rattle.aadl_chains.specs.Chains.{Port}
-use Rattle.aadl_chains.specs.proof.DeclaredEnds.{AreDeclared}
+use Rattle.aadl_chains.specs.proof.DeclaredEnds.{ArePermitted}
 use Rattle.aadl_chains.proofs.ConnectionsOnChains.{is_in-at}
 use Rattle.aadl_chains.specs.proof.LimitedCounts.{IsNumber}
-use Rattle.aadl_chains.specs.proof.Walks.{Crossing, at_root, crosses, climb, IsThreadPort}
-use Rattle.aadl_chains.specs.proof.EnteredThreadPorts.{ComesFrom, EndsLink, Through, Deeper, AmongFirst, FromOwn}
+use Rattle.aadl_chains.specs.proof.Walks.{Crossing, at_root, crosses, walk_back, IsThreadPort}
+use Rattle.aadl_chains.specs.proof.EnteredThreadPorts.{ComesFrom, EndsLink, IsEnteredThrough, IsLinkBelow, AmongFirst, FromOwn}
 use Rattle.aadl_chains.specs.proof.EnteredThreadPorts.{FromThread}
 use Rattle.aadl_chains.proofs.LimitedCounts.{no_number, one_number, both_numbers, image_number}
 use Rattle.aadl_chains.proofs.FirstIncomingConnections.{first_wire, into_first, known_into}
@@ -42,7 +42,7 @@ module _ (tree : PackageTree ℕ) (n : ℕ) where
   own_by q x s inner e c =
       let b = below_of tree n s inner c.0.0 in
       let r =
-      root_outer tree n s b.0 b.1 (climb tree b.0 None inner x.port) c.1.0 q
+      root_outer tree n s b.0 b.1 (walk_back tree b.0 None inner x.port) c.1.0 q
       (sym (climb_outer tree n s b.0 b.1 None inner x.port) ∙ c.1.1) in
       let enters = r.4 in (
         r.2,
@@ -71,8 +71,8 @@ module _ (tree : PackageTree ℕ) (n : ℕ) where
           (thread_itself tree n (at_path (IsThreadPort tree n) x [] e c.0).0) none)
       by (inr h) = own_by q x h.0 h.1 h.2 (at_path (ComesFrom tree n q) x (h.1 ++ h.0 ∷ []) h.2 c)
 
-  into_of : (k : ℕ) (x : Port) (source : PortPlace) (wire : Wire) → (t : Through tree n k x)
-      → slice_get (wires_at tree n) k ≡ Some wire
+  into_of : (k : ℕ) (x : Port) (source : NumberedPort) (wire : ConnectionPorts) → (t : IsEnteredThrough tree n k x)
+      → slice_get (connection_ports_at tree n) k ≡ Some wire
       → wire.source ≡ Some source → connection_into tree n (Inner t.sub t.inner_port) ≡ Some (k, source)
   into_of k x source wire t is e = into_first tree n (Inner t.sub t.inner_port) source k wire t.first is e
 
@@ -85,7 +85,7 @@ module _ (tree : PackageTree ℕ) (n : ℕ) where
         (
           Some k,
           climb_outer tree n t.sub t.number t.is_below None t.inner x.port
-              ∙ root_kept tree n t.sub t.number t.is_below (climb tree t.number None t.inner x.port) t.comes.1.0
+              ∙ root_kept tree n t.sub t.number t.is_below (walk_back tree t.number None t.inner x.port) t.comes.1.0
               t.inner_port k q t.comes.1.1 i,
         ),
       )
@@ -94,9 +94,9 @@ module _ (tree : PackageTree ℕ) (n : ℕ) where
   crossing_by : (x : Port) (s : ℕ) (inner : List ℕ) → x.path ≡ inner ++ s ∷ []
       → (c : EndsLink tree n (port (inner ++ s ∷ []) x.port)) → (m : ℕ)
       → (b : below tree n s ≡ Some m)
-      → Within tree n s m b (climb tree m None inner x.port) c.1.0
-      ⊎ Itself tree n s m b (climb tree m None inner x.port) c.1.0
-      → ((s : ℕ) × Deeper tree n s x) ⊎ ((k : ℕ) × FromThread tree n k x)
+      → Within tree n s m b (walk_back tree m None inner x.port) c.1.0
+      ⊎ Itself tree n s m b (walk_back tree m None inner x.port) c.1.0
+      → ((s : ℕ) × IsLinkBelow tree n s x) ⊎ ((k : ℕ) × FromThread tree n k x)
   crossing_by x s inner e c m b (inl w) = inl (
     s,
     record {
@@ -142,24 +142,24 @@ module _ (tree : PackageTree ℕ) (n : ℕ) where
         ),
       )
 
-  pub link_parts : (x : Port) → EndsLink tree n x → ((s : ℕ) × Deeper tree n s x) ⊎ ((k : ℕ) × FromThread tree n k x)
+  pub link_parts : (x : Port) → EndsLink tree n x → ((s : ℕ) × IsLinkBelow tree n s x) ⊎ ((k : ℕ) × FromThread tree n k x)
   link_parts x c = by (last_of x.path)
     where
-      never : (path : List ℕ) → path ≡ [] → (r : Crossing) → climb tree n None path x.port ≡ crosses r → ⊥
-      never path e r is = let none : at_root None x.port ≡ crosses r = sym (ap (λ l. climb tree n None l x.port) e)
+      never : (path : List ℕ) → path ≡ [] → (r : Crossing) → walk_back tree n None path x.port ≡ crosses r → ⊥
+      never path e r is = let none : at_root None x.port ≡ crosses r = sym (ap (λ l. walk_back tree n None l x.port) e)
           ∙ is in cc none
 
       by : (x.path ≡ []) ⊎ ((s : ℕ) × (inner : List ℕ) × (x.path ≡ inner ++ s ∷ []))
-          → ((s : ℕ) × Deeper tree n s x) ⊎ ((k : ℕ) × FromThread tree n k x)
+          → ((s : ℕ) × IsLinkBelow tree n s x) ⊎ ((k : ℕ) × FromThread tree n k x)
       by (inl e) = absurd (never x.path e c.1.0 c.1.1)
       by (inr h) =
           let d = at_path (EndsLink tree n) x (h.1 ++ h.0 ∷ []) h.2 c in
           let b = below_of tree n h.0 h.1 d.0.0 in
           crossing_by x h.0 h.1 h.2 d b.0 b.1
-          (crossing_outer tree n h.0 b.0 b.1 (climb tree b.0 None h.1 x.port) d.1.0
+          (crossing_outer tree n h.0 b.0 b.1 (walk_back tree b.0 None h.1 x.port) d.1.0
           (sym (climb_outer tree n h.0 b.0 b.1 None h.1 x.port) ∙ d.1.1))
 
-  pub deeper_ends : (s : ℕ) (x : Port) → Deeper tree n s x → EndsLink tree n x
+  pub deeper_ends : (s : ℕ) (x : Port) → IsLinkBelow tree n s x → EndsLink tree n x
   deeper_ends s x d =
       let c = d.ends.1.0 in
       from_path (EndsLink tree n) x (d.inner ++ s ∷ []) d.path_is (
@@ -173,7 +173,7 @@ module _ (tree : PackageTree ℕ) (n : ℕ) where
             port = c.port;
           },
           climb_outer tree n s d.number d.is_below None d.inner x.port
-              ∙ crossing_kept tree n s d.number d.is_below (climb tree d.number None d.inner x.port) c d.ends.1.1,
+              ∙ crossing_kept tree n s d.number d.is_below (walk_back tree d.number None d.inner x.port) c d.ends.1.1,
           d.ends.1.2,
         ),
       )
@@ -188,7 +188,7 @@ module _ (tree : PackageTree ℕ) (n : ℕ) where
         (
           record { path = []; declaration = n; connection = k; sub = w.1; port = w.2 },
           climb_outer tree n t.sub t.number t.is_below None t.inner x.port
-              ∙ root_crosses tree n t.sub t.number t.is_below (climb tree t.number None t.inner x.port) t.comes.1.0
+              ∙ root_crosses tree n t.sub t.number t.is_below (walk_back tree t.number None t.inner x.port) t.comes.1.0
               t.inner_port k w.1 w.2 t.comes.1.1 i,
           w.5,
         ),
@@ -198,41 +198,41 @@ module _ (tree : PackageTree ℕ) (n : ℕ) where
   root_port : (l m : Option ℕ) (q r : ℕ) → at_root l q ≡ at_root m r → q ≡ r
   root_port l m q r e = cc e
 
-  pub one_through : (k j : ℕ) (x : Port) → Through tree n k x → Through tree n j x → k ≡ j
+  pub one_through : (k j : ℕ) (x : Port) → IsEnteredThrough tree n k x → IsEnteredThrough tree n j x → k ≡ j
   one_through k j x a b =
       let e = same_ends a.inner b.inner a.sub b.sub (sym a.path_is ∙ b.path_is) in
       let m : a.number ≡ b.number =
       same_Some a.number b.number (sym a.is_below ∙ (ap (below tree n) e.1 ∙ b.is_below)) in
-      let climbs : climb tree a.number None a.inner x.port ≡ climb tree b.number None b.inner x.port =
-      ap (λ i. climb tree i None a.inner x.port) m ∙ ap (λ l. climb tree b.number None l x.port) e.0 in
+      let climbs : walk_back tree a.number None a.inner x.port ≡ walk_back tree b.number None b.inner x.port =
+      ap (λ i. walk_back tree i None a.inner x.port) m ∙ ap (λ l. walk_back tree b.number None l x.port) e.0 in
       let p : a.inner_port ≡ b.inner_port =
       root_port a.comes.1.0 b.comes.1.0 a.inner_port b.inner_port (sym a.comes.1.1 ∙ (climbs ∙ b.comes.1.1)) in
       same_Some k j (sym a.first
       ∙ (ap (λ s. first_into_at tree n (Inner s a.inner_port)) e.1
       ∙ (ap (λ o. first_into_at tree n (Inner b.sub o)) p ∙ b.first)))
 
-  pub one_deeper : (s t : ℕ) (x : Port) → Deeper tree n s x → Deeper tree n t x → s ≡ t
+  pub one_deeper : (s t : ℕ) (x : Port) → IsLinkBelow tree n s x → IsLinkBelow tree n t x → s ≡ t
   one_deeper s t x a b = (same_ends a.inner b.inner s t (sym a.path_is ∙ b.path_is)).1
 
-  pub not_both : (s k : ℕ) (x : Port) → Deeper tree n s x → Through tree n k x → ⊥
+  pub not_both : (s k : ℕ) (x : Port) → IsLinkBelow tree n s x → IsEnteredThrough tree n k x → ⊥
   not_both s k x a b =
       let e = same_ends a.inner b.inner s b.sub (sym a.path_is ∙ b.path_is) in
       let m : a.number ≡ b.number =
       same_Some a.number b.number (sym a.is_below ∙ (ap (below tree n) e.1 ∙ b.is_below)) in
-      let climbs : climb tree a.number None a.inner x.port ≡ climb tree b.number None b.inner x.port =
-      ap (λ i. climb tree i None a.inner x.port) m ∙ ap (λ l. climb tree b.number None l x.port) e.0 in
+      let climbs : walk_back tree a.number None a.inner x.port ≡ walk_back tree b.number None b.inner x.port =
+      ap (λ i. walk_back tree i None a.inner x.port) m ∙ ap (λ l. walk_back tree b.number None l x.port) e.0 in
       let none : crosses a.ends.1.0 ≡ at_root b.comes.1.0 b.inner_port = sym a.ends.1.1 ∙ (climbs ∙ b.comes.1.1) in
       cc none
 
   -- ---- numbers
   module _ (limit : ℕ) where
     -- of the ports entered through one connection
-    pub through_number : (k s p m c : ℕ) (wire : Wire) → slice_get (wires_at tree n) k ≡ Some wire
+    pub through_number : (k s p m c : ℕ) (wire : ConnectionPorts) → slice_get (connection_ports_at tree n) k ≡ Some wire
         → wire.target ≡ Some (Inner s p)
         → first_into_at tree n (Inner s p) ≡ Some k → below tree n s ≡ Some m → IsNumber limit (ComesFrom tree m p) c
-        → IsNumber limit (Through tree n k) c
+        → IsNumber limit (IsEnteredThrough tree n k) c
     through_number k s p m c wire is target first b number =
-        image_number limit (λ x. port (x.path ++ s ∷ []) x.port) (ComesFrom tree m p) (Through tree n k) c one
+        image_number limit (λ x. port (x.path ++ s ∷ []) x.port) (ComesFrom tree m p) (IsEnteredThrough tree n k) c one
         to from number
       where
         one : (x y : Port) → port (x.path ++ s ∷ []) x.port ≡ port (y.path ++ s ∷ []) y.port → x ≡ y
@@ -240,7 +240,7 @@ module _ (tree : PackageTree ℕ) (n : ℕ) where
             let path = (same_ends x.path y.path s s (ap (λ (z : Port). z.path) e)).0 in
             ap (λ l. port l x.port) path ∙ ap (port y.path) (ap (λ (z : Port). z.port) e)
 
-        to : (x : Port) → ComesFrom tree m p x → Through tree n k (port (x.path ++ s ∷ []) x.port)
+        to : (x : Port) → ComesFrom tree m p x → IsEnteredThrough tree n k (port (x.path ++ s ∷ []) x.port)
         to x c =
             record {
               sub = s;
@@ -253,13 +253,13 @@ module _ (tree : PackageTree ℕ) (n : ℕ) where
               first = first;
             }
 
-        from : (y : Port) → Through tree n k y
+        from : (y : Port) → IsEnteredThrough tree n k y
             → (x : Port) × ComesFrom tree m p x × (y ≡ port (x.path ++ s ∷ []) x.port)
         from y t =
             let w = first_wire tree n (Inner t.sub t.inner_port) k t.first in
             let same : Inner s p ≡ Inner t.sub t.inner_port =
             same_Some (Inner s p) (Inner t.sub t.inner_port)
-            (sym target ∙ (ap (λ (x : Wire). x.target) (same_Some wire w.0 (sym is ∙ w.1)) ∙ w.2)) in
+            (sym target ∙ (ap (λ (x : ConnectionPorts). x.target) (same_Some wire w.0 (sym is ∙ w.1)) ∙ w.2)) in
             let sub : s ≡ t.sub = cc same in
             let inner : p ≡ t.inner_port = cc same in
             let number_is : m ≡ t.number = same_Some m t.number (sym b ∙ (ap (below tree n) sub ∙ t.is_below)) in (
@@ -271,9 +271,9 @@ module _ (tree : PackageTree ℕ) (n : ℕ) where
 
     -- of those that are the targets of links below one subcomponent
     pub deeper_number : (s m c : ℕ) → below tree n s ≡ Some m → IsNumber limit (EndsLink tree m) c
-        → IsNumber limit (Deeper tree n s) c
+        → IsNumber limit (IsLinkBelow tree n s) c
     deeper_number s m c b number =
-        image_number limit (λ x. port (x.path ++ s ∷ []) x.port) (EndsLink tree m) (Deeper tree n s) c one
+        image_number limit (λ x. port (x.path ++ s ∷ []) x.port) (EndsLink tree m) (IsLinkBelow tree n s) c one
         to from number
       where
         one : (x y : Port) → port (x.path ++ s ∷ []) x.port ≡ port (y.path ++ s ∷ []) y.port → x ≡ y
@@ -281,10 +281,10 @@ module _ (tree : PackageTree ℕ) (n : ℕ) where
             let path = (same_ends x.path y.path s s (ap (λ (z : Port). z.path) e)).0 in
             ap (λ l. port l x.port) path ∙ ap (port y.path) (ap (λ (z : Port). z.port) e)
 
-        to : (x : Port) → EndsLink tree m x → Deeper tree n s (port (x.path ++ s ∷ []) x.port)
+        to : (x : Port) → EndsLink tree m x → IsLinkBelow tree n s (port (x.path ++ s ∷ []) x.port)
         to x e = record { number = m; inner = x.path; path_is = refl; is_below = b; ends = e }
 
-        from : (y : Port) → Deeper tree n s y → (x : Port) × EndsLink tree m x × (y ≡ port (x.path ++ s ∷ []) x.port)
+        from : (y : Port) → IsLinkBelow tree n s y → (x : Port) × EndsLink tree m x × (y ≡ port (x.path ++ s ∷ []) x.port)
         from y d =
             let number_is : m ≡ d.number = same_Some m d.number (sym b ∙ d.is_below) in (
               port d.inner y.port,
@@ -292,11 +292,11 @@ module _ (tree : PackageTree ℕ) (n : ℕ) where
               ap (λ l. port l y.port) d.path_is,
             )
 
-    pub no_deeper : (s : ℕ) → below tree n s ≡ None → IsNumber limit (Deeper tree n s) 0
-    no_deeper s e = no_number limit (Deeper tree n s) (λ x d. none-some d.number (sym e ∙ d.is_below))
+    pub no_deeper : (s : ℕ) → below tree n s ≡ None → IsNumber limit (IsLinkBelow tree n s) 0
+    no_deeper s e = no_number limit (IsLinkBelow tree n s) (λ x d. none-some d.number (sym e ∙ d.is_below))
 
     -- a thread has its own in ports alone
-    pub thread_number : (q : ℕ) → AreDeclared tree → is_thread_at tree n ≡ true → is_in_at tree n q ≡ true
+    pub thread_number : (q : ℕ) → ArePermitted tree → is_thread_at tree n ≡ true → is_in_at tree n q ≡ true
         → IsThreadPort tree n (port [] q)
         → IsNumber limit (ComesFrom tree n q) (min limit 1)
     thread_number q sound thread into here =
@@ -305,25 +305,25 @@ module _ (tree : PackageTree ℕ) (n : ℕ) where
         by : (y : Port) → ComesFrom tree n q y
             → (y.path ≡ []) ⊎ ((s : ℕ) × (inner : List ℕ) × (y.path ≡ inner ++ s ∷ [])) → y ≡ port [] q
         by y c (inl e) =
-            let is : at_root None y.port ≡ at_root c.1.0 q = sym (ap (λ l. climb tree n None l y.port) e) ∙ c.1.1 in
+            let is : at_root None y.port ≡ at_root c.1.0 q = sym (ap (λ l. walk_back tree n None l y.port) e) ∙ c.1.1 in
             ap (λ l. port l y.port) e ∙ ap (port []) (root_port None c.1.0 y.port q is)
         by y c (inr h) =
             let d = at_path (ComesFrom tree n q) y (h.1 ++ h.0 ∷ []) h.2 c in
             let b = below_of tree n h.0 h.1 d.0.0 in
             let r =
-            root_outer tree n h.0 b.0 b.1 (climb tree b.0 None h.1 y.port) d.1.0 q
+            root_outer tree n h.0 b.0 b.1 (walk_back tree b.0 None h.1 y.port) d.1.0 q
             (sym (climb_outer tree n h.0 b.0 b.1 None h.1 y.port) ∙ d.1.1) in
             let k = known_into tree n sound n (Inner h.0 r.1) r.2 (Own q) r.4 in
             absurd (opposed (is_thread_at tree n) thread k.no_thread)
 
-    pub no_thread_number : (q : ℕ) → AreDeclared tree → is_thread_at tree n ≡ true → is_in_at tree n q ≡ false
+    pub no_thread_number : (q : ℕ) → ArePermitted tree → is_thread_at tree n ≡ true → is_in_at tree n q ≡ false
         → IsNumber limit (ComesFrom tree n q) 0
     no_thread_number q sound thread out = no_number limit (ComesFrom tree n q) (λ y c. by y c (last_of y.path))
       where
         by : (y : Port) → ComesFrom tree n q y
             → (y.path ≡ []) ⊎ ((s : ℕ) × (inner : List ℕ) × (y.path ≡ inner ++ s ∷ [])) → ⊥
         by y c (inl e) =
-            let is : at_root None y.port ≡ at_root c.1.0 q = sym (ap (λ l. climb tree n None l y.port) e) ∙ c.1.1 in
+            let is : at_root None y.port ≡ at_root c.1.0 q = sym (ap (λ l. walk_back tree n None l y.port) e) ∙ c.1.1 in
             let t = at_path (IsThreadPort tree n) y [] e c.0 in
             let into : is_in_at tree n y.port ≡ true = sym (is_in-at tree n (port [] y.port) n refl) ∙ t.1 in
             opposed (is_in_at tree n q) (ap (is_in_at tree n) (sym (root_port None c.1.0 y.port q is)) ∙ into) out
@@ -331,7 +331,7 @@ module _ (tree : PackageTree ℕ) (n : ℕ) where
             let d = at_path (ComesFrom tree n q) y (h.1 ++ h.0 ∷ []) h.2 c in
             let b = below_of tree n h.0 h.1 d.0.0 in
             let r =
-            root_outer tree n h.0 b.0 b.1 (climb tree b.0 None h.1 y.port) d.1.0 q
+            root_outer tree n h.0 b.0 b.1 (walk_back tree b.0 None h.1 y.port) d.1.0 q
             (sym (climb_outer tree n h.0 b.0 b.1 None h.1 y.port) ∙ d.1.1) in
             let k = known_into tree n sound n (Inner h.0 r.1) r.2 (Own q) r.4 in
             opposed (is_thread_at tree n) thread k.no_thread

@@ -10,21 +10,21 @@ use Rattle.std.proofs.lemmas.Option.{same_Some, none-some, option_and_then_some}
 use Rattle.list_lemmas.proofs.ElementPositions.{Contains-from_slice_get}
 use Rattle.list_lemmas.proofs.Elements.{Contains-nil}
 use Rattle.aadl_tree.specs.Declarations.{Implementation, PackageTree}
-use Rattle.aadl_names.specs.declared.port_place.PortPlace.{PortPlace}
-use Rattle.aadl_names.specs.declared.port_place.PortPlace.TheVariants.{Own, Inner}
+use Rattle.aadl_names.specs.declared.port_place.NumberedPort.{NumberedPort}
+use Rattle.aadl_names.specs.declared.port_place.NumberedPort.TheVariants.{Own, Inner}
 use Rattle.aadl_names.specs.ReferenceResolution.{implementation_at}
-use Rattle.aadl_uses.specs.Uses.{standing}
-use Rattle.aadl_uses.specs.declared.connections_by_target.Wire.{Wire}
-use Rattle.aadl_uses.specs.proof.NumbersByPort.{is_site}
+use Rattle.aadl_uses.specs.Uses.{number_at_path}
+use Rattle.aadl_uses.specs.declared.connections_by_target.ConnectionPorts.{ConnectionPorts}
+use Rattle.aadl_uses.specs.proof.NumbersByPort.{is_port}
 use Rattle.aadl_uses.specs.SecondConnections.{target_in, IsDuplicate}
 use Rattle.aadl_uses.specs.proof.FirstConnections.{is_before}
-use Rattle.aadl_uses.specs.Wiring.{wire_of, wires_of, wires_at}
+use Rattle.aadl_uses.specs.Wiring.{ports_of_connection, wires_of, connection_ports_at}
 use Rattle.aadl_uses.specs.proof.IncomingConnections.{first_into_at, with_source, sourced, connection_into}
 use Rattle.aadl_uses.proofs.DeclarationTables.{listed}
 use Rattle.aadl_uses.proofs.FirstConnectionTables.{itself, second_from, is_site-true, of_site}
 use Rattle.aadl_chains.specs.proof.PortsJoinedInside.{is_thread_at, is_in_at}
-use Rattle.aadl_chains.specs.Chains.{Port, Place, port_at, Goes}
-use Rattle.aadl_chains.specs.proof.DeclaredEnds.{MayLeave, MayEnter, NotBothOwn, AreDeclared}
+use Rattle.aadl_chains.specs.Chains.{Port, ConnectionAt, port_at, Goes}
+use Rattle.aadl_chains.specs.proof.DeclaredEnds.{MayLeave, MayEnter, NotBothOwn, ArePermitted}
 use Rattle.aadl_chains.proofs.ConnectionsOnChains.{among_goes, wire_of_goes}
 use Rattle.aadl_chains.specs.proof.Walks.{OneEach}
 use Rattle.aadl_chains.specs.proof.WalksUpAndDown.{IsFromInner}
@@ -65,79 +65,79 @@ module _ {X : Type 0} (test : X → Bool) where
   some_first (x ∷ xs) k i y is t = some_if x y xs k i (test x) refl is t (λ j h. some_first xs (k + 1) j y h t)
 
 -- ---- ends of connections
-pub own_no_inner : (o : Option PortPlace) (x : PortPlace) (q s p : ℕ) → o ≡ Some x → x ≡ Own q
+pub own_no_inner : (o : Option NumberedPort) (x : NumberedPort) (q s p : ℕ) → o ≡ Some x → x ≡ Own q
     → o ≡ Some (Inner s p) → ⊥
 own_no_inner o x q s p a b c = let e : Some (Own q) ≡ Some (Inner s p) = sym (a ∙ ap Some b) ∙ c in cc e
 
-pub none_no_inner : (o : Option PortPlace) (s p : ℕ) → o ≡ None → o ≡ Some (Inner s p) → ⊥
+pub none_no_inner : (o : Option NumberedPort) (s p : ℕ) → o ≡ None → o ≡ Some (Inner s p) → ⊥
 none_no_inner o s p a c = none-some (Inner s p) (sym a ∙ c)
 
 module _ (tree : PackageTree ℕ) where
   -- the first connection of a declaration into a port
-  pub record Entered (n : ℕ) (target : PortPlace) (k : ℕ) (source : PortPlace) : Type 0 where
-    pub wire : Wire
-    pub is_wire : slice_get (wires_at tree n) k ≡ Some wire
+  pub record Entered (n : ℕ) (target : NumberedPort) (k : ℕ) (source : NumberedPort) : Type 0 where
+    pub wire : ConnectionPorts
+    pub is_wire : slice_get (connection_ports_at tree n) k ≡ Some wire
     pub source_is : wire.source ≡ Some source
     pub target_is : wire.target ≡ Some target
     pub first : first_into_at tree n target ≡ Some k
 
-  pub first_wire : (n : ℕ) (target : PortPlace) (k : ℕ) → first_into_at tree n target ≡ Some k
-      → (wire : Wire) × (slice_get (wires_at tree n) k ≡ Some wire) × (wire.target ≡ Some target)
+  pub first_wire : (n : ℕ) (target : NumberedPort) (k : ℕ) → first_into_at tree n target ≡ Some k
+      → (wire : ConnectionPorts) × (slice_get (connection_ports_at tree n) k ≡ Some wire) × (wire.target ≡ Some target)
   first_wire n target k e =
-      let f = first_at (λ (w : Wire). is_site target w.target) (wires_at tree n) 0 k e in
+      let f = first_at (λ (w : ConnectionPorts). is_port target w.target) (connection_ports_at tree n) 0 k e in
       let is = f.is in
       let same : f.index ≡ k = omega arith in
-      (f.item, ap (slice_get (wires_at tree n)) (sym same) ∙ f.is_item, is_site-true target f.item.target f.passes)
+      (f.item, ap (slice_get (connection_ports_at tree n)) (sym same) ∙ f.is_item, is_site-true target f.item.target f.passes)
 
-  source_if : (k : ℕ) (o : Option PortPlace) (from : ℕ × PortPlace)
-      → option_map_or (λ (source : PortPlace). Some (k, source)) o None ≡ Some from
+  source_if : (k : ℕ) (o : Option NumberedPort) (from : ℕ × NumberedPort)
+      → option_map_or (λ (source : NumberedPort). Some (k, source)) o None ≡ Some from
       → (o ≡ Some from.1) × (k ≡ from.0)
   source_if k None from e = absurd (none-some from e)
   source_if k (Some source) from e =
       let same : (k, source) ≡ from = same_Some (k, source) from e in
-      (ap (λ (x : ℕ × PortPlace). Some x.1) same, ap (λ (x : ℕ × PortPlace). x.0) same)
+      (ap (λ (x : ℕ × NumberedPort). Some x.1) same, ap (λ (x : ℕ × NumberedPort). x.0) same)
 
-  pub entered : (n : ℕ) (target : PortPlace) (from : ℕ × PortPlace) → connection_into tree n target ≡ Some from
+  pub entered : (n : ℕ) (target : NumberedPort) (from : ℕ × NumberedPort) → connection_into tree n target ≡ Some from
       → Entered n target from.0 from.1
   entered n target from e =
-      option_and_then_some (sourced (wires_at tree n)) (first_into_at tree n target) from e
+      option_and_then_some (sourced (connection_ports_at tree n)) (first_into_at tree n target) from e
       (λ k a b.
       let w = first_wire n target k a in
       let s = source_if k w.0.source from (ap (option_and_then (with_source k)) (sym w.1) ∙ b) in
       record {
         wire = w.0;
-        is_wire = ap (slice_get (wires_at tree n)) (sym s.1) ∙ w.1;
+        is_wire = ap (slice_get (connection_ports_at tree n)) (sym s.1) ∙ w.1;
         source_is = s.0;
         target_is = w.2;
         first = a ∙ ap Some s.1;
       })
 
-  pub into_first : (n : ℕ) (target source : PortPlace) (k : ℕ) (wire : Wire) → first_into_at tree n target ≡ Some k
-      → slice_get (wires_at tree n) k ≡ Some wire
+  pub into_first : (n : ℕ) (target source : NumberedPort) (k : ℕ) (wire : ConnectionPorts) → first_into_at tree n target ≡ Some k
+      → slice_get (connection_ports_at tree n) k ≡ Some wire
       → wire.source ≡ Some source → connection_into tree n target ≡ Some (k, source)
   into_first n target source k wire first is s =
-      ap (option_and_then (sourced (wires_at tree n))) first
+      ap (option_and_then (sourced (connection_ports_at tree n))) first
       ∙ (ap (option_and_then (with_source k)) is
-      ∙ ap (λ (o : Option PortPlace). option_map_or (λ (source : PortPlace). Some (k, source)) o None) s)
+      ∙ ap (λ (o : Option NumberedPort). option_map_or (λ (source : NumberedPort). Some (k, source)) o None) s)
 
-  target_of : (n k : ℕ) (wire : Wire) (target : PortPlace) → slice_get (wires_at tree n) k ≡ Some wire
+  target_of : (n k : ℕ) (wire : ConnectionPorts) (target : NumberedPort) → slice_get (connection_ports_at tree n) k ≡ Some wire
       → wire.target ≡ Some target
-      → target_in (wires_at tree n) k ≡ Some target
-  target_of n k wire target is e = ap (option_and_then (λ (w : Wire). w.target)) is ∙ e
+      → target_in (connection_ports_at tree n) k ≡ Some target
+  target_of n k wire target is e = ap (option_and_then (λ (w : ConnectionPorts). w.target)) is ∙ e
 
   -- a connection that is not behind another one into its port is the first into it
-  pub first_if : (n k : ℕ) (wire : Wire) (target : PortPlace) → slice_get (wires_at tree n) k ≡ Some wire
+  pub first_if : (n k : ℕ) (wire : ConnectionPorts) (target : NumberedPort) → slice_get (connection_ports_at tree n) k ≡ Some wire
       → wire.target ≡ Some target
-      → (IsDuplicate (wires_at tree n) k → ⊥) → first_into_at tree n target ≡ Some k
+      → (IsDuplicate (connection_ports_at tree n) k → ⊥) → first_into_at tree n target ≡ Some k
   first_if n k wire target is e only =
       let some =
-      some_first (λ (w : Wire). is_site target w.target) (wires_at tree n) 0 k wire is
+      some_first (λ (w : ConnectionPorts). is_port target w.target) (connection_ports_at tree n) 0 k wire is
       (of_site target wire.target e) in
       let w = first_wire n target some.0 some.1 in
       let least = some.2 in
       some.1 ∙ ap Some (by some.0 w.0 w.1 w.2 (omega arith) (cases_order some.0 k))
     where
-      by : (m : ℕ) (w : Wire) → slice_get (wires_at tree n) m ≡ Some w → w.target ≡ Some target → m ≤ k
+      by : (m : ℕ) (w : ConnectionPorts) → slice_get (connection_ports_at tree n) m ≡ Some w → w.target ≡ Some target → m ≤ k
           → (m ≡ k) ⊎ ((m < k) ⊎ (k < m)) → m ≡ k
       by m w at f least (inl same) = same
       by m w at f least (inr (inl less)) =
@@ -151,20 +151,20 @@ module _ (tree : PackageTree ℕ) where
       by m w at f least (inr (inr more)) = absurd (omega arith)
 
   -- one behind another is not
-  pub second_never : (n k : ℕ) (target : PortPlace) → IsDuplicate (wires_at tree n) k
+  pub second_never : (n k : ℕ) (target : NumberedPort) → IsDuplicate (connection_ports_at tree n) k
       → first_into_at tree n target ≡ Some k → ⊥
   second_never n k target second first =
       let w = first_wire n target k first in
-      let e = second_from (wires_at tree n) k target (target_of n k w.0 target w.1 w.2) second in
+      let e = second_from (connection_ports_at tree n) k target (target_of n k w.0 target w.1 w.2) second in
       never k (ap (λ o. is_before o k) (sym first) ∙ e)
     where
       never : (k : ℕ) → nat_lt k k ≡ true → ⊥
       never k e = grind (arith, nat_tests)
 
   module _ (root : ℕ) where
-    goes_if : (place : Place) (n : ℕ) (wire : Wire) (source target : PortPlace) (o : Option (Implementation ℕ))
+    goes_if : (place : ConnectionAt) (n : ℕ) (wire : ConnectionPorts) (source target : NumberedPort) (o : Option (Implementation ℕ))
         → implementation_at tree n ≡ o
-        → standing tree root place.path ≡ Some n → slice_get (wires_of tree o) place.connection ≡ Some wire
+        → number_at_path tree root place.path ≡ Some n → slice_get (wires_of tree o) place.connection ≡ Some wire
         → wire.source ≡ Some source
         → wire.target ≡ Some target
         → (g : Goes tree root place (port_at place.path source) (port_at place.path target)) × (g.number ≡ n)
@@ -172,7 +172,7 @@ module _ (tree : PackageTree ℕ) where
     goes_if place n wire source target None e stands is s t =
         absurd (Contains-nil wire (Contains-from_slice_get [] place.connection wire is))
     goes_if place n wire source target (Some x) e stands is s t =
-        let l = listed (wire_of tree x) x.connections place.connection wire is in (
+        let l = listed (ports_of_connection tree x) x.connections place.connection wire is in (
           record {
             number = n;
             component = x;
@@ -182,8 +182,8 @@ module _ (tree : PackageTree ℕ) where
             stands = stands;
             is_component = e;
             is_link = l.1;
-            is_source = ap (λ (w : Wire). w.source) l.2 ∙ s;
-            is_target = ap (λ (w : Wire). w.target) l.2 ∙ t;
+            is_source = ap (λ (w : ConnectionPorts). w.source) l.2 ∙ s;
+            is_target = ap (λ (w : ConnectionPorts). w.target) l.2 ∙ t;
             leaves = refl;
             enters = refl;
           },
@@ -192,16 +192,16 @@ module _ (tree : PackageTree ℕ) where
           refl,
         )
 
-    pub goes_at : (path : List ℕ) (n k : ℕ) (wire : Wire) (source target : PortPlace) → standing tree root path ≡ Some n
-        → slice_get (wires_at tree n) k ≡ Some wire → wire.source ≡ Some source → wire.target ≡ Some target
+    pub goes_at : (path : List ℕ) (n k : ℕ) (wire : ConnectionPorts) (source target : NumberedPort) → number_at_path tree root path ≡ Some n
+        → slice_get (connection_ports_at tree n) k ≡ Some wire → wire.source ≡ Some source → wire.target ≡ Some target
         → Goes tree root (record { path = path; connection = k }) (port_at path source) (port_at path target)
     goes_at path n k wire source target stands is s t =
         (goes_if (record { path = path; connection = k }) n wire source target (implementation_at tree n) refl
         stands is s t).0
 
     -- the first connection into a port goes there
-    pub goes_into : (path : List ℕ) (n : ℕ) (target : PortPlace) (k : ℕ) (source : PortPlace)
-        → standing tree root path ≡ Some n → Entered n target k source
+    pub goes_into : (path : List ℕ) (n : ℕ) (target : NumberedPort) (k : ℕ) (source : NumberedPort)
+        → number_at_path tree root path ≡ Some n → Entered n target k source
         → (g : Goes tree root (record { path = path; connection = k }) (port_at path source) (port_at path target))
         × (g.number ≡ n) × (g.source ≡ source) × (g.target ≡ target)
     goes_into path n target k source stands x =
@@ -210,18 +210,18 @@ module _ (tree : PackageTree ℕ) where
 
     module _ (one : OneEach tree root) where
       -- a connection into a port is the first one
-      pub first_of_goes : (place : Place) (from to : Port) → (g : Goes tree root place from to)
+      pub first_of_goes : (place : ConnectionAt) (from to : Port) → (g : Goes tree root place from to)
           → first_into_at tree g.number g.target ≡ Some place.connection
       first_of_goes place from to g =
           let is = wire_of_goes tree root place from to g in
-          let some = some_first (λ (w : Wire). is_site g.target w.target) (wires_at tree g.number) 0 place.connection
+          let some = some_first (λ (w : ConnectionPorts). is_port g.target w.target) (connection_ports_at tree g.number) 0 place.connection
           (record { source = Some g.source; target = Some g.target }) is (itself g.target) in
           let w = first_wire g.number g.target some.0 some.1 in
           let same : some.0 ≡ place.connection = one g.number some.0 place.connection g.target (place.path, g.stands)
           (target_of g.number some.0 w.0 g.target w.1 w.2) (target_of g.number place.connection _ g.target is refl) in
           some.1 ∙ ap Some same
 
-      pub into_of_goes : (place : Place) (from to : Port) → (g : Goes tree root place from to)
+      pub into_of_goes : (place : ConnectionAt) (from to : Port) → (g : Goes tree root place from to)
           → connection_into tree g.number g.target ≡ Some (place.connection, g.source)
       into_of_goes place from to g =
           into_first g.number g.target g.source place.connection
@@ -229,9 +229,9 @@ module _ (tree : PackageTree ℕ) where
           (first_of_goes place from to g) (wire_of_goes tree root place from to g) refl
 
     -- what is known of both ends of a connection
-    pub record Known (n : ℕ) (source target : PortPlace) : Type 0 where
-      pub wire : Wire
-      pub among : Contains (wires_at tree n) wire
+    pub record Known (n : ℕ) (source target : NumberedPort) : Type 0 where
+      pub wire : ConnectionPorts
+      pub among : Contains (connection_ports_at tree n) wire
       pub source_is : wire.source ≡ Some source
       pub target_is : wire.target ≡ Some target
       pub leaves : MayLeave tree n source
@@ -239,8 +239,8 @@ module _ (tree : PackageTree ℕ) where
       pub not_both : NotBothOwn source target
       pub no_thread : is_thread_at tree n ≡ false
 
-    module _ (sound : AreDeclared tree) where
-      known_wire : (n : ℕ) (wire : Wire) (source target : PortPlace) → Contains (wires_at tree n) wire
+    module _ (sound : ArePermitted tree) where
+      known_wire : (n : ℕ) (wire : ConnectionPorts) (source target : NumberedPort) → Contains (connection_ports_at tree n) wire
           → wire.source ≡ Some source → wire.target ≡ Some target
           → Known n source target
       known_wire n wire source target h es et =
@@ -262,20 +262,20 @@ module _ (tree : PackageTree ℕ) where
           by true e = absurd (Contains-nil wire (subst (λ ws. Contains ws wire) (sound.threads n e) h))
           by false e = e
 
-      pub known : (place : Place) (from to : Port) → (g : Goes tree root place from to)
+      pub known : (place : ConnectionAt) (from to : Port) → (g : Goes tree root place from to)
           → Known g.number g.source g.target
       known place from to g =
           known_wire g.number (record { source = Some g.source; target = Some g.target }) g.source g.target
           (among_goes tree root place from to g) refl refl
 
-      pub known_into : (n : ℕ) (target : PortPlace) (k : ℕ) (source : PortPlace) → Entered n target k source
+      pub known_into : (n : ℕ) (target : NumberedPort) (k : ℕ) (source : NumberedPort) → Entered n target k source
           → Known n source target
       known_into n target k source x =
-          known_wire n x.wire source target (Contains-from_slice_get (wires_at tree n) k x.wire x.is_wire)
+          known_wire n x.wire source target (Contains-from_slice_get (connection_ports_at tree n) k x.wire x.is_wire)
           x.source_is x.target_is
 
 -- into an own out port a connection goes from an out port of a subcomponent
-pub inner_of : (tree : PackageTree ℕ) → AreDeclared tree → (here out k : ℕ) (source : PortPlace)
+pub inner_of : (tree : PackageTree ℕ) → ArePermitted tree → (here out k : ℕ) (source : NumberedPort)
     → is_in_at tree here out ≡ false
     → connection_into tree here (Own out) ≡ Some (k, source) → IsFromInner tree here source
 inner_of tree sound here out k (Own q) goes_out e =

@@ -10,10 +10,10 @@ use Rattle.aadl_tree.specs.Declarations.{PackageTree}
 use Rattle.aadl_names.specs.ReferenceResolution.{implementation_in}
 use Rattle.aadl_uses.specs.proof.PackageContainment.{containment, targets_in}
 use Rattle.aadl_uses.proofs.PackageContainment.{below-same}
-use Rattle.aadl_uses.specs.Wiring.{wires_at, wires_of}
+use Rattle.aadl_uses.specs.Wiring.{connection_ports_at, wires_of}
 use Rattle.aadl_uses.specs.proof.ContainmentOrders.{IsOrder}
 use Rattle.aadl_chains.specs.declared.port_set.PortAt.{PortAt}
-use Rattle.aadl_chains.specs.proof.PortsJoinedInside.{port_at, AreReaching, HasAll, HasAllBelow, AreJoined, IsInside}
+use Rattle.aadl_chains.specs.proof.PortsJoinedInside.{declaration_port, AreReaching, HasAll, HasAllBelow, AreJoined, IsInside}
 use Rattle.aadl_chains.proofs.JoinedInsideByConnection.{through}
 
 pub one_of_two : (k i : ℕ) → k < i + 1 → (k < i) ⊎ (k ≡ i)
@@ -35,7 +35,7 @@ module _ (tree : PackageTree ℕ) (d : Direction) where
   pub no_front : (keys : List ℕ) → FrontInside keys 0 []
   no_front keys =
       record {
-        sound = λ n port h. absurd (Contains-nil (port_at n port) h);
+        sound = λ n port h. absurd (Contains-nil (declaration_port n port) h);
         complete = λ k n lt e. absurd (omega arith);
       }
 
@@ -53,7 +53,7 @@ module _ (tree : PackageTree ℕ) (d : Direction) where
           front.complete j.0 m j.1 j.2
 
       which : (k m : ℕ) → slice_get keys k ≡ Some m → (k < at) ⊎ (k ≡ at) → HasAll tree d new m
-      which k m e (inl h) = λ port thread r. joined.kept (port_at m port) (front.complete k m h e port thread r)
+      which k m e (inl h) = λ port thread r. joined.kept (declaration_port m port) (front.complete k m h e port thread r)
       which k m e (inr h) =
           subst (HasAll tree d new) (same_Some n m (sym is ∙ (ap (slice_get keys) (sym h) ∙ e))) (joined.complete ready)
 
@@ -69,7 +69,7 @@ module _ (tree : PackageTree ℕ) (d : Direction) where
       which k m e (inr h) = absurd (none-some m (sym is ∙ (ap (slice_get keys) (sym h) ∙ e)))
 
   -- beyond the last declaration nothing is connected
-  pub no_wires : (n : ℕ) → length tree.declarations ≤ n → wires_at tree n ≡ []
+  pub no_wires : (n : ℕ) → length tree.declarations ≤ n → connection_ports_at tree n ≡ []
   no_wires n past = ap (λ o. wires_of tree (implementation_in o)) (slice_get_past tree.declarations n past)
 
   none_past : (ports : List PortAt) (n : ℕ) → length tree.declarations ≤ n → HasAll tree d ports n

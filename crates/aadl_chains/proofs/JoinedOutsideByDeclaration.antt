@@ -9,16 +9,16 @@ use Rattle.list_lemmas.proofs.Elements.{Contains-nil, AllByRecursion-at}
 use Rattle.list_lemmas.proofs.ElementPositions.{slice_get-from_Contains}
 use Rattle.aadl_tree.specs.declared.declarations.Direction.{Direction}
 use Rattle.aadl_tree.specs.Declarations.{PackageTree}
-use Rattle.aadl_names.specs.declared.port_place.PortPlace.{PortPlace}
-use Rattle.aadl_names.specs.declared.port_place.PortPlace.TheVariants.{Own, Inner}
+use Rattle.aadl_names.specs.declared.port_place.NumberedPort.{NumberedPort}
+use Rattle.aadl_names.specs.declared.port_place.NumberedPort.TheVariants.{Own, Inner}
 use Rattle.aadl_uses.specs.Uses.{below, IsInUse}
 use Rattle.aadl_uses.specs.proof.PackageContainment.{containment, targets_in}
 use Rattle.aadl_uses.proofs.PackageContainment.{below-same}
-use Rattle.aadl_uses.specs.declared.connections_by_target.Wire.{Wire}
-use Rattle.aadl_uses.specs.Wiring.{wires_at}
+use Rattle.aadl_uses.specs.declared.connections_by_target.ConnectionPorts.{ConnectionPorts}
+use Rattle.aadl_uses.specs.Wiring.{connection_ports_at}
 use Rattle.aadl_uses.specs.proof.ContainmentOrders.{IsOrder}
 use Rattle.aadl_chains.specs.declared.port_set.PortAt.{PortAt}
-use Rattle.aadl_chains.specs.proof.PortsJoinedInside.{inner_end, outer_end, port_at}
+use Rattle.aadl_chains.specs.proof.PortsJoinedInside.{inner_end, outer_end, declaration_port}
 use Rattle.aadl_chains.specs.proof.PortsJoinedOutside.{LeadsOut, of_root, of_own, of_beside, LeadsFrom, AreLeading}
 use Rattle.aadl_chains.specs.proof.PortsJoinedOutside.{HasLeading, AreLed, AreLedIfUsed, IsOutside}
 use Rattle.aadl_chains.proofs.JoinedInsideByDeclaration.{no_wires, split}
@@ -39,22 +39,22 @@ module _ (tree : PackageTree ℕ) (root : ℕ) (d : Direction) (keys : List ℕ)
   -- the ports that the last `at` declarations of an order lead
   pub record BackLed (at : ℕ) (ports : List PortAt) : Type 0 where
     pub sound : AreLeading tree root d ports
-    pub complete : (k n : ℕ) (wire : Wire) (s port m : ℕ) (site : PortPlace) → length keys ≤ k + at
+    pub complete : (k n : ℕ) (wire : ConnectionPorts) (s port m : ℕ) (site : NumberedPort) → length keys ≤ k + at
         → slice_get keys k ≡ Some n → IsInUse tree root n
-        → Contains (wires_at tree n) wire → inner_end d wire ≡ Some (Inner s port)
+        → Contains (connection_ports_at tree n) wire → inner_end d wire ≡ Some (Inner s port)
         → outer_end d wire ≡ Some site → below tree n s ≡ Some m → LeadsFrom tree root d n site
-        → Contains ports (port_at m port)
+        → Contains ports (declaration_port m port)
 
   pub no_back : BackLed 0 []
   no_back = record {
-    sound = λ n port h. absurd (Contains-nil (port_at n port) h);
+    sound = λ n port h. absurd (Contains-nil (declaration_port n port) h);
     complete = λ k n wire s port m site past is used among e o b l. let lt = slice_get_within keys k n is in
         absurd (omega arith);
   }
 
   module _ (order : IsOrder (containment tree) keys) where
     -- where a declaration with connections stands in the order
-    placed_at : (k : ℕ) (wire : Wire) → Contains (wires_at tree k) wire → (j : ℕ) × (slice_get keys j ≡ Some k)
+    placed_at : (k : ℕ) (wire : ConnectionPorts) → Contains (connection_ports_at tree k) wire → (j : ℕ) × (slice_get keys j ≡ Some k)
     placed_at k wire among = which (split tree d k (length tree.declarations))
       where
         which : (k < length tree.declarations) ⊎ (length tree.declarations ≤ k) → (j : ℕ) × (slice_get keys j ≡ Some k)
@@ -64,18 +64,18 @@ module _ (tree : PackageTree ℕ) (root : ℕ) (d : Direction) (keys : List ℕ)
 
     module _ (at : ℕ) (ports : List PortAt) (back : BackLed at ports) where
       -- a declaration around one that stands at the place in the order stands behind it
-      led_around : (n k s port : ℕ) (wire : Wire) (site : PortPlace)
+      led_around : (n k s port : ℕ) (wire : ConnectionPorts) (site : NumberedPort)
           → ((j : ℕ) → slice_get keys j ≡ Some k → length keys ≤ j + at) → IsInUse tree root k
-          → Contains (wires_at tree k) wire → inner_end d wire ≡ Some (Inner s port)
+          → Contains (connection_ports_at tree k) wire → inner_end d wire ≡ Some (Inner s port)
           → outer_end d wire ≡ Some site → below tree k s ≡ Some n → LeadsFrom tree root d k site
-          → Contains ports (port_at n port)
+          → Contains ports (declaration_port n port)
       led_around n k s port wire site behind used among e o b l =
           let j = placed_at k wire among in
           back.complete j.0 k wire s port n site (behind j.0 j.1) j.1 used among e o b l
 
       found : {n port : ℕ} → ((j k s : ℕ) → slice_get keys j ≡ Some k → below tree k s ≡ Some n → length keys ≤ j + at)
           → LeadsOut tree root d n port
-          → (n ≡ root) ⊎ Contains ports (port_at n port)
+          → (n ≡ root) ⊎ Contains ports (declaration_port n port)
       found behind (of_root e) = inl e
       found behind (of_own k s q wire among inner outer b rest) = inr
           (led_around _ k s _ wire (Own q) (λ j is. behind j k s is b) (leads_in_use tree root d rest) among inner
@@ -104,18 +104,18 @@ module _ (tree : PackageTree ℕ) (root : ℕ) (d : Direction) (keys : List ℕ)
             which j m wire s port t site e used among i o b l (split tree d k j) past;
       }
         where
-          which : (j m : ℕ) (wire : Wire) (s port t : ℕ) (site : PortPlace) → slice_get keys j ≡ Some m
-              → IsInUse tree root m → Contains (wires_at tree m) wire
+          which : (j m : ℕ) (wire : ConnectionPorts) (s port t : ℕ) (site : NumberedPort) → slice_get keys j ≡ Some m
+              → IsInUse tree root m → Contains (connection_ports_at tree m) wire
               → inner_end d wire ≡ Some (Inner s port) → outer_end d wire ≡ Some site
               → below tree m s ≡ Some t → LeadsFrom tree root d m site → (k < j) ⊎ (j ≤ k) → length keys ≤ j + (at + 1)
-              → Contains new (port_at t port)
-          which j m wire s port t site e used among i o b l (inl h) past = led.kept (port_at t port)
+              → Contains new (declaration_port t port)
+          which j m wire s port t site e used among i o b l (inl h) past = led.kept (declaration_port t port)
               (back.complete j m wire s port t site (omega arith) e used among i o b l)
           which j m wire s port t site e used among i o b l (inr h) past =
               let same : j ≡ k = omega arith in
               let here : m ≡ n = same_Some m n (sym e ∙ (ap (slice_get keys) same ∙ is)) in
               led.complete (has_next k n place is) wire s port t site
-              (subst (λ x. Contains (wires_at tree x) wire) here among) i o
+              (subst (λ x. Contains (connection_ports_at tree x) wire) here among) i o
               (subst (λ x. below tree x s ≡ Some t) here b) (subst (λ x. LeadsFrom tree root d x site) here l)
 
       -- a declaration that is not in use leads nothing
@@ -128,11 +128,11 @@ module _ (tree : PackageTree ℕ) (root : ℕ) (d : Direction) (keys : List ℕ)
             which j m wire s port t site e used among i o b l (split tree d k j) past;
       }
         where
-          which : (j m : ℕ) (wire : Wire) (s port t : ℕ) (site : PortPlace) → slice_get keys j ≡ Some m
-              → IsInUse tree root m → Contains (wires_at tree m) wire
+          which : (j m : ℕ) (wire : ConnectionPorts) (s port t : ℕ) (site : NumberedPort) → slice_get keys j ≡ Some m
+              → IsInUse tree root m → Contains (connection_ports_at tree m) wire
               → inner_end d wire ≡ Some (Inner s port) → outer_end d wire ≡ Some site
               → below tree m s ≡ Some t → LeadsFrom tree root d m site → (k < j) ⊎ (j ≤ k) → length keys ≤ j + (at + 1)
-              → Contains ports (port_at t port)
+              → Contains ports (declaration_port t port)
           which j m wire s port t site e used among i o b l (inl h) past =
               back.complete j m wire s port t site (omega arith) e used among i o b l
           which j m wire s port t site e used among i o b l (inr h) past =

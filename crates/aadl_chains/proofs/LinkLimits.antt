@@ -15,27 +15,27 @@ use Rattle.aadl_uses.specs.proof.MarkedPathCounts.{count_of}
 use Rattle.aadl_uses.specs.proof.OrderedLists.{Among}
 use Rattle.aadl_tree.specs.declared.declarations.Direction.TheVariants as directions
 use Rattle.aadl_tree.specs.Declarations.{Connection, Implementation, PackageTree}
-use Rattle.aadl_names.specs.declared.port_place.PortPlace.TheVariants.{Own, Inner}
+use Rattle.aadl_names.specs.declared.port_place.NumberedPort.TheVariants.{Own, Inner}
 use Rattle.aadl_names.specs.declared.fault.PackageFault.{PackageFault}
 use Rattle.aadl_names.specs.declared.fault.PackageFault.TheVariants.{TwoSources}
 use Rattle.aadl_names.specs.ReferenceResolution.{implementation_at, subcomponents_of, connections_of, referred}
-use Rattle.aadl_uses.specs.Uses.{sub_at, below, standing}
+use Rattle.aadl_uses.specs.Uses.{sub_at, below, number_at_path}
 use Rattle.aadl_uses.specs.proof.PackageContainment.{targets_of}
 use Rattle.aadl_uses.specs.ThreadsBelow.{IsThreadAt, MoreThan}
-use Rattle.aadl_uses.specs.declared.connections_by_target.Wire.{Wire}
+use Rattle.aadl_uses.specs.declared.connections_by_target.ConnectionPorts.{ConnectionPorts}
 use Rattle.aadl_uses.specs.SecondConnections.{target_in}
-use Rattle.aadl_uses.specs.Wiring.{wire_of, wires_of, wires_at}
+use Rattle.aadl_uses.specs.Wiring.{ports_of_connection, wires_of, connection_ports_at}
 use Rattle.aadl_uses.proofs.DeclarationTables.{listed}
 use Rattle.aadl_uses.proofs.ThreadCounts.{thread_by}
 use Rattle.aadl_chains.specs.proof.PortsJoinedInside.{is_thread_at, Reaches, ReachesIn, of_thread, of_inner}
-use Rattle.aadl_chains.specs.Chains.{Port, Place, Leads, is_in}
+use Rattle.aadl_chains.specs.Chains.{Port, ConnectionAt, Leads, is_in}
 use Rattle.aadl_chains.specs.ChainFaults.{IsEndFault}
-use Rattle.aadl_chains.specs.proof.DeclaredEnds.{AreDeclared}
+use Rattle.aadl_chains.specs.proof.DeclaredEnds.{ArePermitted}
 use Rattle.aadl_chains.proofs.ConnectionsOnChains.{next_at, is_in-at}
 use Rattle.aadl_chains.specs.proof.LimitedCounts.{Distinct, IsNumber}
 use Rattle.aadl_chains.specs.proof.Walks.{OneEach}
-use Rattle.aadl_chains.specs.LinksFeedsAndTaps.{Ends, IsLink, OtherTarget}
-use Rattle.aadl_chains.specs.proof.EnteredThreadPorts.{EndsLink, Through, Deeper, AmongFirst, FromThread}
+use Rattle.aadl_chains.specs.LinksFeedsAndTaps.{CarriedChain, IsLink, OtherTarget}
+use Rattle.aadl_chains.specs.proof.EnteredThreadPorts.{EndsLink, IsEnteredThrough, IsLinkBelow, AmongFirst, FromThread}
 use Rattle.aadl_chains.proofs.LimitedCounts.{no_number, same_number, both_numbers, no_more}
 use Rattle.aadl_chains.proofs.FirstIncomingConnections.{goes_at}
 use Rattle.aadl_chains.proofs.ChainsOfWalks.{crossed}
@@ -46,7 +46,7 @@ use Rattle.aadl_chains.proofs.EnteredThreadPorts.{not_both, deeper_number, no_de
 -- ---- threads that give to an out port
 module _ (tree : PackageTree ℕ) (root : ℕ) where
   pub record Gives (path : List ℕ) (p : ℕ) : Type 0 where
-    pub chain : List Place
+    pub chain : List ConnectionAt
     pub from : Port
     pub thread : IsThreadAt tree root from.path
     pub out : is_in tree root from ≡ false
@@ -56,12 +56,12 @@ module _ (tree : PackageTree ℕ) (root : ℕ) where
   not_false true e = absurd (true≢false (sym e))
   not_false false e = refl
 
-  pub thread_at : (path : List ℕ) (n : ℕ) → standing tree root path ≡ Some n → is_thread_at tree n ≡ true
+  pub thread_at : (path : List ℕ) (n : ℕ) → number_at_path tree root path ≡ Some n → is_thread_at tree n ≡ true
       → IsThreadAt tree root path
   thread_at path n e t = let x = thread_by (implementation_at tree n) t in
       (x.0, (ap (option_and_then (implementation_at tree)) e ∙ x.1, x.2))
 
-  pub gives : {n p : ℕ} → Reaches tree directions.Out n p → (path : List ℕ) → standing tree root path ≡ Some n
+  pub gives : {n p : ℕ} → Reaches tree directions.Out n p → (path : List ℕ) → number_at_path tree root path ≡ Some n
       → Gives path p
   gives (of_thread thread way) path stands = record {
     chain = [];
@@ -81,22 +81,22 @@ module _ (tree : PackageTree ℕ) (root : ℕ) where
           record { path = s ∷ path; port = q },
           g.leads,
           goes_at tree root path _ among.0 wire (Inner s q) (Own _) stands
-              (slice_get-from_Contains (wires_at tree _) wire among) inner outer,
+              (slice_get-from_Contains (connection_ports_at tree _) wire among) inner outer,
         );
       }
 
   -- ---- links by their targets
-  pub link_of : (x : Port) → EndsLink tree root x → (ends : Ends) × IsLink tree root ends × (ends.to ≡ x)
+  pub link_of : (x : Port) → EndsLink tree root x → (ends : CarriedChain) × IsLink tree root ends × (ends.to ≡ x)
   link_of x e =
       let c = e.1.0 in
       let r = crossed tree root None x.path x.port c e.1.1 in
-      let stands : standing tree root c.path ≡ Some c.declaration = r.goes.stands ∙ ap Some r.number_is in
+      let stands : number_at_path tree root c.path ≡ Some c.declaration = r.goes.stands ∙ ap Some r.number_is in
       let g = gives e.1.2.2 (c.sub ∷ c.path) (next_at tree root c.path c.declaration c.sub e.1.2.0 stands e.1.2.1) in
-      let ends : Ends = record { from = g.from; to = x; declaration = c.declaration; connection = c.connection } in
+      let ends : CarriedChain = record { from = g.from; to = x; declaration = c.declaration; connection = c.connection } in
       (ends, link_from tree root ends c g.chain e.0 e.1.1 g.thread g.out g.leads refl refl, refl)
 
   links_of : (xs : List Port) → AllByRecursion (EndsLink tree root) xs
-      → (all : List Ends) × AllByRecursion (IsLink tree root) all × (map (λ (e : Ends). e.to) all ≡ xs)
+      → (all : List CarriedChain) × AllByRecursion (IsLink tree root) all × (map (λ (e : CarriedChain). e.to) all ≡ xs)
   links_of [] a = ([], tt, refl)
   links_of (x ∷ xs) a =
       let l = link_of x a.0 in
@@ -106,40 +106,40 @@ module _ (tree : PackageTree ℕ) (root : ℕ) where
   pairs_none : {X : Type 0} (R : X → X → Type 0) → AllPairs R []
   pairs_none R i j d less lt = absurd (omega arith)
 
-  others_of : (x : Ends) (all : List Ends) → AllByRecursion (λ y. x.to ≡ y → ⊥) (map (λ (e : Ends). e.to) all)
+  others_of : (x : CarriedChain) (all : List CarriedChain) → AllByRecursion (λ y. x.to ≡ y → ⊥) (map (λ (e : CarriedChain). e.to) all)
       → AllByRecursion (OtherTarget x) all
   others_of x [] a = tt
   others_of x (y ∷ all) a = (a.0, others_of x all a.1)
 
-  apart_of : (all : List Ends) → Distinct (map (λ (e : Ends). e.to) all) → AllPairs OtherTarget all
+  apart_of : (all : List CarriedChain) → Distinct (map (λ (e : CarriedChain). e.to) all) → AllPairs OtherTarget all
   apart_of [] d = pairs_none OtherTarget
   apart_of (x ∷ all) d =
       AllPairs-cons OtherTarget x all (All-from_recursion (OtherTarget x) all (others_of x all d.0)) (apart_of all d.1)
 
-  rest_apart : (x : Ends) (all : List Ends) → AllPairs OtherTarget (x ∷ all) → All (OtherTarget x) all
+  rest_apart : (x : CarriedChain) (all : List CarriedChain) → AllPairs OtherTarget (x ∷ all) → All (OtherTarget x) all
   rest_apart x all a k d lt = a 0 (suc k) d (omega arith) (omega arith)
 
-  tail_of : (x : Ends) (all : List Ends) → AllPairs OtherTarget (x ∷ all) → AllPairs OtherTarget all
+  tail_of : (x : CarriedChain) (all : List CarriedChain) → AllPairs OtherTarget (x ∷ all) → AllPairs OtherTarget all
   tail_of x all a i j d less lt = a (suc i) (suc j) d (omega arith) (omega arith)
 
-  distinct_of : (all : List Ends) → AllPairs OtherTarget all → Distinct (map (λ (e : Ends). e.to) all)
+  distinct_of : (all : List CarriedChain) → AllPairs OtherTarget all → Distinct (map (λ (e : CarriedChain). e.to) all)
   distinct_of [] a = tt
   distinct_of (x ∷ all) a =
       (apart_by all (recursion_from_All (OtherTarget x) all (rest_apart x all a)), distinct_of all (tail_of x all a))
     where
-      apart_by : (ys : List Ends) → AllByRecursion (OtherTarget x) ys
-          → AllByRecursion (λ y. x.to ≡ y → ⊥) (map (λ (e : Ends). e.to) ys)
+      apart_by : (ys : List CarriedChain) → AllByRecursion (OtherTarget x) ys
+          → AllByRecursion (λ y. x.to ≡ y → ⊥) (map (λ (e : CarriedChain). e.to) ys)
       apart_by [] b = tt
       apart_by (y ∷ ys) b = (b.0, apart_by ys b.1)
 
-  among_of : (xs : List Port) (all : List Ends) → ((e : Ends) → IsLink tree root e → Among xs e.to)
+  among_of : (xs : List Port) (all : List CarriedChain) → ((e : CarriedChain) → IsLink tree root e → Among xs e.to)
       → AllByRecursion (IsLink tree root) all
-      → AllByRecursion (Among xs) (map (λ (e : Ends). e.to) all)
+      → AllByRecursion (Among xs) (map (λ (e : CarriedChain). e.to) all)
   among_of xs [] there a = tt
   among_of xs (x ∷ all) there a = (there x a.0, among_of xs all there a.1)
 
-  module _ (sound : AreDeclared tree) (one : OneEach tree root) (no_thread : is_thread_at tree root ≡ false) where
-    pub ends_link : (ends : Ends) → IsLink tree root ends → EndsLink tree root ends.to
+  module _ (sound : ArePermitted tree) (one : OneEach tree root) (no_thread : is_thread_at tree root ≡ false) where
+    pub ends_link : (ends : CarriedChain) → IsLink tree root ends → EndsLink tree root ends.to
     ends_link ends l =
         let m = link_met tree root sound one no_thread ends l in
         (m.port, (m.crossing, m.climbs, (m.number, m.is_below, m.is_down.reaches)))
@@ -151,7 +151,7 @@ module _ (tree : PackageTree ℕ) (root : ℕ) where
         to : limit < number → MoreThan limit (IsLink tree root) OtherTarget
         to lt =
             let l = links_of counted.all counted.are.each in
-            let size : length l.0 ≡ length counted.all = sym (length-map l.0 (λ (e : Ends). e.to)) ∙ ap length l.2 in
+            let size : length l.0 ≡ length counted.all = sym (length-map l.0 (λ (e : CarriedChain). e.to)) ∙ ap length l.2 in
             let is = counted.number_is in
             record {
               some = l.0;
@@ -162,8 +162,8 @@ module _ (tree : PackageTree ℕ) (root : ℕ) where
 
         from : MoreThan limit (IsLink tree root) OtherTarget → limit < number
         from more =
-            let targets = map (λ (e : Ends). e.to) more.some in
-            let size = length-map more.some (λ (e : Ends). e.to) in
+            let targets = map (λ (e : CarriedChain). e.to) more.some in
+            let size = length-map more.some (λ (e : CarriedChain). e.to) in
             let less : length targets ≤ length counted.all =
             no_more targets counted.all (distinct_of more.some more.in_order)
             (among_of counted.all more.some (λ e l. counted.are.complete e.to (ends_link e l))
@@ -176,12 +176,12 @@ module _ (tree : PackageTree ℕ) (root : ℕ) where
 module _ (tree : PackageTree ℕ) (limit n : ℕ) where
   deeper_by : (i a b : ℕ) (counts : List ℕ) (o : Option ℕ) → below tree n i ≡ o
       → ((m : ℕ) → below tree n i ≡ Some m → IsNumber limit (EndsLink tree m) (get_or counts m 0))
-      → IsNumber limit (AmongFirst (Deeper tree n) i) a
-      → b ≡ min limit (a + count_of counts o) → IsNumber limit (AmongFirst (Deeper tree n) (i + 1)) b
+      → IsNumber limit (AmongFirst (IsLinkBelow tree n) i) a
+      → b ≡ min limit (a + count_of counts o) → IsNumber limit (AmongFirst (IsLinkBelow tree n) (i + 1)) b
   deeper_by i a b counts None e known so_far is =
-      more_first limit (Deeper tree n) (one_deeper tree n) i a 0 b so_far (no_deeper tree n limit i e) is
+      more_first limit (IsLinkBelow tree n) (one_deeper tree n) i a 0 b so_far (no_deeper tree n limit i e) is
   deeper_by i a b counts (Some m) e known so_far is =
-      more_first limit (Deeper tree n) (one_deeper tree n) i a (get_or counts m 0) b so_far
+      more_first limit (IsLinkBelow tree n) (one_deeper tree n) i a (get_or counts m 0) b so_far
       (deeper_number tree n limit i m (get_or counts m 0) e (known m e)) is
 
   joined : {X Y : Type 0} (f : X → Option Y) (o : Option X)
@@ -202,9 +202,9 @@ module _ (tree : PackageTree ℕ) (limit n : ℕ) where
   pub deeper_more : (i a b : ℕ) (counts : List ℕ) (targets : List (Option ℕ))
       → targets ≡ targets_of tree (implementation_at tree n) → i < length targets
       → ((s m : ℕ) → below tree n s ≡ Some m → IsNumber limit (EndsLink tree m) (get_or counts m 0))
-      → IsNumber limit (AmongFirst (Deeper tree n) i) a
+      → IsNumber limit (AmongFirst (IsLinkBelow tree n) i) a
       → b ≡ min limit (a + count_of counts (get_or targets i None))
-      → IsNumber limit (AmongFirst (Deeper tree n) (i + 1)) b
+      → IsNumber limit (AmongFirst (IsLinkBelow tree n) (i + 1)) b
   deeper_more i a b counts targets e lt known so_far is =
       deeper_by i a b counts (get_or targets i None) (target_at i targets e lt) (λ m h. known i m h) so_far is
 
@@ -217,14 +217,14 @@ module _ (tree : PackageTree ℕ) (limit n : ℕ) where
 
   -- all those below its subcomponents
   pub deeper_all : (i a : ℕ) → length (targets_of tree (implementation_at tree n)) ≤ i
-      → IsNumber limit (AmongFirst (Deeper tree n) i) a
-      → IsNumber limit (λ port. (s : ℕ) × Deeper tree n s port) a
+      → IsNumber limit (AmongFirst (IsLinkBelow tree n) i) a
+      → IsNumber limit (λ port. (s : ℕ) × IsLinkBelow tree n s port) a
   deeper_all i a past x =
-      same_number limit (AmongFirst (Deeper tree n) i) (λ port. (s : ℕ) × Deeper tree n s port) a (λ z h. (h.0, h.2))
+      same_number limit (AmongFirst (IsLinkBelow tree n) i) (λ port. (s : ℕ) × IsLinkBelow tree n s port) a (λ z h. (h.0, h.2))
       (λ z d. let lt = sub_within d.0 d.1.number d.1.is_below in (d.0, omega arith, d.1)) x
 
-  pub none_deeper : IsNumber limit (AmongFirst (Deeper tree n) 0) 0
-  none_deeper = none_first limit (Deeper tree n) (one_deeper tree n)
+  pub none_deeper : IsNumber limit (AmongFirst (IsLinkBelow tree n) 0) 0
+  none_deeper = none_first limit (IsLinkBelow tree n) (one_deeper tree n)
 
   -- ---- those that its connections carry
   one_carries : (k j : ℕ) (x : Port) → FromThread tree n k x → FromThread tree n j x → k ≡ j
@@ -238,29 +238,29 @@ module _ (tree : PackageTree ℕ) (limit n : ℕ) where
       → IsNumber limit (AmongFirst (FromThread tree n) (i + 1)) b
   carried_more i a c b x y is = more_first limit (FromThread tree n) one_carries i a c b x y is
 
-  pub carried_all : (i a : ℕ) → length (wires_at tree n) ≤ i → IsNumber limit (AmongFirst (FromThread tree n) i) a
+  pub carried_all : (i a : ℕ) → length (connection_ports_at tree n) ≤ i → IsNumber limit (AmongFirst (FromThread tree n) i) a
       → IsNumber limit (λ port. (k : ℕ) × FromThread tree n k port) a
   carried_all i a past x =
       same_number limit (AmongFirst (FromThread tree n) i) (λ port. (k : ℕ) × FromThread tree n k port) a
       (λ z h. (h.0, h.2))
-      (λ z f. let lt = slice_get_within (wires_at tree n) f.0 f.1.0.0 f.1.0.3 in (f.0, omega arith, f.1)) x
+      (λ z f. let lt = slice_get_within (connection_ports_at tree n) f.0 f.1.0.0 f.1.0.3 in (f.0, omega arith, f.1)) x
 
   -- one connection
-  pub carried-number : (k c t q : ℕ) (wire : Wire) → slice_get (wires_at tree n) k ≡ Some wire
+  pub carried-number : (k c t q : ℕ) (wire : ConnectionPorts) → slice_get (connection_ports_at tree n) k ≡ Some wire
       → wire.source ≡ Some (Inner t q)
-      → ReachesIn tree directions.Out n t q → IsNumber limit (Through tree n k) c
+      → ReachesIn tree directions.Out n t q → IsNumber limit (IsEnteredThrough tree n k) c
       → IsNumber limit (FromThread tree n k) c
   carried-number k c t q wire is source reaches number =
-      same_number limit (Through tree n k) (FromThread tree n k) c (λ x h. ((wire, t, q, is, source, reaches), h))
+      same_number limit (IsEnteredThrough tree n k) (FromThread tree n k) c (λ x h. ((wire, t, q, is, source, reaches), h))
       (λ x f. f.1) number
 
-  pub carried-none : (k : ℕ) (wire : Wire) → slice_get (wires_at tree n) k ≡ Some wire
+  pub carried-none : (k : ℕ) (wire : ConnectionPorts) → slice_get (connection_ports_at tree n) k ≡ Some wire
       → ((t q : ℕ) → wire.source ≡ Some (Inner t q) → ReachesIn tree directions.Out n t q → ⊥)
       → IsNumber limit (FromThread tree n k) 0
   carried-none k wire is never = no_number limit (FromThread tree n k)
-      (λ x f. never f.0.1 f.0.2 (ap (λ (w : Wire). w.source) (same_Some wire f.0.0 (sym is ∙ f.0.3)) ∙ f.0.4) f.0.5)
+      (λ x f. never f.0.1 f.0.2 (ap (λ (w : ConnectionPorts). w.source) (same_Some wire f.0.0 (sym is ∙ f.0.3)) ∙ f.0.4) f.0.5)
 
-  pub carried-not : (k s p : ℕ) (wire : Wire) → slice_get (wires_at tree n) k ≡ Some wire
+  pub carried-not : (k s p : ℕ) (wire : ConnectionPorts) → slice_get (connection_ports_at tree n) k ≡ Some wire
       → wire.source ≡ Some (Inner s p)
       → (ReachesIn tree directions.Out n s p → ⊥) → IsNumber limit (FromThread tree n k) 0
   carried-not k s p wire is source never = carried-none k wire is
@@ -272,11 +272,11 @@ module _ (tree : PackageTree ℕ) (limit n : ℕ) where
       same_inner t q s p e = (cc e, cc e)
 
   -- both
-  pub links_both : (a b r : ℕ) → IsNumber limit (λ port. (s : ℕ) × Deeper tree n s port) a
+  pub links_both : (a b r : ℕ) → IsNumber limit (λ port. (s : ℕ) × IsLinkBelow tree n s port) a
       → IsNumber limit (λ port. (k : ℕ) × FromThread tree n k port) b
       → r ≡ min limit (a + b) → IsNumber limit (EndsLink tree n) r
   links_both a b r x y is =
-      both_numbers limit (λ port. (s : ℕ) × Deeper tree n s port) (λ port. (k : ℕ) × FromThread tree n k port)
+      both_numbers limit (λ port. (s : ℕ) × IsLinkBelow tree n s port) (λ port. (k : ℕ) × FromThread tree n k port)
       (EndsLink tree n) a b r
       (λ z d f. not_both tree n d.0 f.0 z d.1 f.1.1) (λ z d. deeper_ends tree n d.0 z d.1)
       (λ z f. thread_ends tree n f.0 z f.1)
@@ -289,14 +289,14 @@ one_each tree root none n i j target used a b = by (cases_order i j)
   where
     listed_at : (o : Option (Implementation ℕ)) (k : ℕ) → target_in (wires_of tree o) k ≡ Some target
         → (x : Connection ℕ) × (slice_get (connections_of o) k ≡ Some x)
-    listed_at None k e = option_and_then_some (λ (w : Wire). w.target) (slice_get (wires_of tree None) k) target e
+    listed_at None k e = option_and_then_some (λ (w : ConnectionPorts). w.target) (slice_get (wires_of tree None) k) target e
         (λ w h f. absurd (Contains-nil w (Contains-from_slice_get [] k w h)))
     listed_at (Some x) k e =
-        option_and_then_some (λ (w : Wire). w.target) (slice_get (wires_of tree (Some x)) k) target e
-        (λ w h f. let l = listed (wire_of tree x) x.connections k w h in (l.0, l.1))
+        option_and_then_some (λ (w : ConnectionPorts). w.target) (slice_get (wires_of tree (Some x)) k) target e
+        (λ w h f. let l = listed (ports_of_connection tree x) x.connections k w h in (l.0, l.1))
 
-    second : (k m : ℕ) → k < m → target_in (wires_at tree n) k ≡ Some target
-        → target_in (wires_at tree n) m ≡ Some target → ⊥
+    second : (k m : ℕ) → k < m → target_in (connection_ports_at tree n) k ≡ Some target
+        → target_in (connection_ports_at tree n) m ≡ Some target → ⊥
     second k m less e f =
         let x = listed_at (implementation_at tree n) m f in
         none (TwoSources x.0.name.spelling x.0.name.at) (inr (

@@ -8,18 +8,18 @@ use Rattle.std.proofs.lemmas.Bool.{eqb-true, eq-eqb, cases_lt}
 use Rattle.std.proofs.lemmas.List.{reverse-append}
 use Rattle.std.proofs.lemmas.Option.{none-some, slice_get_past}
 use Rattle.aadl_tree.specs.Declarations.{Subcomponent, PackageTree}
-use Rattle.aadl_names.specs.declared.port_place.PortPlace.{PortPlace}
-use Rattle.aadl_names.specs.declared.port_place.PortPlace.TheVariants.{Own, Inner}
+use Rattle.aadl_names.specs.declared.port_place.NumberedPort.{NumberedPort}
+use Rattle.aadl_names.specs.declared.port_place.NumberedPort.TheVariants.{Own, Inner}
 use Rattle.aadl_names.specs.ReferenceResolution.{first_number, implementation_in, subcomponents_of, referred}
-use Rattle.aadl_uses.specs.Uses.{below, standing}
+use Rattle.aadl_uses.specs.Uses.{below, number_at_path}
 use Rattle.aadl_uses.specs.proof.PackageContainment.{containment}
 use Rattle.aadl_uses.specs.proof.IncomingConnections.{connection_into}
 use Rattle.aadl_uses.specs.proof.ContainmentOrders.{IsOrder}
 use Rattle.aadl_chains.specs.proof.PortsJoinedInside.{is_in_at}
-use Rattle.aadl_chains.specs.proof.DeclaredEnds.{MayLeave, AreDeclared}
+use Rattle.aadl_chains.specs.proof.DeclaredEnds.{MayLeave, ArePermitted}
 use Rattle.aadl_chains.proofs.ConnectionsOnChains.{next_at}
 use Rattle.aadl_chains.specs.declared.chain_tracing.ConnectionInto.{ConnectionInto}
-use Rattle.aadl_chains.specs.proof.Walks.{Crossing, Climb, nowhere, crosses, climb, climb_by, climb_along, climb_into}
+use Rattle.aadl_chains.specs.proof.Walks.{Crossing, WalkEnd, nowhere, crosses, walk_back, walk_back_by, walk_back_along, walk_back_into}
 use Rattle.aadl_chains.specs.proof.OutermostFirstWalks.{entry}
 use Rattle.aadl_chains.proofs.FirstIncomingConnections.{known, some_first, first_at}
 use Rattle.aadl_chains.proofs.ChainsOfWalks.{crossed}
@@ -38,49 +38,49 @@ reversed_more path d lt = ap reverse (taken_more path d lt) ∙ reverse-append (
 
 module _ (tree : PackageTree ℕ) (root : ℕ) where
   -- where the walk is behind a connection
-  climb_on : List ℕ → Option ConnectionInto → Climb
+  climb_on : List ℕ → Option ConnectionInto → WalkEnd
   climb_on path None = nowhere
-  climb_on path (Some e) = climb_by (λ k q. climb tree root (Some k) path q) path e.declaration e.connection e.source
+  climb_on path (Some e) = walk_back_by (λ k q. walk_back tree root (Some k) path q) path e.declaration e.connection e.source
 
-  on_into : (path : List ℕ) (n : ℕ) (o : Option (ℕ × PortPlace))
-      → climb_along (λ k q. climb tree root (Some k) path q) path n o
+  on_into : (path : List ℕ) (n : ℕ) (o : Option (ℕ × NumberedPort))
+      → walk_back_along (λ k q. walk_back tree root (Some k) path q) path n o
       ≡ climb_on path (option_map (λ from. record { declaration = n; connection = from.0; source = from.1 }) o)
   unfolding climb_on
   on_into path n None = refl
   on_into path n (Some from) = refl
 
   on_entry : (path : List ℕ) (s p : ℕ) (o : Option ℕ)
-      → climb_into tree (λ k q. climb tree root (Some k) path q) path s p o ≡ climb_on path (entry tree o s p)
+      → walk_back_into tree (λ k q. walk_back tree root (Some k) path q) path s p o ≡ climb_on path (entry tree o s p)
   unfolding climb_on
   on_entry path s p None = refl
   on_entry path s p (Some n) = on_into path n (connection_into tree n (Inner s p))
 
   climbs_on : (last : Option ℕ) (path : List ℕ) (d p : ℕ) → d < length path
-      → climb tree root last (reverse (take (d + 1) path)) p
-      ≡ climb_on (reverse (take d path)) (entry tree (standing tree root (reverse (take d path))) (get_or path d 0) p)
+      → walk_back tree root last (reverse (take (d + 1) path)) p
+      ≡ climb_on (reverse (take d path)) (entry tree (number_at_path tree root (reverse (take d path))) (get_or path d 0) p)
   climbs_on last path d p lt =
-      ap (λ l. climb tree root last l p) (reversed_more path d lt)
-      ∙ on_entry (reverse (take d path)) (get_or path d 0) p (standing tree root (reverse (take d path)))
+      ap (λ l. walk_back tree root last l p) (reversed_more path d lt)
+      ∙ on_entry (reverse (take d path)) (get_or path d 0) p (number_at_path tree root (reverse (take d path)))
 
   module _ (last : Option ℕ) (path : List ℕ) (d p : ℕ) (lt : d < length path) where
-    pub climbs_nowhere : entry tree (standing tree root (reverse (take d path))) (get_or path d 0) p ≡ None
-        → climb tree root last (reverse (take (d + 1) path)) p ≡ nowhere
+    pub climbs_nowhere : entry tree (number_at_path tree root (reverse (take d path))) (get_or path d 0) p ≡ None
+        → walk_back tree root last (reverse (take (d + 1) path)) p ≡ nowhere
     unfolding climb_on
     climbs_nowhere e = climbs_on last path d p lt ∙ ap (climb_on (reverse (take d path))) e
 
     pub climbs_own : (x : ConnectionInto) (q : ℕ)
-        → entry tree (standing tree root (reverse (take d path))) (get_or path d 0) p ≡ Some x → x.source ≡ Own q
-        → climb tree root last (reverse (take (d + 1) path)) p
-        ≡ climb tree root (Some x.connection) (reverse (take d path)) q
+        → entry tree (number_at_path tree root (reverse (take d path))) (get_or path d 0) p ≡ Some x → x.source ≡ Own q
+        → walk_back tree root last (reverse (take (d + 1) path)) p
+        ≡ walk_back tree root (Some x.connection) (reverse (take d path)) q
     unfolding climb_on
     climbs_own x q e own = climbs_on last path d p lt ∙ (ap (climb_on (reverse (take d path))) e
-        ∙ ap (climb_by (λ k q. climb tree root (Some k) (reverse (take d path)) q) (reverse (take d path)) x.declaration
+        ∙ ap (walk_back_by (λ k q. walk_back tree root (Some k) (reverse (take d path)) q) (reverse (take d path)) x.declaration
         x.connection) own)
 
     pub climbs_inner : (x : ConnectionInto) (t q : ℕ)
-        → entry tree (standing tree root (reverse (take d path))) (get_or path d 0) p ≡ Some x
+        → entry tree (number_at_path tree root (reverse (take d path))) (get_or path d 0) p ≡ Some x
         → x.source ≡ Inner t q
-        → climb tree root last (reverse (take (d + 1) path)) p
+        → walk_back tree root last (reverse (take (d + 1) path)) p
         ≡ crosses (record {
           path = reverse (take d path);
           declaration = x.declaration;
@@ -90,7 +90,7 @@ module _ (tree : PackageTree ℕ) (root : ℕ) where
         })
     unfolding climb_on
     climbs_inner x t q e inner = climbs_on last path d p lt ∙ (ap (climb_on (reverse (take d path))) e
-        ∙ ap (climb_by (λ k q. climb tree root (Some k) (reverse (take d path)) q) (reverse (take d path)) x.declaration
+        ∙ ap (walk_back_by (λ k q. walk_back tree root (Some k) (reverse (take d path)) q) (reverse (take d path)) x.declaration
         x.connection) inner)
 
   -- what stands where a crossing comes from
@@ -98,10 +98,10 @@ module _ (tree : PackageTree ℕ) (root : ℕ) where
     pub number : ℕ
     pub names : below tree c.declaration c.sub ≡ Some number
     pub goes_out : is_in_at tree number c.port ≡ false
-    pub stands : standing tree root (c.sub ∷ c.path) ≡ Some number
+    pub stands : number_at_path tree root (c.sub ∷ c.path) ≡ Some number
 
-  pub crossing_from : AreDeclared tree → (path : List ℕ) (p : ℕ) (c : Crossing)
-      → climb tree root None path p ≡ crosses c → From c
+  pub crossing_from : ArePermitted tree → (path : List ℕ) (p : ℕ) (c : Crossing)
+      → walk_back tree root None path p ≡ crosses c → From c
   crossing_from sound path p c is =
       let x = crossed tree root None path p c is in
       let g = x.goes in
@@ -117,7 +117,7 @@ module _ (tree : PackageTree ℕ) (root : ℕ) where
         stands = next_at tree root c.path c.declaration c.sub m.0 (g.stands ∙ ap Some x.number_is) names;
       }
     where
-      leaves_by : (n : ℕ) (source : PortPlace) → MayLeave tree n source → source ≡ Inner c.sub c.port
+      leaves_by : (n : ℕ) (source : NumberedPort) → MayLeave tree n source → source ≡ Inner c.sub c.port
           → (m : ℕ) × (below tree n c.sub ≡ Some m) × (is_in_at tree m c.port ≡ false)
       leaves_by n source may e = subst (MayLeave tree n) e may
 module _ (tree : PackageTree ℕ) (keys : List ℕ) (order : IsOrder (containment tree) keys) where

@@ -17,31 +17,31 @@ use Rattle.aadl_tree.specs.Names.{Identifier}
 use Rattle.aadl_tree.specs.Declarations.{Feature, Subcomponent, ConnectionEnd, Connection, Implementation, Declaration}
 use Rattle.aadl_tree.specs.Declarations.{type, implementation, PackageTree}
 use Rattle.aadl_names.specs.declared.recognised_properties.PropertyHolder.TheVariants as holders
-use Rattle.aadl_names.specs.declared.port_place.PortPlace.{PortPlace}
-use Rattle.aadl_names.specs.declared.port_place.PortPlace.TheVariants.{Own, Inner}
+use Rattle.aadl_names.specs.declared.port_place.NumberedPort.{NumberedPort}
+use Rattle.aadl_names.specs.declared.port_place.NumberedPort.TheVariants.{Own, Inner}
 use Rattle.aadl_names.specs.DuplicateNames.{wrong_if}
 use Rattle.aadl_names.specs.RecognisedProperties.{list_faults}
 use Rattle.aadl_names.specs.BehaviourAnnexes.{behaviours}
 use Rattle.aadl_names.specs.ReferenceResolution.{implementation_in, implementation_at, is_thread, subcomponents_of}
-use Rattle.aadl_names.specs.ReferenceResolution.{target_of, referred, port_named, sub_named, inner_ports, inner_site}
-use Rattle.aadl_names.specs.ReferenceResolution.{site_by, site, ports_at, ports_of, direction_of, with_direction}
-use Rattle.aadl_names.specs.PackageFaults.{is_own, goes_in, may_leave, may_enter, end_faults, sited, connection_faults}
+use Rattle.aadl_names.specs.ReferenceResolution.{target_of, referred, port_named, sub_named, inner_ports, inner_end_port}
+use Rattle.aadl_names.specs.ReferenceResolution.{end_port_by, end_port, ports_at, ports_of, direction_of, with_direction}
+use Rattle.aadl_names.specs.PackageFaults.{is_own, goes_in, may_leave, may_enter, end_faults, directed_end_port, connection_faults}
 use Rattle.aadl_names.specs.PackageFaults.{subcomponent_faults, names_faults, may_contain, variables_faults}
 use Rattle.aadl_names.specs.PackageFaults.{heading_faults, outer_faults, annex_faults, declaration_faults, wrong_names}
 use Rattle.aadl_names.specs.PackageFaults.{package_faults}
 use Rattle.aadl_names.proofs.FirstFaultSoFar.{wrong_none}
 use Rattle.aadl_uses.specs.Uses.{below}
 use Rattle.aadl_uses.specs.proof.ThreadCounts.{is_thread_in}
-use Rattle.aadl_uses.specs.declared.connections_by_target.Wire.{Wire}
-use Rattle.aadl_uses.specs.Wiring.{wire_of, wires_of}
+use Rattle.aadl_uses.specs.declared.connections_by_target.ConnectionPorts.{ConnectionPorts}
+use Rattle.aadl_uses.specs.Wiring.{ports_of_connection, wires_of}
 use Rattle.aadl_uses.proofs.DeclarationTables.{listed}
 use Rattle.aadl_chains.specs.proof.PortsJoinedInside.{is_in_at}
-use Rattle.aadl_chains.specs.proof.DeclaredEnds.{MayLeave, MayEnter, NotBothOwn, IsDeclared, AreDeclared}
+use Rattle.aadl_chains.specs.proof.DeclaredEnds.{MayLeave, MayEnter, NotBothOwn, IsPermitted, ArePermitted}
 
 -- ---- ends
-port_there : (may : PortPlace × Option Direction → Bool) (end : ConnectionEnd ℕ) (at : ℕ)
-    (o : Option (PortPlace × Option Direction)) → end_faults may end at o ≡ []
-    → (port : PortPlace × Option Direction) × (o ≡ Some port) × (may port ≡ true)
+port_there : (may : NumberedPort × Option Direction → Bool) (end : ConnectionEnd ℕ) (at : ℕ)
+    (o : Option (NumberedPort × Option Direction)) → end_faults may end at o ≡ []
+    → (port : NumberedPort × Option Direction) × (o ≡ Some port) × (may port ≡ true)
 port_there may end at None e = absurd (cc e)
 port_there may end at (Some port) e = (port, refl, not-false (may port) (wrong_none (not (may port)) at e))
 
@@ -70,7 +70,7 @@ module _ (tree : PackageTree ℕ) (x : Implementation ℕ) where
   same_inner : (t s q p : ℕ) → Inner t q ≡ Inner s p → (t ≡ s) × (q ≡ p)
   same_inner t s q p e = (cc e, cc e)
 
-  inner_site_by : (t s p : ℕ) (name : List ℕ) → inner_site tree x name t ≡ Some (Inner s p) → InnerPort s p
+  inner_site_by : (t s p : ℕ) (name : List ℕ) → inner_end_port tree x name t ≡ Some (Inner s p) → InnerPort s p
   inner_site_by t s p name e =
       let m = option_map-parts (Inner t) (port_named (inner_ports tree x t) name) (Inner s p) e in
       let same = same_inner t s m.0 p m.2 in
@@ -79,15 +79,15 @@ module _ (tree : PackageTree ℕ) (x : Implementation ℕ) where
       inner_by s p name (option_and_then (target_of tree) (slice_get x.subcomponents s)) refl is
 
   by_second : (s p : ℕ) (first : Identifier ℕ) (second : Option (Identifier ℕ))
-      → site_by tree x first second ≡ Some (Inner s p) → InnerPort s p
+      → end_port_by tree x first second ≡ Some (Inner s p) → InnerPort s p
   by_second s p first None e = let m =
       option_map-parts Own (port_named (ports_of tree x) first.spelling) (Inner s p) e in let c = m.2 in absurd (cc c)
   by_second s p first (Some port) e =
-      option_and_then_some (inner_site tree x port.spelling) (sub_named x.subcomponents first.spelling) (Inner s p) e
+      option_and_then_some (inner_end_port tree x port.spelling) (sub_named x.subcomponents first.spelling) (Inner s p) e
       (λ t h f. inner_site_by t s p port.spelling f)
 
-  inner_port : (s p : ℕ) (end : ConnectionEnd ℕ) → site tree x end ≡ Some (Inner s p) → InnerPort s p
-  unfolding site
+  inner_port : (s p : ℕ) (end : ConnectionEnd ℕ) → end_port tree x end ≡ Some (Inner s p) → InnerPort s p
+  unfolding end_port
   inner_port s p end e = by_second s p end.first end.second e
 
   module _ (n : ℕ) (is : implementation_at tree n ≡ Some x) where
@@ -108,13 +108,13 @@ module _ (tree : PackageTree ℕ) (x : Implementation ℕ) where
         (ap (option_and_then (target_of tree)) i.is_sub
         ∙ (ap (option_and_then (implementation_at tree)) i.names ∙ i.is_named)))
 
-    leaves : (end : ConnectionEnd ℕ) (s : PortPlace) → site tree x end ≡ Some s
+    leaves : (end : ConnectionEnd ℕ) (s : NumberedPort) → end_port tree x end ≡ Some s
         → may_leave (with_direction tree x s) ≡ true → MayLeave tree n s
     leaves end (Own p) e m = own_way p ∙ m
     leaves end (Inner s p) e m = let i = inner_port s p end e in
         (i.target, below_is s p i, inner_way s p i ∙ not-true (goes_in (direction_of tree x (Inner s p))) m)
 
-    enters : (end : ConnectionEnd ℕ) (s : PortPlace) → site tree x end ≡ Some s
+    enters : (end : ConnectionEnd ℕ) (s : NumberedPort) → end_port tree x end ≡ Some s
         → may_enter (with_direction tree x s) ≡ true → MayEnter tree n s
     enters end (Own p) e m = own_way p ∙ not-true (goes_in (direction_of tree x (Own p))) m
     enters end (Inner s p) e m = let i = inner_port s p end e in (
@@ -124,7 +124,7 @@ module _ (tree : PackageTree ℕ) (x : Implementation ℕ) where
           (not-true (not (goes_in (direction_of tree x (Inner s p)))) m),
     )
 
-    not_both : (s t : PortPlace)
+    not_both : (s t : NumberedPort)
         → (is_own (Some (with_direction tree x s)) && is_own (Some (with_direction tree x t))) ≡ false → NotBothOwn s t
     not_both (Own p) (Own q) e = true≢false e
     not_both (Own p) (Inner t q) e = tt
@@ -133,10 +133,10 @@ module _ (tree : PackageTree ℕ) (x : Implementation ℕ) where
 
     -- a connection with which nothing is wrong
     pub record Declares (c : Connection ℕ) : Type 0 where
-      pub source : PortPlace
-      pub target : PortPlace
-      pub source_is : site tree x c.source ≡ Some source
-      pub target_is : site tree x c.target ≡ Some target
+      pub source : NumberedPort
+      pub target : NumberedPort
+      pub source_is : end_port tree x c.source ≡ Some source
+      pub target_is : end_port tree x c.target ≡ Some target
       pub leaves : MayLeave tree n source
       pub enters : MayEnter tree n target
       pub not_both : NotBothOwn source target
@@ -144,19 +144,19 @@ module _ (tree : PackageTree ℕ) (x : Implementation ℕ) where
     declares : (c : Connection ℕ) → connection_faults tree x c ≡ [] → Declares c
     declares c e =
         let at = c.name.at in
-        let a = end_faults may_leave c.source at (sited tree x c.source) in
-        let b = end_faults may_enter c.target at (sited tree x c.target) in
-        let o = wrong_if (is_own (sited tree x c.source) && is_own (sited tree x c.target)) at in
+        let a = end_faults may_leave c.source at (directed_end_port tree x c.source) in
+        let b = end_faults may_enter c.target at (directed_end_port tree x c.target) in
+        let o = wrong_if (is_own (directed_end_port tree x c.source) && is_own (directed_end_port tree x c.target)) at in
         let l = list_faults holders.Connection c.properties in
         let front = append_is_nil_left (a ++ b ++ o) l e in
         let third = append_is_nil_right (a ++ b) o front in
         let both = append_is_nil_left (a ++ b) o front in
         let first = append_is_nil_left a b both in
         let second = append_is_nil_right a b both in
-        let p = port_there may_leave c.source at (sited tree x c.source) first in
-        let q = port_there may_enter c.target at (sited tree x c.target) second in
-        let s = option_map-parts (with_direction tree x) (site tree x c.source) p.0 p.1 in
-        let t = option_map-parts (with_direction tree x) (site tree x c.target) q.0 q.1 in
+        let p = port_there may_leave c.source at (directed_end_port tree x c.source) first in
+        let q = port_there may_enter c.target at (directed_end_port tree x c.target) second in
+        let s = option_map-parts (with_direction tree x) (end_port tree x c.source) p.0 p.1 in
+        let t = option_map-parts (with_direction tree x) (end_port tree x c.target) q.0 q.1 in
         record {
           source = s.0;
           target = t.0;
@@ -166,17 +166,17 @@ module _ (tree : PackageTree ℕ) (x : Implementation ℕ) where
           enters = enters c.target t.0 t.1 (ap may_enter t.2 ∙ q.2);
           not_both = not_both s.0 t.0 (
               ap (λ u. is_own u && is_own (Some (with_direction tree x t.0))) (ap Some s.2 ∙ sym p.1)
-              ∙ (ap (λ u. is_own (sited tree x c.source) && is_own u) (ap Some t.2 ∙ sym q.1)
-              ∙ wrong_none (is_own (sited tree x c.source) && is_own (sited tree x c.target)) at third));
+              ∙ (ap (λ u. is_own (directed_end_port tree x c.source) && is_own u) (ap Some t.2 ∙ sym q.1)
+              ∙ wrong_none (is_own (directed_end_port tree x c.source) && is_own (directed_end_port tree x c.target)) at third));
         }
 
     -- the wire of a connection
-    wired : (c : Connection ℕ) (wire : Wire) → Declares c → wire_of tree x c ≡ wire → IsDeclared tree n wire
+    wired : (c : Connection ℕ) (wire : ConnectionPorts) → Declares c → ports_of_connection tree x c ≡ wire → IsPermitted tree n wire
     wired c wire d e = record {
       source = d.source;
       target = d.target;
-      source_is = ap (λ (w : Wire). w.source) (sym e) ∙ d.source_is;
-      target_is = ap (λ (w : Wire). w.target) (sym e) ∙ d.target_is;
+      source_is = ap (λ (w : ConnectionPorts). w.source) (sym e) ∙ d.source_is;
+      target_is = ap (λ (w : ConnectionPorts). w.target) (sym e) ∙ d.target_is;
       leaves = d.leaves;
       enters = d.enters;
       not_both = d.not_both;
@@ -205,7 +205,7 @@ module _ (tree : PackageTree ℕ) (x : Implementation ℕ) where
         → flat_map (subcomponent_faults tree x.category) x.subcomponents ≡ [] → Declares c → ⊥
     no_connection c thread clean d = by d.source d.target d.source_is d.target_is d.not_both
       where
-        by : (s t : PortPlace) → site tree x c.source ≡ Some s → site tree x c.target ≡ Some t → NotBothOwn s t → ⊥
+        by : (s t : NumberedPort) → end_port tree x c.source ≡ Some s → end_port tree x c.target ≡ Some t → NotBothOwn s t → ⊥
         by (Own p) (Own q) e f b = b
         by (Own p) (Inner t q) e f b = no_subs t q thread clean (inner_port t q c.target f)
         by (Inner s p) t e f b = no_subs s p thread clean (inner_port s p c.source e)
@@ -255,13 +255,13 @@ module _ (tree : PackageTree ℕ) (root : ℕ) (clean : package_faults tree root
   declares_at n k x c e is =
       declares tree x n e c (flat_map-nil_at (connection_faults tree x) x.connections k c (parts n x e).links is)
 
-  each_by : (n : ℕ) (wire : Wire) (o : Option (Implementation ℕ)) → implementation_at tree n ≡ o
+  each_by : (n : ℕ) (wire : ConnectionPorts) (o : Option (Implementation ℕ)) → implementation_at tree n ≡ o
       → (h : Contains (wires_of tree o) wire)
-      → IsDeclared tree n wire
+      → IsPermitted tree n wire
   each_by n wire None e h = absurd (Contains-nil wire h)
   each_by n wire (Some x) e h =
       let l =
-      listed (wire_of tree x) x.connections h.0 wire (slice_get-from_Contains (wires_of tree (Some x)) wire h) in
+      listed (ports_of_connection tree x) x.connections h.0 wire (slice_get-from_Contains (wires_of tree (Some x)) wire h) in
       wired tree x n e l.0 wire (declares_at n h.0 x l.0 e l.1) l.2
 
   threads_by : (n : ℕ) (o : Option (Implementation ℕ)) → implementation_at tree n ≡ o → is_thread_in o ≡ true
@@ -269,12 +269,12 @@ module _ (tree : PackageTree ℕ) (root : ℕ) (clean : package_faults tree root
   threads_by n None e t = refl
   threads_by n (Some x) e t = by x.connections refl
     where
-      by : (cs : List (Connection ℕ)) → x.connections ≡ cs → map (wire_of tree x) cs ≡ []
+      by : (cs : List (Connection ℕ)) → x.connections ≡ cs → map (ports_of_connection tree x) cs ≡ []
       by [] f = refl
       by (c ∷ cs) f =
           absurd (no_connection tree x n e c t (parts n x e).subs (declares_at n 0 x c e (ap (λ l. slice_get l 0) f)))
 
-  pub declared : AreDeclared tree
+  pub declared : ArePermitted tree
   declared = record {
     each = λ n wire h. each_by n wire (implementation_at tree n) refl h;
     threads = λ n t. threads_by n (implementation_at tree n) refl t;

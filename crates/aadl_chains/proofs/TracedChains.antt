@@ -5,21 +5,21 @@ use Rattle.std.proofs.lemmas.List.{reverse-append}
 use Rattle.std.proofs.lemmas.Option.{same_Some, none-some}
 use Rattle.list_lemmas.proofs.Booleans.{opposed}
 use Rattle.aadl_tree.specs.Declarations.{PackageTree}
-use Rattle.aadl_names.specs.declared.port_place.PortPlace.{PortPlace}
-use Rattle.aadl_names.specs.declared.port_place.PortPlace.TheVariants.{Own, Inner}
-use Rattle.aadl_uses.specs.Uses.{below, standing}
+use Rattle.aadl_names.specs.declared.port_place.NumberedPort.{NumberedPort}
+use Rattle.aadl_names.specs.declared.port_place.NumberedPort.TheVariants.{Own, Inner}
+use Rattle.aadl_uses.specs.Uses.{below, number_at_path}
 use Rattle.aadl_uses.specs.ThreadsBelow.{IsThreadAt}
 use Rattle.aadl_uses.specs.proof.IncomingConnections.{connection_into}
 use Rattle.aadl_chains.specs.proof.PortsJoinedInside.{is_thread_at, is_in_at}
-use Rattle.aadl_chains.specs.Chains.{Port, Place, Goes, Leads, is_in, IsStart}
-use Rattle.aadl_chains.specs.proof.DeclaredEnds.{AreDeclared}
+use Rattle.aadl_chains.specs.Chains.{Port, ConnectionAt, Goes, Leads, is_in, IsStart}
+use Rattle.aadl_chains.specs.proof.DeclaredEnds.{ArePermitted}
 use Rattle.aadl_chains.proofs.ConnectionsOnChains.{next_at, is_in-at, thread_from}
 use Rattle.aadl_chains.specs.declared.chain_tracing.ChainStart.{ChainStart}
 use Rattle.aadl_chains.specs.declared.chain_tracing.ChainStart.TheVariants as begins
 use Rattle.aadl_chains.specs.declared.chain_tracing.ChainRoute.{ChainRoute}
-use Rattle.aadl_chains.specs.proof.TracedChains.{Passes, route_ends, IsGiver, Descends, Traces, TracesTap}
-use Rattle.aadl_chains.specs.proof.Walks.{Crossing, nowhere, at_root, crosses, climb, OneEach, IsThreadPort}
-use Rattle.aadl_chains.specs.LinksFeedsAndTaps.{Ends, IsLink, IsFeed, IsTap}
+use Rattle.aadl_chains.specs.proof.TracedChains.{Passes, carried_chain, IsGiver, Descends, Traces, TracesTap}
+use Rattle.aadl_chains.specs.proof.Walks.{Crossing, nowhere, at_root, crosses, walk_back, OneEach, IsThreadPort}
+use Rattle.aadl_chains.specs.LinksFeedsAndTaps.{CarriedChain, IsLink, IsFeed, IsTap}
 use Rattle.aadl_chains.proofs.ChainsFromEnds.{passes_end, passes_before, only_start, no_chain}
 use Rattle.aadl_chains.proofs.FirstIncomingConnections.{entered, goes_into, into_of_goes, inner_of}
 use Rattle.aadl_chains.proofs.WalksOfChains.{into_own}
@@ -27,19 +27,19 @@ use Rattle.aadl_chains.proofs.LinksByWalks.{link_from, feed_from, tap_from, Link
 use Rattle.aadl_chains.proofs.LinksByWalks.{TapMet, tap_met}
 use Rattle.aadl_chains.proofs.SoundConnections.{sound_by}
 
-pub ends_by : (a b : Ends) → a.from ≡ b.from → a.to ≡ b.to → a.declaration ≡ b.declaration
+pub ends_by : (a b : CarriedChain) → a.from ≡ b.from → a.to ≡ b.to → a.declaration ≡ b.declaration
     → a.connection ≡ b.connection → a ≡ b
 ends_by a b e f g h i = record { from = e i; to = f i; declaration = g i; connection = h i }
 
 -- the walk down stands at an out port of the implementation at the end of a path
 pub record Descending (tree : PackageTree ℕ) (root : ℕ) (end : Port) (path : List ℕ) (here out : ℕ) : Type 0 where
-  pub stands : standing tree root (reverse path) ≡ Some here
+  pub stands : number_at_path tree root (reverse path) ≡ Some here
   pub goes_out : is_in_at tree here out ≡ false
   pub passes : Passes tree root (record { path = reverse path; port = out }) end
 
-module _ (tree : PackageTree ℕ) (root : ℕ) (sound : AreDeclared tree) (one : OneEach tree root) where
+module _ (tree : PackageTree ℕ) (root : ℕ) (sound : ArePermitted tree) (one : OneEach tree root) where
   -- ---- down
-  pub descend_first : (path : List ℕ) (here out : ℕ) → standing tree root (reverse path) ≡ Some here
+  pub descend_first : (path : List ℕ) (here out : ℕ) → number_at_path tree root (reverse path) ≡ Some here
       → is_in_at tree here out ≡ false
       → Descending tree root (record { path = reverse path; port = out }) path here out
   descend_first path here out stands goes_out = record {
@@ -60,7 +60,7 @@ module _ (tree : PackageTree ℕ) (root : ℕ) (sound : AreDeclared tree) (one :
       let turned : s ∷ reverse path ≡ reverse (path ++ s ∷ []) = sym (reverse-append path (s ∷ [])) in
       let g = (goes_into tree root (reverse path) here (Own out) k (Inner s p) d.stands x).0 in
       record {
-        stands = ap (standing tree root) (sym turned) ∙ next_at tree root (reverse path) here s m d.stands b;
+        stands = ap (number_at_path tree root) (sym turned) ∙ next_at tree root (reverse path) here s m d.stands b;
         goes_out = ap (λ n. is_in_at tree n p) (sym number) ∙ (ap (is_in_at tree i.2) port ∙ i.5);
         passes = subst (λ l. Passes tree root (record { path = l; port = p }) end) turned
             (passes_before tree root (sound_by tree root sound one) (record { path = reverse path; connection = k })
@@ -91,7 +91,7 @@ module _ (tree : PackageTree ℕ) (root : ℕ) (sound : AreDeclared tree) (one :
 
   pub descend_none : (end : Port) (path : List ℕ) (here out : ℕ) → is_thread_at tree here ≡ false
       → connection_into tree here (Own out) ≡ None
-      → Descending tree root end path here out → (cs : List Place) (from : Port) → IsStart tree root from
+      → Descending tree root end path here out → (cs : List ConnectionAt) (from : Port) → IsStart tree root from
       → Leads tree root cs from end → ⊥
   descend_none end path here out no_thread none d cs from start leads =
       no_chain tree root at end from d.passes never (λ place before g. no_connection place before g) start cs leads
@@ -104,7 +104,7 @@ module _ (tree : PackageTree ℕ) (root : ℕ) (sound : AreDeclared tree) (one :
           opposed (is_thread_at tree here) (thread_from tree root (reverse path) here d.stands s.0) no_thread
       never (inr s) = opposed (is_in tree root at) s.1 (is_in-at tree root at here d.stands ∙ d.goes_out)
 
-      no_connection : (place : Place) (before : Port) → Goes tree root place before at → ⊥
+      no_connection : (place : ConnectionAt) (before : Port) → Goes tree root place before at → ⊥
       no_connection place before g =
           let o = into_own tree root sound place before at g g.target refl here d.stands d.goes_out in
           let port : out ≡ o.0 = ap (λ (p : Port). p.port) o.2 in
@@ -115,20 +115,20 @@ module _ (tree : PackageTree ℕ) (root : ℕ) (sound : AreDeclared tree) (one :
 
   -- ---- links and feeds
   module _ (no_thread : is_thread_at tree root ≡ false) (to : Port) where
-    met_link : (ends : Ends) → IsLink tree root ends → ends.to ≡ to
-        → (m : LinkMet tree root sound one no_thread ends) × (climb tree root None to.path to.port ≡ crosses m.crossing)
+    met_link : (ends : CarriedChain) → IsLink tree root ends → ends.to ≡ to
+        → (m : LinkMet tree root sound one no_thread ends) × (walk_back tree root None to.path to.port ≡ crosses m.crossing)
     met_link ends l e =
         let m = link_met tree root sound one no_thread ends l in
-        (m, ap (λ (p : Port). climb tree root None p.path p.port) (sym e) ∙ m.climbs)
+        (m, ap (λ (p : Port). walk_back tree root None p.path p.port) (sym e) ∙ m.climbs)
 
-    met_feed : (ends : Ends) → IsFeed tree root ends → ends.to ≡ to
+    met_feed : (ends : CarriedChain) → IsFeed tree root ends → ends.to ≡ to
         → (m : FeedMet tree root sound one no_thread ends)
-        × (climb tree root None to.path to.port ≡ at_root (Some m.connection) ends.from.port)
+        × (walk_back tree root None to.path to.port ≡ at_root (Some m.connection) ends.from.port)
     met_feed ends l e =
         let m = feed_met tree root sound one no_thread ends l in
-        (m, ap (λ (p : Port). climb tree root None p.path p.port) (sym e) ∙ m.climbs)
+        (m, ap (λ (p : Port). walk_back tree root None p.path p.port) (sym e) ∙ m.climbs)
 
-    pub traces_nothing : climb tree root None to.path to.port ≡ nowhere → Traces tree root to None
+    pub traces_nothing : walk_back tree root None to.path to.port ≡ nowhere → Traces tree root to None
     traces_nothing is ends (inl l) e = let m = met_link ends l e in
         let none : nowhere ≡ crosses m.0.crossing = sym is ∙ m.1 in cc none
     traces_nothing is ends (inr l) e =
@@ -136,7 +136,7 @@ module _ (tree : PackageTree ℕ) (root : ℕ) (sound : AreDeclared tree) (one :
         let none : nowhere ≡ at_root (Some m.0.connection) ends.from.port = sym is ∙ m.1 in
         cc none
 
-    pub traces_itself : (q : ℕ) → climb tree root None to.path to.port ≡ at_root None q → Traces tree root to None
+    pub traces_itself : (q : ℕ) → walk_back tree root None to.path to.port ≡ at_root None q → Traces tree root to None
     traces_itself q is ends (inl l) e = let m = met_link ends l e in
         let none : at_root None q ≡ crosses m.0.crossing = sym is ∙ m.1 in cc none
     traces_itself q is ends (inr l) e =
@@ -146,7 +146,7 @@ module _ (tree : PackageTree ℕ) (root : ℕ) (sound : AreDeclared tree) (one :
         none-some m.0.connection none
 
     pub traces_root : (k q : ℕ) (route : ChainRoute) → IsThreadPort tree root to
-        → climb tree root None to.path to.port ≡ at_root (Some k) q
+        → walk_back tree root None to.path to.port ≡ at_root (Some k) q
         → route ≡ record { begin = begins.Root q; declaration = root; connection = k }
         → Traces tree root to (Some route)
     traces_root k q route port is e = subst (λ r. Traces tree root to (Some r)) (sym e) (record {
@@ -154,10 +154,10 @@ module _ (tree : PackageTree ℕ) (root : ℕ) (sound : AreDeclared tree) (one :
       only = only;
     })
       where
-        found : Ends
-        found = route_ends to (record { begin = begins.Root q; declaration = root; connection = k })
+        found : CarriedChain
+        found = carried_chain to (record { begin = begins.Root q; declaration = root; connection = k })
 
-        only : (ends : Ends) → IsLink tree root ends ⊎ IsFeed tree root ends → ends.to ≡ to → ends ≡ found
+        only : (ends : CarriedChain) → IsLink tree root ends ⊎ IsFeed tree root ends → ends.to ≡ to → ends ≡ found
         only ends (inl l) e = let m = met_link ends l e in
             let none : at_root (Some k) q ≡ crosses m.0.crossing = sym is ∙ m.1 in absurd (cc none)
         only ends (inr l) e =
@@ -168,7 +168,7 @@ module _ (tree : PackageTree ℕ) (root : ℕ) (sound : AreDeclared tree) (one :
             ends_by ends found (m.0.from_is ∙ ap (λ p. record { path = []; port = p }) (sym port)) e m.0.declaration_is
             (m.0.connection_is ∙ sym (same_Some k m.0.connection number))
 
-    module _ (c : Crossing) (is : climb tree root None to.path to.port ≡ crosses c) where
+    module _ (c : Crossing) (is : walk_back tree root None to.path to.port ≡ crosses c) where
       out_port : Port
       out_port = record { path = c.sub ∷ c.path; port = c.port }
 
@@ -199,15 +199,15 @@ module _ (tree : PackageTree ℕ) (root : ℕ) (sound : AreDeclared tree) (one :
             only = only;
           })
         where
-          found : Ends
+          found : CarriedChain
           found =
-              route_ends to (record {
+              carried_chain to (record {
                 begin = begins.Thread path p;
                 declaration = c.declaration;
                 connection = c.connection;
               })
 
-          only : (ends : Ends) → IsLink tree root ends ⊎ IsFeed tree root ends → ends.to ≡ to → ends ≡ found
+          only : (ends : CarriedChain) → IsLink tree root ends ⊎ IsFeed tree root ends → ends.to ≡ to → ends ≡ found
           only ends (inr l) e =
               let m = met_feed ends l e in
               let none : at_root (Some m.0.connection) ends.from.port ≡ crosses c = sym m.1 ∙ is in
@@ -225,7 +225,7 @@ module _ (tree : PackageTree ℕ) (root : ℕ) (sound : AreDeclared tree) (one :
 
   -- ---- taps
   module _ (no_thread : is_thread_at tree root ≡ false) (port : ℕ) where
-    met_tap : (ends : Ends) → IsTap tree root ends → ends.to ≡ record { path = []; port = port }
+    met_tap : (ends : CarriedChain) → IsTap tree root ends → ends.to ≡ record { path = []; port = port }
         → (m : TapMet tree root sound one no_thread ends)
         × (connection_into tree root (Own port) ≡ Some (ends.connection, Inner m.sub m.port))
     met_tap ends l e =
@@ -237,16 +237,16 @@ module _ (tree : PackageTree ℕ) (root : ℕ) (sound : AreDeclared tree) (one :
         none-some (ends.connection, Inner m.0.sub m.0.port) (sym none ∙ m.1)
 
     module _ (k t q : ℕ) (is : connection_into tree root (Own port) ≡ Some (k, Inner t q)) where
-      abbrev pair : ℕ → ℕ → ℕ → ℕ × PortPlace
+      abbrev pair : ℕ → ℕ → ℕ → ℕ × NumberedPort
       pair k s p = (k, Inner s p)
 
       same_into : (a b s p t q : ℕ) → Some (pair a s p) ≡ Some (pair b t q) → (a ≡ b) × (s ≡ t) × (p ≡ q)
       same_into a b s p t q e =
           let both : pair a s p ≡ pair b t q = same_Some (pair a s p) (pair b t q) e in
-          let site : Inner s p ≡ Inner t q = ap (λ (x : ℕ × PortPlace). x.1) both in
-          (ap (λ (x : ℕ × PortPlace). x.0) both, cc site, cc site)
+          let site : Inner s p ≡ Inner t q = ap (λ (x : ℕ × NumberedPort). x.1) both in
+          (ap (λ (x : ℕ × NumberedPort). x.0) both, cc site, cc site)
 
-      there : (ends : Ends) (m : TapMet tree root sound one no_thread ends)
+      there : (ends : CarriedChain) (m : TapMet tree root sound one no_thread ends)
           → connection_into tree root (Own port) ≡ Some (ends.connection, Inner m.sub m.port)
           → Leads tree root m.earlier ends.from (record { path = t ∷ []; port = q })
       there ends m e =
@@ -275,7 +275,7 @@ module _ (tree : PackageTree ℕ) (root : ℕ) (sound : AreDeclared tree) (one :
                 (same_into ends.connection k m.0.sub m.0.port t q (sym m.1 ∙ is)).0;
           })
         where
-          found : Ends
+          found : CarriedChain
           found =
-              route_ends (record { path = []; port = port })
+              carried_chain (record { path = []; port = port })
               (record { begin = begins.Thread path p; declaration = root; connection = k })

@@ -4,18 +4,18 @@ use Rattle.std.proofs.Common.{option_map, refl, sym, ap, subst, ◌∙◌}
 use Rattle.std.specs.Option.{option_and_then}
 use Rattle.std.proofs.lemmas.Option.{none-some}
 use Rattle.aadl_tree.specs.Declarations.{Feature, PackageTree}
-use Rattle.aadl_names.specs.declared.port_place.PortPlace.{PortPlace}
-use Rattle.aadl_names.specs.declared.port_place.PortPlace.TheVariants.{Own, Inner}
+use Rattle.aadl_names.specs.declared.port_place.NumberedPort.{NumberedPort}
+use Rattle.aadl_names.specs.declared.port_place.NumberedPort.TheVariants.{Own, Inner}
 use Rattle.aadl_names.specs.ReferenceResolution.{implementation_at, ports_at}
 use Rattle.aadl_names.specs.PackageFaults.{goes_in}
-use Rattle.aadl_uses.specs.Uses.{below, standing, component_at}
+use Rattle.aadl_uses.specs.Uses.{below, number_at_path, component_at}
 use Rattle.aadl_uses.specs.ThreadsBelow.{IsThreadAt}
 use Rattle.aadl_uses.specs.proof.ThreadCounts.{is_thread_in}
 use Rattle.aadl_uses.specs.proof.IncomingConnections.{connection_into}
 use Rattle.aadl_chains.specs.proof.PortsJoinedInside.{is_thread_at}
 use Rattle.aadl_chains.specs.Chains.{Port, is_in}
-use Rattle.aadl_chains.specs.proof.Walks.{Crossing, Climb, nowhere, at_root, crosses, climb_by, climb_along, climb_into}
-use Rattle.aadl_chains.specs.proof.Walks.{climb, IsThreadPort}
+use Rattle.aadl_chains.specs.proof.Walks.{Crossing, WalkEnd, nowhere, at_root, crosses, walk_back_by, walk_back_along, walk_back_into}
+use Rattle.aadl_chains.specs.proof.Walks.{walk_back, IsThreadPort}
 use Rattle.aadl_chains.proofs.FirstIncomingConnections.{Entered, entered}
 
 abbrev port : List ℕ → ℕ → Port
@@ -49,7 +49,7 @@ same_ends (u ∷ a) (v ∷ b) s t e =
 module _ (tree : PackageTree ℕ) where
   -- ---- what stands below a subcomponent
   module _ (n s m : ℕ) (there : below tree n s ≡ Some m) where
-    pub standing_inner : (path : List ℕ) → standing tree n (path ++ s ∷ []) ≡ standing tree m path
+    pub standing_inner : (path : List ℕ) → number_at_path tree n (path ++ s ∷ []) ≡ number_at_path tree m path
     standing_inner [] = there
     standing_inner (u ∷ path) = ap (option_and_then (λ k. below tree k u)) (standing_inner path)
 
@@ -70,9 +70,9 @@ module _ (tree : PackageTree ℕ) where
     port_inner path p t = ((t.0.0, (sym (component_inner path) ∙ t.0.1.0, t.0.1.1)), sym (is_in_inner path p) ∙ t.1)
 
     -- ---- a walk, one level further out
-    pub outer : Climb → Climb
+    pub outer : WalkEnd → WalkEnd
     outer nowhere = nowhere
-    outer (at_root l p) = climb_along (λ k q. at_root (Some k) q) [] n (connection_into tree n (Inner s p))
+    outer (at_root l p) = walk_back_along (λ k q. at_root (Some k) q) [] n (connection_into tree n (Inner s p))
     outer (crosses c) =
         crosses (record {
           path = c.path ++ s ∷ [];
@@ -82,52 +82,52 @@ module _ (tree : PackageTree ℕ) where
           port = c.port;
         })
 
-    outer_by : (up wide : ℕ → ℕ → Climb) → ((k q : ℕ) → wide k q ≡ outer (up k q))
-        → (path : List ℕ) (j k : ℕ) (source : PortPlace)
-        → climb_by wide (path ++ s ∷ []) j k source ≡ outer (climb_by up path j k source)
+    outer_by : (up wide : ℕ → ℕ → WalkEnd) → ((k q : ℕ) → wide k q ≡ outer (up k q))
+        → (path : List ℕ) (j k : ℕ) (source : NumberedPort)
+        → walk_back_by wide (path ++ s ∷ []) j k source ≡ outer (walk_back_by up path j k source)
     unfolding outer
     outer_by up wide same path j k (Own q) = same k q
     outer_by up wide same path j k (Inner t q) = refl
 
-    outer_along : (up wide : ℕ → ℕ → Climb) → ((k q : ℕ) → wide k q ≡ outer (up k q))
-        → (path : List ℕ) (j : ℕ) (o : Option (ℕ × PortPlace))
-        → climb_along wide (path ++ s ∷ []) j o ≡ outer (climb_along up path j o)
+    outer_along : (up wide : ℕ → ℕ → WalkEnd) → ((k q : ℕ) → wide k q ≡ outer (up k q))
+        → (path : List ℕ) (j : ℕ) (o : Option (ℕ × NumberedPort))
+        → walk_back_along wide (path ++ s ∷ []) j o ≡ outer (walk_back_along up path j o)
     unfolding outer
     outer_along up wide same path j None = refl
     outer_along up wide same path j (Some from) = outer_by up wide same path j from.0 from.1
 
-    outer_into : (up wide : ℕ → ℕ → Climb) → ((k q : ℕ) → wide k q ≡ outer (up k q))
+    outer_into : (up wide : ℕ → ℕ → WalkEnd) → ((k q : ℕ) → wide k q ≡ outer (up k q))
         → (path : List ℕ) (u p : ℕ) (o : Option ℕ)
-        → climb_into tree wide (path ++ s ∷ []) u p o ≡ outer (climb_into tree up path u p o)
+        → walk_back_into tree wide (path ++ s ∷ []) u p o ≡ outer (walk_back_into tree up path u p o)
     unfolding outer
     outer_into up wide same path u p None = refl
     outer_into up wide same path u p (Some j) = outer_along up wide same path j (connection_into tree j (Inner u p))
 
     pub climb_outer : (last : Option ℕ) (path : List ℕ) (p : ℕ)
-        → climb tree n last (path ++ s ∷ []) p ≡ outer (climb tree m last path p)
+        → walk_back tree n last (path ++ s ∷ []) p ≡ outer (walk_back tree m last path p)
     unfolding outer
     climb_outer last [] p = refl
     climb_outer last (u ∷ path) p =
-        ap (climb_into tree (λ k q. climb tree n (Some k) (path ++ s ∷ []) q) (path ++ s ∷ []) u p)
+        ap (walk_back_into tree (λ k q. walk_back tree n (Some k) (path ++ s ∷ []) q) (path ++ s ∷ []) u p)
         (standing_inner path)
-        ∙ outer_into (λ k q. climb tree m (Some k) path q) (λ k q. climb tree n (Some k) (path ++ s ∷ []) q)
+        ∙ outer_into (λ k q. walk_back tree m (Some k) path q) (λ k q. walk_back tree n (Some k) (path ++ s ∷ []) q)
         (λ k q. climb_outer (Some k) path q) path u p
-        (standing tree m path)
+        (number_at_path tree m path)
 
     -- ---- what a walk one level further out comes from
-    root_by : (p k : ℕ) (l : Option ℕ) (q : ℕ) (source : PortPlace) → connection_into tree n (Inner s p) ≡ Some (k, source)
-        → climb_by (λ k q. at_root (Some k) q) [] n k source ≡ at_root l q → Entered tree n (Inner s p) k (Own q)
+    root_by : (p k : ℕ) (l : Option ℕ) (q : ℕ) (source : NumberedPort) → connection_into tree n (Inner s p) ≡ Some (k, source)
+        → walk_back_by (λ k q. at_root (Some k) q) [] n k source ≡ at_root l q → Entered tree n (Inner s p) k (Own q)
     root_by p k l q (Own r) i is =
         let same : r ≡ q = cc is in
         subst (λ x. Entered tree n (Inner s p) k (Own x)) same (entered tree n (Inner s p) (k, Own r) i)
     root_by p k l q (Inner t r) i is = absurd (cc is)
 
-    root_along : (p : ℕ) (l : Option ℕ) (q : ℕ) (o : Option (ℕ × PortPlace)) → connection_into tree n (Inner s p) ≡ o
-        → climb_along (λ k q. at_root (Some k) q) [] n o ≡ at_root l q → (k : ℕ) × Entered tree n (Inner s p) k (Own q)
+    root_along : (p : ℕ) (l : Option ℕ) (q : ℕ) (o : Option (ℕ × NumberedPort)) → connection_into tree n (Inner s p) ≡ o
+        → walk_back_along (λ k q. at_root (Some k) q) [] n o ≡ at_root l q → (k : ℕ) × Entered tree n (Inner s p) k (Own q)
     root_along p l q None i is = absurd (cc is)
     root_along p l q (Some from) i is = (from.0, root_by p from.0 l q from.1 i is)
 
-    pub root_outer : (r : Climb) (l : Option ℕ) (q : ℕ) → outer r ≡ at_root l q
+    pub root_outer : (r : WalkEnd) (l : Option ℕ) (q : ℕ) → outer r ≡ at_root l q
         → (last : Option ℕ) × (p k : ℕ) × (r ≡ at_root last p) × Entered tree n (Inner s p) k (Own q)
     unfolding outer
     root_outer nowhere l q is = absurd (cc is)
@@ -136,14 +136,14 @@ module _ (tree : PackageTree ℕ) where
     root_outer (crosses c) l q is = absurd (cc is)
 
     -- a crossing further in, or of the implementation itself
-    pub record Within (r : Climb) (c : Crossing) : Type 0 where
+    pub record Within (r : WalkEnd) (c : Crossing) : Type 0 where
       pub crossing : Crossing
       pub is : r ≡ crosses crossing
       pub declaration_is : crossing.declaration ≡ c.declaration
       pub sub_is : crossing.sub ≡ c.sub
       pub port_is : crossing.port ≡ c.port
 
-    pub record Itself (r : Climb) (c : Crossing) : Type 0 where
+    pub record Itself (r : WalkEnd) (c : Crossing) : Type 0 where
       pub last : Option ℕ
       pub port : ℕ
       pub connection : ℕ
@@ -151,9 +151,9 @@ module _ (tree : PackageTree ℕ) where
       pub enters : Entered tree n (Inner s port) connection (Inner c.sub c.port)
       pub declaration_is : c.declaration ≡ n
 
-    crossing_by : (last : Option ℕ) (p k : ℕ) (c : Crossing) (source : PortPlace)
+    crossing_by : (last : Option ℕ) (p k : ℕ) (c : Crossing) (source : NumberedPort)
         → connection_into tree n (Inner s p) ≡ Some (k, source)
-        → climb_by (λ k q. at_root (Some k) q) [] n k source ≡ crosses c → Itself (at_root last p) c
+        → walk_back_by (λ k q. at_root (Some k) q) [] n k source ≡ crosses c → Itself (at_root last p) c
     crossing_by last p k c (Own r) i is = absurd (cc is)
     crossing_by last p k c (Inner t r) i is =
         let same : record { path = []; declaration = n; connection = k; sub = t; port = r } ≡ c = cc is in
@@ -168,12 +168,12 @@ module _ (tree : PackageTree ℕ) where
           declaration_is = ap (λ (x : Crossing). x.declaration) (sym same);
         }
 
-    crossing_along : (last : Option ℕ) (p : ℕ) (c : Crossing) (o : Option (ℕ × PortPlace)) → connection_into tree n (Inner s p) ≡ o
-        → climb_along (λ k q. at_root (Some k) q) [] n o ≡ crosses c → Itself (at_root last p) c
+    crossing_along : (last : Option ℕ) (p : ℕ) (c : Crossing) (o : Option (ℕ × NumberedPort)) → connection_into tree n (Inner s p) ≡ o
+        → walk_back_along (λ k q. at_root (Some k) q) [] n o ≡ crosses c → Itself (at_root last p) c
     crossing_along last p c None i is = absurd (cc is)
     crossing_along last p c (Some from) i is = crossing_by last p from.0 c from.1 i is
 
-    pub crossing_outer : (r : Climb) (c : Crossing) → outer r ≡ crosses c → Within r c ⊎ Itself r c
+    pub crossing_outer : (r : WalkEnd) (c : Crossing) → outer r ≡ crosses c → Within r c ⊎ Itself r c
     unfolding outer
     crossing_outer nowhere c is = absurd (cc is)
     crossing_outer (at_root last p) c is = inr (crossing_along last p c (connection_into tree n (Inner s p)) refl is)
@@ -193,7 +193,7 @@ module _ (tree : PackageTree ℕ) where
           port_is = ap (λ (y : Crossing). y.port) same;
         })
 
-    pub crossing_kept : (r : Climb) (x : Crossing) → r ≡ crosses x
+    pub crossing_kept : (r : WalkEnd) (x : Crossing) → r ≡ crosses x
         → outer r ≡ crosses (record {
           path = x.path ++ s ∷ [];
           declaration = x.declaration;
@@ -204,20 +204,20 @@ module _ (tree : PackageTree ℕ) where
     unfolding outer
     crossing_kept r x e = ap outer e
 
-    pub root_kept : (r : Climb) (last : Option ℕ) (p k q : ℕ) → r ≡ at_root last p
+    pub root_kept : (r : WalkEnd) (last : Option ℕ) (p k q : ℕ) → r ≡ at_root last p
         → connection_into tree n (Inner s p) ≡ Some (k, Own q)
         → outer r ≡ at_root (Some k) q
     unfolding outer
-    root_kept r last p k q e i = ap outer e ∙ ap (climb_along (λ k q. at_root (Some k) q) [] n) i
+    root_kept r last p k q e i = ap outer e ∙ ap (walk_back_along (λ k q. at_root (Some k) q) [] n) i
 
-    pub root_crosses : (r : Climb) (last : Option ℕ) (p k t q : ℕ) → r ≡ at_root last p
+    pub root_crosses : (r : WalkEnd) (last : Option ℕ) (p k t q : ℕ) → r ≡ at_root last p
         → connection_into tree n (Inner s p) ≡ Some (k, Inner t q)
         → outer r ≡ crosses (record { path = []; declaration = n; connection = k; sub = t; port = q })
     unfolding outer
-    root_crosses r last p k t q e i = ap outer e ∙ ap (climb_along (λ k q. at_root (Some k) q) [] n) i
+    root_crosses r last p k t q e i = ap outer e ∙ ap (walk_back_along (λ k q. at_root (Some k) q) [] n) i
 
   -- ---- what stands at a path stands below a subcomponent
-  none_inner : (n s : ℕ) (path : List ℕ) → below tree n s ≡ None → standing tree n (path ++ s ∷ []) ≡ None
+  none_inner : (n s : ℕ) (path : List ℕ) → below tree n s ≡ None → number_at_path tree n (path ++ s ∷ []) ≡ None
   none_inner n s [] e = e
   none_inner n s (u ∷ path) e = ap (option_and_then (λ k. below tree k u)) (none_inner n s path e)
 

@@ -3,16 +3,16 @@
 use Rattle.std.proofs.Common.{◌≡◌, ℕ, false, List, [], ◌∷◌, reverse, Option, Some, None, refl, sym, ap, subst, ◌∙◌}
 use Rattle.std.proofs.lemmas.Option.{same_Some}
 use Rattle.aadl_tree.specs.Declarations.{PackageTree}
-use Rattle.aadl_names.specs.declared.port_place.PortPlace.{PortPlace}
-use Rattle.aadl_names.specs.declared.port_place.PortPlace.TheVariants.{Own, Inner}
-use Rattle.aadl_uses.specs.Uses.{below, standing}
+use Rattle.aadl_names.specs.declared.port_place.NumberedPort.{NumberedPort}
+use Rattle.aadl_names.specs.declared.port_place.NumberedPort.TheVariants.{Own, Inner}
+use Rattle.aadl_uses.specs.Uses.{below, number_at_path}
 use Rattle.aadl_uses.specs.proof.IncomingConnections.{connection_into}
 use Rattle.aadl_chains.specs.proof.PortsJoinedInside.{is_thread_at, is_in_at}
 use Rattle.aadl_chains.specs.Chains.{Port}
-use Rattle.aadl_chains.specs.proof.DeclaredEnds.{AreDeclared}
+use Rattle.aadl_chains.specs.proof.DeclaredEnds.{ArePermitted}
 use Rattle.aadl_chains.specs.declared.chain_tracing.ChainStart.{ChainStart}
 use Rattle.aadl_chains.specs.declared.chain_tracing.PortBelow.{PortBelow}
-use Rattle.aadl_chains.specs.proof.Walks.{Crossing, at_root, crosses, climb, OneEach, IsThreadPort}
+use Rattle.aadl_chains.specs.proof.Walks.{Crossing, at_root, crosses, walk_back, OneEach, IsThreadPort}
 use Rattle.aadl_chains.specs.proof.TracedChains.{Descends, Traces, TracesTap}
 use Rattle.aadl_chains.specs.proof.OutermostFirstWalks.{route_from, route_from_root}
 use Rattle.aadl_chains.proofs.OutermostFirstWalks.{crossing_from}
@@ -25,18 +25,18 @@ same_sub s p t q e = cc e
 same_port : (s p t q : ℕ) → Inner s p ≡ Inner t q → p ≡ q
 same_port s p t q e = cc e
 
-module _ (tree : PackageTree ℕ) (root : ℕ) (sound : AreDeclared tree) (one : OneEach tree root)
+module _ (tree : PackageTree ℕ) (root : ℕ) (sound : ArePermitted tree) (one : OneEach tree root)
     (no_thread : is_thread_at tree root ≡ false) where
   -- at a port of the root
   pub root_route : (to : Port) (last : Option ℕ) (q : ℕ) → IsThreadPort tree root to
-      → climb tree root None to.path to.port ≡ at_root last q
+      → walk_back tree root None to.path to.port ≡ at_root last q
       → Traces tree root to (route_from_root root last q)
   root_route to None q port is = traces_itself tree root sound one no_thread to q is
   root_route to (Some k) q port is = traces_root tree root sound one no_thread to k q _ port is refl
 
   -- over a crossing
   over_by : (to : Port) (c : Crossing) (begin : Option ChainStart) → IsThreadPort tree root to
-      → climb tree root None to.path to.port ≡ crosses c
+      → walk_back tree root None to.path to.port ≡ crosses c
       → Descends tree root (record { path = c.sub ∷ c.path; port = c.port }) begin
       → Traces tree root to (route_from begin c.declaration c.connection)
   over_by to c None port is d = traces_none_over tree root sound one no_thread to c is d
@@ -44,10 +44,10 @@ module _ (tree : PackageTree ℕ) (root : ℕ) (sound : AreDeclared tree) (one :
 
   pub over_route : (to : Port) (c : Crossing) (begin : Option ChainStart) (way : List ℕ) (lower : PortBelow)
       → IsThreadPort tree root to
-      → climb tree root None to.path to.port ≡ crosses c → reverse way ≡ c.sub ∷ c.path
+      → walk_back tree root None to.path to.port ≡ crosses c → reverse way ≡ c.sub ∷ c.path
       → Inner c.sub c.port ≡ Inner lower.sub lower.port
       → below tree c.declaration lower.sub ≡ Some lower.number
-      → (standing tree root (reverse way) ≡ Some lower.number
+      → (number_at_path tree root (reverse way) ≡ Some lower.number
       → Descends tree root (record { path = reverse way; port = lower.port }) begin)
       → Traces tree root to (route_from begin c.declaration c.connection)
   over_route to c begin way lower port is turned same names descends =
@@ -56,7 +56,7 @@ module _ (tree : PackageTree ℕ) (root : ℕ) (sound : AreDeclared tree) (one :
       let out = same_port c.sub c.port lower.sub lower.port same in
       let number : f.number ≡ lower.number =
       same_Some f.number lower.number (sym f.names ∙ (ap (below tree c.declaration) sub ∙ names)) in
-      let d = descends (ap (standing tree root) turned ∙ (f.stands ∙ ap Some number)) in
+      let d = descends (ap (number_at_path tree root) turned ∙ (f.stands ∙ ap Some number)) in
       over_by to c begin port is
       (subst (λ p. Descends tree root (record { path = c.sub ∷ c.path; port = p }) begin) (sym out)
       (subst (λ l. Descends tree root (record { path = l; port = lower.port }) begin) turned d))
@@ -69,14 +69,14 @@ module _ (tree : PackageTree ℕ) (root : ℕ) (sound : AreDeclared tree) (one :
   tap_by port k t q None is out d = no_tap_over tree root sound one no_thread port k t q is d
   tap_by port k t q (Some begin) is out d = tap_over tree root sound one no_thread port k t q is begin _ out d refl
 
-  pub tap_route : (port k : ℕ) (source : PortPlace) (begin : Option ChainStart) (way : List ℕ) (lower : PortBelow)
+  pub tap_route : (port k : ℕ) (source : NumberedPort) (begin : Option ChainStart) (way : List ℕ) (lower : PortBelow)
       → connection_into tree root (Own port) ≡ Some (k, source)
       → is_in_at tree root port ≡ false → reverse way ≡ lower.sub ∷ [] → source ≡ Inner lower.sub lower.port
       → below tree root lower.sub ≡ Some lower.number
-      → (standing tree root (reverse way) ≡ Some lower.number
+      → (number_at_path tree root (reverse way) ≡ Some lower.number
       → Descends tree root (record { path = reverse way; port = lower.port }) begin)
       → TracesTap tree root (record { path = []; port = port }) (route_from begin root k)
   tap_route port k source begin way lower is out turned same names descends =
       tap_by port k lower.sub lower.port begin (is ∙ ap (λ s. Some (k, s)) same) out
       (subst (λ l. Descends tree root (record { path = l; port = lower.port }) begin) turned
-      (descends (ap (standing tree root) turned ∙ names)))
+      (descends (ap (number_at_path tree root) turned ∙ names)))

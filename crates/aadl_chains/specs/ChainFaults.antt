@@ -4,10 +4,10 @@ use Rattle.aadl_tree.specs.Declarations.{Connection, PackageTree}
 use Rattle.aadl_names.specs.declared.fault.PackageFault.{PackageFault}
 use Rattle.aadl_names.specs.declared.fault.PackageFault.TheVariants.{DeadEnd, TwoSources}
 use Rattle.aadl_names.specs.ReferenceResolution.{implementation_at, connections_of}
-use Rattle.aadl_uses.specs.Uses.{standing, IsInUse}
+use Rattle.aadl_uses.specs.Uses.{number_at_path, IsInUse}
 use Rattle.aadl_uses.specs.SecondConnections.{IsDuplicate}
-use Rattle.aadl_uses.specs.Wiring.{wires_at}
-use Rattle.aadl_chains.specs.Chains.{IsChain, Place, Port}
+use Rattle.aadl_uses.specs.Wiring.{connection_ports_at}
+use Rattle.aadl_chains.specs.Chains.{IsChain, ConnectionAt, Port}
 
 -- a connection of an implementation in use that is on no chain, wherever it stands in the design
 pub record IsDeadEnd (tree : PackageTree ℕ) (root : ℕ) (x : Connection ℕ) : Type 0 where
@@ -15,9 +15,9 @@ pub record IsDeadEnd (tree : PackageTree ℕ) (root : ℕ) (x : Connection ℕ) 
   pub connection : ℕ
   pub used : IsInUse tree root number
   pub is_connection : slice_get (connections_of (implementation_at tree number)) connection ≡ Some x
-  pub on_none : (chain : List Place) (from to : Port) (place : Place) → IsChain tree root chain from to
+  pub on_none : (chain : List ConnectionAt) (from to : Port) (place : ConnectionAt) → IsChain tree root chain from to
       → Contains chain place
-      → standing tree root place.path ≡ Some number → place.connection ≢ connection
+      → number_at_path tree root place.path ≡ Some number → place.connection ≢ connection
 
 
 -- a connection of an implementation in use into a port into which one goes that stands before it
@@ -26,7 +26,7 @@ pub record IsSecondEnd (tree : PackageTree ℕ) (root : ℕ) (x : Connection ℕ
   pub connection : ℕ
   pub used : IsInUse tree root number
   pub is_connection : slice_get (connections_of (implementation_at tree number)) connection ≡ Some x
-  pub is_second : IsDuplicate (wires_at tree number) connection
+  pub is_second : IsDuplicate (connection_ports_at tree number) connection
 
 
 abbrev pub IsEndFault : PackageTree ℕ → ℕ → PackageFault → Type 0

@@ -1,11 +1,11 @@
 -- Ports and connections of the flattened design, and the chains that connections make.
 use Rattle.std.specs.Prelude.{◌≡◌, ◌⊎◌, ℕ, Bool, true, false, List, [], ◌∷◌, Option, Some, option_map, slice_get}
 use Rattle.aadl_tree.specs.Declarations.{Feature, Connection, Implementation, PackageTree}
-use Rattle.aadl_names.specs.declared.port_place.PortPlace.{PortPlace}
-use Rattle.aadl_names.specs.declared.port_place.PortPlace.TheVariants.{Own, Inner}
-use Rattle.aadl_names.specs.ReferenceResolution.{implementation_at, ports_at, site}
+use Rattle.aadl_names.specs.declared.port_place.NumberedPort.{NumberedPort}
+use Rattle.aadl_names.specs.declared.port_place.NumberedPort.TheVariants.{Own, Inner}
+use Rattle.aadl_names.specs.ReferenceResolution.{implementation_at, ports_at, end_port}
 use Rattle.aadl_names.specs.PackageFaults.{goes_in}
-use Rattle.aadl_uses.specs.Uses.{standing, component_at}
+use Rattle.aadl_uses.specs.Uses.{number_at_path, component_at}
 use Rattle.aadl_uses.specs.ThreadsBelow.{IsThreadAt}
 
 -- a port of the component at a path
@@ -14,32 +14,32 @@ pub record Port : Type 0 where
   pub port : ℕ
 
 -- a connection of the component at a path
-pub record Place : Type 0 where
+pub record ConnectionAt : Type 0 where
   pub path : List ℕ
   pub connection : ℕ
 
 -- the port of a site, seen from the component at the path
-abbrev pub port_at : List ℕ → PortPlace → Port
+abbrev pub port_at : List ℕ → NumberedPort → Port
 port_at path (Own p) = record { path = path; port = p }
 port_at path (Inner s p) = record { path = s ∷ path; port = p }
 
 -- The connection of a place goes from one port to another.
-pub record Goes (tree : PackageTree ℕ) (root : ℕ) (place : Place) (from to : Port) : Type 0 where
+pub record Goes (tree : PackageTree ℕ) (root : ℕ) (place : ConnectionAt) (from to : Port) : Type 0 where
   pub number : ℕ
   pub component : Implementation ℕ
   pub link : Connection ℕ
-  pub source : PortPlace
-  pub target : PortPlace
-  pub stands : standing tree root place.path ≡ Some number
+  pub source : NumberedPort
+  pub target : NumberedPort
+  pub stands : number_at_path tree root place.path ≡ Some number
   pub is_component : implementation_at tree number ≡ Some component
   pub is_link : slice_get component.connections place.connection ≡ Some link
-  pub is_source : site tree component link.source ≡ Some source
-  pub is_target : site tree component link.target ≡ Some target
+  pub is_source : end_port tree component link.source ≡ Some source
+  pub is_target : end_port tree component link.target ≡ Some target
   pub leaves : from ≡ port_at place.path source
   pub enters : to ≡ port_at place.path target
 
 -- Connections one behind the other lead from one port to another; the last of them stands first in the list.
-abbrev pub Leads : PackageTree ℕ → ℕ → List Place → Port → Port → Type 0
+abbrev pub Leads : PackageTree ℕ → ℕ → List ConnectionAt → Port → Port → Type 0
 Leads tree root [] from to = from ≡ to
 Leads tree root (c ∷ cs) from to = (mid : Port) × Leads tree root cs from mid × Goes tree root c mid to
 
@@ -60,7 +60,7 @@ IsEnd tree root p =
     (IsThreadAt tree root p.path × (is_in tree root p ≡ true)) ⊎ ((p.path ≡ []) × (is_in tree root p ≡ false))
 
 -- A chain: from a thread's out port or a root in port to a thread's in port or a root out port.
-pub record IsChain (tree : PackageTree ℕ) (root : ℕ) (chain : List Place) (from to : Port) : Type 0 where
+pub record IsChain (tree : PackageTree ℕ) (root : ℕ) (chain : List ConnectionAt) (from to : Port) : Type 0 where
   pub leads : Leads tree root chain from to
   pub start : IsStart tree root from
   pub ends : IsEnd tree root to

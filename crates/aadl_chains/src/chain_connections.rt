@@ -7,9 +7,9 @@ ghost use Rattle.aadl_uses.specs.proof.ContainmentOrders.{IsOrder};
 ghost use Rattle.aadl_chains.specs.proof.ConnectionsOnChains.{IsOnChain, AreChainPorts};
 
 use crate::{InnerJoins, OuterJoins, PortSearch};
-use aadl_names::PortPlace;
+use aadl_names::NumberedPort;
 use aadl_tree::Direction;
-use aadl_uses::{Wire, Wires};
+use aadl_uses::{ConnectionPorts, PackageConnections};
 use indexmap::IndexSet;
 use std::alloc::{AllocError, Global};
 
@@ -44,7 +44,7 @@ impl JoinedPorts {
     /// in use are below the root.
     pub fn of(
         alloc: Global,
-        wires: &Wires<'_>,
+        wires: &PackageConnections<'_>,
         order: &IndexSet<usize>,
         used: &IndexSet<usize>,
         root: usize,
@@ -76,7 +76,7 @@ impl JoinedPorts {
 
     /// Whether a connection of an implementation in use is on a chain, at some place where the implementation
     /// stands.
-    pub fn has(&self, wires: &Wires<'_>, number: usize, wire: Wire) -> bool
+    pub fn has(&self, wires: &PackageConnections<'_>, number: usize, wire: ConnectionPorts) -> bool
         requires { AreChainPorts (placed wires.now.uses.names.tree.now) self.now }
         ensures { IsTrue result ↔ IsOnChain (placed wires.now.uses.names.tree.now) self.now.root number wire }
     {
@@ -87,7 +87,7 @@ impl JoinedPorts {
     }
 
     // Whether a connection from this port is on a chain.
-    fn goes_on(&self, wires: &Wires<'_>, number: usize, wire: Wire, source: PortPlace) -> bool
+    fn goes_on(&self, wires: &PackageConnections<'_>, number: usize, wire: ConnectionPorts, source: NumberedPort) -> bool
         requires ways { AreChainPorts (placed wires.now.uses.names.tree.now) self.now }
         requires source { wire.source ≡ Some source }
         ensures { IsTrue result ↔ IsOnChain (placed wires.now.uses.names.tree.now) self.now.root number wire }

@@ -2,20 +2,20 @@
 ghost use Rattle.std.specs.Prelude.{◌≡◌, ◌++◌, ◌∷◌, ◌<◌, ℕ, false, take, reverse, length, None, Some, [], slice_index};
 ghost use Rattle.std.specs.Prelude.{IfOk};
 ghost use Rattle.aadl_tree.specs.proof.PackageViews.{placed};
-ghost use Rattle.aadl_names.specs.declared.port_place.PortPlace.TheVariants.{Own};
+ghost use Rattle.aadl_names.specs.declared.port_place.NumberedPort.TheVariants.{Own};
 ghost use Rattle.aadl_uses.specs.Uses as uses;
 ghost use Rattle.aadl_uses.specs.proof.PackageContainment as inner;
 ghost use Rattle.aadl_uses.specs.proof.ContainmentOrders.{IsOrder};
 ghost use Rattle.aadl_chains.specs.proof.PortsJoinedInside.{is_thread_at, is_in_at};
-ghost use Rattle.aadl_chains.specs.proof.DeclaredEnds.{AreDeclared};
+ghost use Rattle.aadl_chains.specs.proof.DeclaredEnds.{ArePermitted};
 ghost use Rattle.aadl_chains.specs.proof.Walks as walks;
 ghost use Rattle.aadl_chains.specs.proof.Walks.{OneEach, IsThreadPort};
 ghost use Rattle.aadl_chains.specs.proof.TracedChains.{Descends, Traces, TracesTap};
 ghost use Rattle.aadl_chains.specs.proof.OutermostFirstWalks as spec;
 ghost use Rattle.aadl_chains.specs.proof.WalksUpAndDown.{IsFromInner, IsLower, LeadsDown};
 
-use aadl_names::PortPlace;
-use aadl_uses::{Wires, standing};
+use aadl_names::NumberedPort;
+use aadl_uses::{PackageConnections, standing};
 use indexmap::IndexSet;
 use std::alloc::{AllocError, Global};
 
@@ -44,7 +44,7 @@ pub struct ChainRoute {
 pub struct ConnectionInto {
     pub declaration: usize,
     pub connection: usize,
-    pub source: PortPlace,
+    pub source: NumberedPort,
 }
 
 /// A connection between two subcomponents of the component at the end of the first `depth` steps of
@@ -60,7 +60,7 @@ pub struct CrossConnection {
 
 /// Where the walk up from a port ends.
 #[derive(Clone, Copy)]
-pub enum ClimbResult {
+pub enum WalkResult {
     /// At a port into which no connection goes.
     Nowhere,
     /// At a port of the root, by the last connection, if there was one.
@@ -81,24 +81,24 @@ pub struct PortBelow {
 /// names, no implementation contains itself, and each connection in use is the only one into a port.
 pub fn trace_back(
     alloc: Global,
-    wires: &Wires<'_>,
+    wires: &PackageConnections<'_>,
     order: &IndexSet<usize>,
     root: usize,
     path: &[usize],
     port: usize,
 ) -> Result<Option<ChainRoute>, AllocError>
     requires order { IsOrder (inner.containment (placed wires.now.uses.names.tree.now)) order.now.keys }
-    requires declared { AreDeclared (placed wires.now.uses.names.tree.now) }
+    requires declared { ArePermitted (placed wires.now.uses.names.tree.now) }
     requires one { OneEach (placed wires.now.uses.names.tree.now) root }
     requires no_thread { is_thread_at (placed wires.now.uses.names.tree.now) root ≡ false }
     requires thread { IsThreadPort (placed wires.now.uses.names.tree.now) root (record { path = reverse path.now; port = port }) }
     ensures { IfOk result (Traces (placed wires.now.uses.names.tree.now) root (record { path = reverse path.now; port = port })) }
 {
     match climb(wires, root, path, port) {
-        ClimbResult::Nowhere => Ok(None),
-        ClimbResult::Root(last, from) => Ok(route_from_root(root, last, from)),
-        ClimbResult::Crossing(crossed) => {
-            let source = PortPlace::Inner(crossed.sub, crossed.port);
+        WalkResult::Nowhere => Ok(None),
+        WalkResult::Root(last, from) => Ok(route_from_root(root, last, from)),
+        WalkResult::Crossing(crossed) => {
+            let source = NumberedPort::Inner(crossed.sub, crossed.port);
             let lower = lower_of(wires, crossed.declaration, source);
             let way = way_to(alloc, path, crossed.depth, crossed.sub)?;
             let begin = descend(wires, order, way, lower.number, lower.port)?;
@@ -110,19 +110,19 @@ pub fn trace_back(
 /// The tap that ends at an out port of the root, if there is one.
 pub fn trace_tap(
     alloc: Global,
-    wires: &Wires<'_>,
+    wires: &PackageConnections<'_>,
     order: &IndexSet<usize>,
     root: usize,
     port: usize,
 ) -> Result<Option<ChainRoute>, AllocError>
     requires order { IsOrder (inner.containment (placed wires.now.uses.names.tree.now)) order.now.keys }
-    requires declared { AreDeclared (placed wires.now.uses.names.tree.now) }
+    requires declared { ArePermitted (placed wires.now.uses.names.tree.now) }
     requires one { OneEach (placed wires.now.uses.names.tree.now) root }
     requires no_thread { is_thread_at (placed wires.now.uses.names.tree.now) root ≡ false }
     requires out { is_in_at (placed wires.now.uses.names.tree.now) root port ≡ false }
     ensures { IfOk result (TracesTap (placed wires.now.uses.names.tree.now) root (record { path = []; port = port })) }
 {
-    match wires.connection_into(root, PortPlace::Own(port)) {
+    match wires.connection_into(root, NumberedPort::Own(port)) {
         Some(from) => {
             let lower = lower_of(wires, root, from.1);
             let path = way_to(alloc, &[], 0, lower.sub)?;
@@ -166,8 +166,8 @@ fn route_from(
 }
 
 // Walks up from a port of the component at a path.
-fn climb(wires: &Wires<'_>, root: usize, path: &[usize], port: usize) -> ClimbResult
-    ensures { spec.climbed path.now result ≡ walks.climb (placed wires.now.uses.names.tree.now) root None (reverse path.now) port }
+fn climb(wires: &PackageConnections<'_>, root: usize, path: &[usize], port: usize) -> WalkResult
+    ensures { spec.climbed path.now result ≡ walks.walk_back (placed wires.now.uses.names.tree.now) root None (reverse path.now) port }
 {
     let mut depth = path.len();
     let mut here = port;
@@ -175,13 +175,13 @@ fn climb(wires: &Wires<'_>, root: usize, path: &[usize], port: usize) -> ClimbRe
     'up: while depth > 0 {
         match entry_at(wires, root, path, depth - 1, here) {
             Some(entry) => match entry.source {
-                PortPlace::Own(own) => {
+                NumberedPort::Own(own) => {
                     depth -= 1;
                     here = own;
                     last = Some(entry.connection);
                 }
-                PortPlace::Inner(sub, port) => {
-                    return ClimbResult::Crossing(CrossConnection {
+                NumberedPort::Inner(sub, port) => {
+                    return WalkResult::Crossing(CrossConnection {
                         depth: depth - 1,
                         declaration: entry.declaration,
                         connection: entry.connection,
@@ -190,16 +190,16 @@ fn climb(wires: &Wires<'_>, root: usize, path: &[usize], port: usize) -> ClimbRe
                     });
                 }
             },
-            None => return ClimbResult::Nowhere,
+            None => return WalkResult::Nowhere,
         }
     }
-    ClimbResult::Root(last, here)
+    WalkResult::Root(last, here)
 }
 
 // The connection into a port of the component behind the first `depth` steps of a path and one
 // more.
 fn entry_at(
-    wires: &Wires<'_>,
+    wires: &PackageConnections<'_>,
     root: usize,
     path: &[usize],
     depth: usize,
@@ -207,7 +207,7 @@ fn entry_at(
 ) -> Option<ConnectionInto>
     requires { depth < length path.now }
     ensures { result ≡ spec.entry (placed wires.now.uses.names.tree.now)
-        (uses.standing (placed wires.now.uses.names.tree.now) root (reverse (take depth path.now))) (slice_index path.now depth) port }
+        (uses.number_at_path (placed wires.now.uses.names.tree.now) root (reverse (take depth path.now))) (slice_index path.now depth) port }
 {
     match standing(&wires.uses, root, &path[..depth]) {
         Some(declaration) => entry_into(wires, declaration, path[depth], port),
@@ -217,14 +217,14 @@ fn entry_at(
 
 // The connection of a declaration into a port of a subcomponent.
 fn entry_into(
-    wires: &Wires<'_>,
+    wires: &PackageConnections<'_>,
     declaration: usize,
     sub: usize,
     port: usize,
 ) -> Option<ConnectionInto>
     ensures { result ≡ spec.entry (placed wires.now.uses.names.tree.now) (Some declaration) sub port }
 {
-    match wires.connection_into(declaration, PortPlace::Inner(sub, port)) {
+    match wires.connection_into(declaration, NumberedPort::Inner(sub, port)) {
         Some(from) => Some(ConnectionInto {
             declaration,
             connection: from.0,
@@ -245,17 +245,17 @@ fn way_to(alloc: Global, path: &[usize], depth: usize, sub: usize) -> Result<Vec
 
 // Walks down from an out port of the implementation at the end of a path to the thread that gives to it.
 fn descend(
-    wires: &Wires<'_>,
+    wires: &PackageConnections<'_>,
     order: &IndexSet<usize>,
     path: Vec<usize>,
     number: usize,
     port: usize,
 ) -> Result<Option<ChainStart>, AllocError>
     requires order { IsOrder (inner.containment (placed wires.now.uses.names.tree.now)) order.now.keys }
-    requires declared { AreDeclared (placed wires.now.uses.names.tree.now) }
+    requires declared { ArePermitted (placed wires.now.uses.names.tree.now) }
     requires out { is_in_at (placed wires.now.uses.names.tree.now) number port ≡ false }
     ensures { IfOk result (λ begin. (root : ℕ) → OneEach (placed wires.now.uses.names.tree.now) root
-        → uses.standing (placed wires.now.uses.names.tree.now) root (reverse path.items) ≡ Some number
+        → uses.number_at_path (placed wires.now.uses.names.tree.now) root (reverse path.items) ≡ Some number
         → Descends (placed wires.now.uses.names.tree.now) root (record { path = reverse path.items; port = port }) begin) }
 {
     let mut way = path;
@@ -275,27 +275,27 @@ fn descend(
 }
 
 // The port of a subcomponent that gives to an own out port, if there is one.
-fn step_down(wires: &Wires<'_>, here: usize, out: usize) -> Option<PortBelow>
-    requires declared { AreDeclared (placed wires.now.uses.names.tree.now) }
+fn step_down(wires: &PackageConnections<'_>, here: usize, out: usize) -> Option<PortBelow>
+    requires declared { ArePermitted (placed wires.now.uses.names.tree.now) }
     requires out { is_in_at (placed wires.now.uses.names.tree.now) here out ≡ false }
     ensures { LeadsDown (placed wires.now.uses.names.tree.now) here out result }
 {
-    match wires.connection_into(here, PortPlace::Own(out)) {
+    match wires.connection_into(here, NumberedPort::Own(out)) {
         Some(from) => Some(lower_of(wires, here, from.1)),
         None => None,
     }
 }
 
 // An out port of a subcomponent, with what the subcomponent names.
-fn lower_of(wires: &Wires<'_>, here: usize, source: PortPlace) -> PortBelow
+fn lower_of(wires: &PackageConnections<'_>, here: usize, source: NumberedPort) -> PortBelow
     requires { IsFromInner (placed wires.now.uses.names.tree.now) here source }
     ensures { IsLower (placed wires.now.uses.names.tree.now) here source result }
 {
     match source {
-        PortPlace::Inner(sub, port) => match wires.uses.below(here, sub) {
+        NumberedPort::Inner(sub, port) => match wires.uses.below(here, sub) {
             Some(number) => PortBelow { sub, number, port },
             None => unreachable!(),
         },
-        PortPlace::Own(_) => unreachable!(),
+        NumberedPort::Own(_) => unreachable!(),
     }
 }

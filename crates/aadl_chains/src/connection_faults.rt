@@ -7,17 +7,17 @@ ghost use Rattle.aadl_names.specs.proof.FirstFaultSoFar.{found};
 ghost use Rattle.aadl_uses.specs.proof.PackageContainment.{containment};
 ghost use Rattle.aadl_uses.specs.proof.FirstRecursion.{FirstIn};
 ghost use Rattle.aadl_uses.specs.Uses.{IsInUse};
-ghost use Rattle.aadl_uses.specs.Wiring.{wires_at};
+ghost use Rattle.aadl_uses.specs.Wiring.{connection_ports_at};
 ghost use Rattle.aadl_uses.specs.proof.ContainmentOrders.{IsOrder};
 ghost use Rattle.aadl_chains.specs.ChainFaults.{IsEndFault};
-ghost use Rattle.aadl_chains.specs.proof.DeclaredEnds.{AreDeclared};
+ghost use Rattle.aadl_chains.specs.proof.DeclaredEnds.{ArePermitted};
 ghost use Rattle.aadl_chains.specs.proof.ConnectionsOnChains.{AreChainPorts};
 ghost use Rattle.aadl_chains.specs.proof.ConnectionFaults.{FindsAll, IsFoundIn, IsFoundAt, dead_end, second};
 
 use crate::chain_connections::JoinedPorts;
 use aadl_names::{FaultFinder, PackageFault};
 use aadl_tree::Connection;
-use aadl_uses::{Wire, Wires};
+use aadl_uses::{ConnectionPorts, PackageConnections};
 use indexmap::IndexSet;
 use std::alloc::{AllocError, Global};
 
@@ -25,14 +25,14 @@ use std::alloc::{AllocError, Global};
 /// goes. The package has no fault of names, and no implementation contains itself.
 pub fn first_end_fault(
     alloc: Global,
-    wires: &Wires<'_>,
+    wires: &PackageConnections<'_>,
     order: &IndexSet<usize>,
     used: &IndexSet<usize>,
     root: usize,
 ) -> Result<Option<PackageFault>, AllocError>
     requires order { IsOrder (containment (placed wires.now.uses.names.tree.now)) order.now.keys }
     requires used { (n : ℕ) → Contains used.now.keys n ↔ IsInUse (placed wires.now.uses.names.tree.now) root n }
-    requires declared { AreDeclared (placed wires.now.uses.names.tree.now) }
+    requires declared { ArePermitted (placed wires.now.uses.names.tree.now) }
     ensures { IfOk result (FirstIn (IsEndFault (placed wires.now.uses.names.tree.now) root)) }
 {
     let ways = JoinedPorts::of(alloc, wires, order, used, root)?;
@@ -49,7 +49,7 @@ pub fn first_end_fault(
 // Finds what is wrong with the ends of the connections of an implementation.
 fn check_all(
     finder: &mut FaultFinder,
-    wires: &Wires<'_>,
+    wires: &PackageConnections<'_>,
     ways: &JoinedPorts,
     number: usize,
 ) -> Result<(), AllocError>
@@ -65,14 +65,14 @@ fn check_all(
 // Finds what is wrong with the ends of a connection.
 fn check(
     finder: &mut FaultFinder,
-    wires: &Wires<'_>,
+    wires: &PackageConnections<'_>,
     ways: &JoinedPorts,
     number: usize,
     at: usize,
-    wire: Wire,
+    wire: ConnectionPorts,
 ) -> Result<(), AllocError>
     requires ways { AreChainPorts (placed wires.now.uses.names.tree.now) ways.now }
-    requires wire { slice_get (wires_at (placed wires.now.uses.names.tree.now) number) at ≡ Some wire }
+    requires wire { slice_get (connection_ports_at (placed wires.now.uses.names.tree.now) number) at ≡ Some wire }
     ensures { OnOk result (FindsAll (IsFoundAt (placed wires.now.uses.names.tree.now) ways.now.root number at) finder.old finder.new) }
 {
     match wires.connection(number, at) {

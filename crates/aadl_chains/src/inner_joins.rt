@@ -7,9 +7,9 @@ ghost use Rattle.aadl_chains.specs.proof.PortsJoinedInside as spec;
 ghost use Rattle.aadl_chains.specs.proof.PortsJoinedInside.{ReachesIn, IsInside, IsJoined, AreJoined};
 
 use crate::port_set::{PortAt, Ports};
-use aadl_names::PortPlace;
+use aadl_names::NumberedPort;
 use aadl_tree::Direction;
-use aadl_uses::{Wire, Wires};
+use aadl_uses::{ConnectionPorts, PackageConnections};
 use indexmap::IndexSet;
 use std::alloc::{AllocError, Global};
 
@@ -26,7 +26,7 @@ impl InnerJoins {
     /// behind those that it contains.
     pub fn of(
         alloc: Global,
-        wires: &Wires<'_>,
+        wires: &PackageConnections<'_>,
         order: &IndexSet<usize>,
         direction: Direction,
     ) -> Result<InnerJoins, AllocError>
@@ -38,7 +38,7 @@ impl InnerJoins {
     }
 
     /// Whether connections join a port of a subcomponent to a thread below.
-    pub fn reaches(&self, wires: &Wires<'_>, declaration: usize, sub: usize, port: usize) -> bool
+    pub fn reaches(&self, wires: &PackageConnections<'_>, declaration: usize, sub: usize, port: usize) -> bool
         requires { IsInside (placed wires.now.uses.names.tree.now) self.now.direction self.now.ports }
         ensures { IsTrue result ↔ ReachesIn (placed wires.now.uses.names.tree.now) self.now.direction declaration sub port }
     {
@@ -55,7 +55,7 @@ impl InnerJoins {
 // All ports that reach threads.
 fn ports_of(
     alloc: Global,
-    wires: &Wires<'_>,
+    wires: &PackageConnections<'_>,
     order: &IndexSet<usize>,
     direction: Direction,
 ) -> Result<Ports, AllocError>
@@ -75,7 +75,7 @@ fn ports_of(
 // Adds what the connections of a declaration join.
 fn join_all(
     ports: &mut Ports,
-    wires: &Wires<'_>,
+    wires: &PackageConnections<'_>,
     direction: Direction,
     number: usize,
 ) -> Result<(), AllocError>
@@ -90,7 +90,7 @@ fn join_all(
 
 fn join_each(
     ports: &mut Ports,
-    wires: &Wires<'_>,
+    wires: &PackageConnections<'_>,
     direction: Direction,
     number: usize,
 ) -> Result<(), AllocError>
@@ -106,10 +106,10 @@ fn join_each(
 // Adds what a connection joins.
 fn join(
     ports: &mut Ports,
-    wires: &Wires<'_>,
+    wires: &PackageConnections<'_>,
     direction: Direction,
     number: usize,
-    wire: Wire,
+    wire: ConnectionPorts,
 ) -> Result<(), AllocError>
     ensures { OnOk result (IsJoined (placed wires.now.uses.names.tree.now) direction number wire ports.old ports.new) }
 {
@@ -125,16 +125,16 @@ fn join(
 // The own port that a connection joins to one that reaches a thread.
 fn joined(
     ports: &Ports,
-    wires: &Wires<'_>,
+    wires: &PackageConnections<'_>,
     direction: Direction,
     number: usize,
-    wire: Wire,
+    wire: ConnectionPorts,
 ) -> Option<usize>
     ensures { result ≡ spec.joined_by ports.now (placed wires.now.uses.names.tree.now) direction number (spec.outer_end direction wire)
         (spec.inner_end direction wire) }
 {
     match outer_end(direction, wire) {
-        Some(PortPlace::Own(port)) => {
+        Some(NumberedPort::Own(port)) => {
             joined_inner(
                 ports,
                 wires,
@@ -144,23 +144,23 @@ fn joined(
                 inner_end(direction, wire),
             )
         }
-        Some(PortPlace::Inner(_, _)) => None,
+        Some(NumberedPort::Inner(_, _)) => None,
         None => None,
     }
 }
 
 fn joined_inner(
     ports: &Ports,
-    wires: &Wires<'_>,
+    wires: &PackageConnections<'_>,
     direction: Direction,
     number: usize,
     port: usize,
-    inner: Option<PortPlace>,
+    inner: Option<NumberedPort>,
 ) -> Option<usize>
     ensures { result ≡ spec.joined_inner ports.now (placed wires.now.uses.names.tree.now) direction number port inner }
 {
     match inner {
-        Some(PortPlace::Inner(sub, other)) => {
+        Some(NumberedPort::Inner(sub, other)) => {
             if reaches_in(
                 ports,
                 wires,
@@ -173,7 +173,7 @@ fn joined_inner(
                 None
             }
         }
-        Some(PortPlace::Own(_)) => None,
+        Some(NumberedPort::Own(_)) => None,
         None => None,
     }
 }
@@ -181,7 +181,7 @@ fn joined_inner(
 /// Whether a port of a declaration reaches a thread, as a set has it.
 pub fn reaches_in(
     ports: &Ports,
-    wires: &Wires<'_>,
+    wires: &PackageConnections<'_>,
     direction: Direction,
     declaration: Option<usize>,
     port: usize,
@@ -196,7 +196,7 @@ pub fn reaches_in(
 
 fn reaches_by(
     ports: &Ports,
-    wires: &Wires<'_>,
+    wires: &PackageConnections<'_>,
     direction: Direction,
     declaration: usize,
     port: usize,
@@ -222,7 +222,7 @@ fn is_way(direction: Direction, goes_in: bool) -> bool
 
 /// The end of a connection at the subcomponent that a port of this direction belongs to: of an in port the
 /// target, of an out port the source.
-pub fn inner_end(direction: Direction, wire: Wire) -> Option<PortPlace>
+pub fn inner_end(direction: Direction, wire: ConnectionPorts) -> Option<NumberedPort>
     ensures { result ≡ spec.inner_end direction wire }
 {
     match direction {
@@ -232,7 +232,7 @@ pub fn inner_end(direction: Direction, wire: Wire) -> Option<PortPlace>
 }
 
 /// The other end.
-pub fn outer_end(direction: Direction, wire: Wire) -> Option<PortPlace>
+pub fn outer_end(direction: Direction, wire: ConnectionPorts) -> Option<NumberedPort>
     ensures { result ≡ spec.outer_end direction wire }
 {
     match direction {

@@ -8,23 +8,23 @@ ghost use Rattle.aadl_names.specs.declared.fault.PackageFault.{PackageFault};
 ghost use Rattle.aadl_uses.specs.proof.PackageContainment.{containment};
 ghost use Rattle.aadl_uses.specs.Uses.{below};
 ghost use Rattle.aadl_uses.specs.ThreadsBelow.{MoreThan};
-ghost use Rattle.aadl_uses.specs.Wiring.{wires_at};
+ghost use Rattle.aadl_uses.specs.Wiring.{connection_ports_at};
 ghost use Rattle.aadl_uses.specs.proof.ContainmentOrders.{IsOrder};
 ghost use Rattle.aadl_uses.specs.proof.MarkedPathCounts as spec;
 ghost use Rattle.aadl_chains.specs.proof.PortsJoinedInside.{IsInside, is_thread_at};
 ghost use Rattle.aadl_chains.specs.ChainFaults.{IsEndFault};
-ghost use Rattle.aadl_chains.specs.proof.DeclaredEnds.{AreDeclared};
+ghost use Rattle.aadl_chains.specs.proof.DeclaredEnds.{ArePermitted};
 ghost use Rattle.aadl_chains.specs.proof.LimitedCounts.{IsNumber};
 ghost use Rattle.aadl_chains.specs.LinksFeedsAndTaps.{IsLink, OtherTarget};
 ghost use Rattle.aadl_chains.specs.proof.EnteredPortCountTables.{AreTakenBelow};
-ghost use Rattle.aadl_chains.specs.proof.EnteredThreadPorts.{EndsLink, Deeper, FromThread};
+ghost use Rattle.aadl_chains.specs.proof.EnteredThreadPorts.{EndsLink, IsLinkBelow, FromThread};
 
 use crate::InnerJoins;
 use crate::port_counts::PortCounts;
-use aadl_names::PortPlace;
+use aadl_names::NumberedPort;
 use aadl_tree::Direction;
 use aadl_uses::marked_counts::add_up_to;
-use aadl_uses::{Wire, Wires};
+use aadl_uses::{ConnectionPorts, PackageConnections};
 use indexmap::IndexSet;
 use pals_base::limits::LINKS;
 use std::alloc::{AllocError, Global};
@@ -33,12 +33,12 @@ use std::alloc::{AllocError, Global};
 /// implementation contains itself, and each connection in use is the only one into a port.
 pub fn has_too_many_links(
     alloc: Global,
-    wires: &Wires<'_>,
+    wires: &PackageConnections<'_>,
     order: &IndexSet<usize>,
     root: usize,
 ) -> Result<bool, AllocError>
     requires order { IsOrder (containment (placed wires.now.uses.names.tree.now)) order.now.keys }
-    requires declared { AreDeclared (placed wires.now.uses.names.tree.now) }
+    requires declared { ArePermitted (placed wires.now.uses.names.tree.now) }
     requires ends { (fault : PackageFault) → ¬ IsEndFault (placed wires.now.uses.names.tree.now) root fault }
     requires root { root < length (placed wires.now.uses.names.tree.now).declarations }
     requires no_thread { is_thread_at (placed wires.now.uses.names.tree.now) root ≡ false }
@@ -59,12 +59,12 @@ struct LinkEnds<'c> {
 // How many links there are below each declaration; the limit where there are more.
 fn link_counts(
     alloc: Global,
-    wires: &Wires<'_>,
+    wires: &PackageConnections<'_>,
     order: &IndexSet<usize>,
     limit: usize,
 ) -> Result<Vec<usize>, AllocError>
     requires order { IsOrder (containment (placed wires.now.uses.names.tree.now)) order.now.keys }
-    requires declared { AreDeclared (placed wires.now.uses.names.tree.now) }
+    requires declared { ArePermitted (placed wires.now.uses.names.tree.now) }
     ensures { IfOk result (λ counts. (n : ℕ) → n < length (containment (placed wires.now.uses.names.tree.now))
         → IsNumber limit (EndsLink (placed wires.now.uses.names.tree.now) n) (slice_index counts.items n)) }
 {
@@ -106,13 +106,13 @@ fn put(counts: &mut Vec<usize>, number: usize, count: usize)
 
 // The links below a declaration, by those below its subcomponents.
 fn links_below(
-    wires: &Wires<'_>,
+    wires: &PackageConnections<'_>,
     ends: &LinkEnds<'_>,
     counts: &[usize],
     number: usize,
     limit: usize,
 ) -> usize
-    requires declared { AreDeclared (placed wires.now.uses.names.tree.now) }
+    requires declared { ArePermitted (placed wires.now.uses.names.tree.now) }
     requires takes { AreTakenBelow (placed wires.now.uses.names.tree.now) limit ends.now.takes.now number }
     requires direction { ends.now.gives.now.direction ≡ directions.Out }
     requires gives { IsInside (placed wires.now.uses.names.tree.now) directions.Out ends.now.gives.now.ports }
@@ -126,10 +126,10 @@ fn links_below(
 }
 
 // Those below its subcomponents.
-fn links_deeper(wires: &Wires<'_>, counts: &[usize], number: usize, limit: usize) -> usize
+fn links_deeper(wires: &PackageConnections<'_>, counts: &[usize], number: usize, limit: usize) -> usize
     requires { (s m : ℕ) → below (placed wires.now.uses.names.tree.now) number s ≡ Some m
         → IsNumber limit (EndsLink (placed wires.now.uses.names.tree.now) m) (slice_index counts.now m) }
-    ensures { IsNumber limit (λ port. (s : ℕ) × Deeper (placed wires.now.uses.names.tree.now) number s port) result }
+    ensures { IsNumber limit (λ port. (s : ℕ) × IsLinkBelow (placed wires.now.uses.names.tree.now) number s port) result }
 {
     let mut count = 0;
     for target in wires.uses.targets(number) {
@@ -139,8 +139,8 @@ fn links_deeper(wires: &Wires<'_>, counts: &[usize], number: usize, limit: usize
 }
 
 // Those that its connections carry.
-fn links_carried(wires: &Wires<'_>, ends: &LinkEnds<'_>, number: usize, limit: usize) -> usize
-    requires declared { AreDeclared (placed wires.now.uses.names.tree.now) }
+fn links_carried(wires: &PackageConnections<'_>, ends: &LinkEnds<'_>, number: usize, limit: usize) -> usize
+    requires declared { ArePermitted (placed wires.now.uses.names.tree.now) }
     requires takes { AreTakenBelow (placed wires.now.uses.names.tree.now) limit ends.now.takes.now number }
     requires direction { ends.now.gives.now.direction ≡ directions.Out }
     requires gives { IsInside (placed wires.now.uses.names.tree.now) directions.Out ends.now.gives.now.ports }
@@ -156,15 +156,15 @@ fn links_carried(wires: &Wires<'_>, ends: &LinkEnds<'_>, number: usize, limit: u
 
 // Those that one connection carries.
 fn carried(
-    wires: &Wires<'_>,
+    wires: &PackageConnections<'_>,
     ends: &LinkEnds<'_>,
     number: usize,
     at: usize,
-    wire: Wire,
+    wire: ConnectionPorts,
     limit: usize,
 ) -> usize
-    requires wire { slice_get (wires_at (placed wires.now.uses.names.tree.now) number) at ≡ Some wire }
-    requires declared { AreDeclared (placed wires.now.uses.names.tree.now) }
+    requires wire { slice_get (connection_ports_at (placed wires.now.uses.names.tree.now) number) at ≡ Some wire }
+    requires declared { ArePermitted (placed wires.now.uses.names.tree.now) }
     requires takes { AreTakenBelow (placed wires.now.uses.names.tree.now) limit ends.now.takes.now number }
     requires direction { ends.now.gives.now.direction ≡ directions.Out }
     requires gives { IsInside (placed wires.now.uses.names.tree.now) directions.Out ends.now.gives.now.ports }
@@ -172,14 +172,14 @@ fn carried(
 {
     match wire.source {
         Some(source) => match source {
-            PortPlace::Inner(sub, port) => {
+            NumberedPort::Inner(sub, port) => {
                 if ends.gives.reaches(wires, number, sub, port) {
                     ends.takes.through(wires, number, at, wire, limit)
                 } else {
                     0
                 }
             }
-            PortPlace::Own(_) => 0,
+            NumberedPort::Own(_) => 0,
         },
         None => 0,
     }

@@ -11,9 +11,9 @@ ghost use Rattle.aadl_chains.specs.proof.PortsJoinedOutside.{AreLedIfUsed};
 
 use crate::inner_joins::{InnerJoins, inner_end, outer_end, reaches_in};
 use crate::port_set::{PortAt, Ports};
-use aadl_names::PortPlace;
+use aadl_names::NumberedPort;
 use aadl_tree::Direction;
-use aadl_uses::{Wire, Wires};
+use aadl_uses::{ConnectionPorts, PackageConnections};
 use indexmap::IndexSet;
 use std::alloc::{AllocError, Global};
 
@@ -39,7 +39,7 @@ impl OuterJoins {
     /// ports inside are of the opposite direction.
     pub fn of(
         alloc: Global,
-        wires: &Wires<'_>,
+        wires: &PackageConnections<'_>,
         inside: &InnerJoins,
         order: &IndexSet<usize>,
         used: &IndexSet<usize>,
@@ -58,10 +58,10 @@ impl OuterJoins {
     /// Whether connections lead from an end of a connection of an implementation in use to a thread or the root.
     pub fn leads(
         &self,
-        wires: &Wires<'_>,
+        wires: &PackageConnections<'_>,
         inside: &InnerJoins,
         declaration: usize,
-        site: PortPlace,
+        site: NumberedPort,
     ) -> bool
         requires outside { IsOutside (placed wires.now.uses.names.tree.now) self.now.side.root self.now.side.direction self.now.ports }
         requires opposite { inside.now.direction ≡ opposite self.now.side.direction }
@@ -82,7 +82,7 @@ impl OuterJoins {
 // All ports that lead out.
 fn ports_of(
     alloc: Global,
-    wires: &Wires<'_>,
+    wires: &PackageConnections<'_>,
     inside: &InnerJoins,
     order: &IndexSet<usize>,
     used: &IndexSet<usize>,
@@ -107,7 +107,7 @@ fn ports_of(
 // Adds what the connections of a declaration lead, if it is in use.
 fn lead_if_used(
     ports: &mut Ports,
-    wires: &Wires<'_>,
+    wires: &PackageConnections<'_>,
     inside: &InnerJoins,
     used: &IndexSet<usize>,
     side: PortSearch,
@@ -128,7 +128,7 @@ fn lead_if_used(
 // Adds what the connections of an implementation in use lead.
 fn lead_each(
     ports: &mut Ports,
-    wires: &Wires<'_>,
+    wires: &PackageConnections<'_>,
     inside: &InnerJoins,
     side: PortSearch,
     number: usize,
@@ -147,11 +147,11 @@ fn lead_each(
 // Adds what a connection leads.
 fn lead(
     ports: &mut Ports,
-    wires: &Wires<'_>,
+    wires: &PackageConnections<'_>,
     inside: &InnerJoins,
     side: PortSearch,
     number: usize,
-    wire: Wire,
+    wire: ConnectionPorts,
 ) -> Result<(), AllocError>
     requires opposite { inside.now.direction ≡ opposite side.direction }
     requires inside { IsInside (placed wires.now.uses.names.tree.now) (opposite side.direction) inside.now.ports }
@@ -166,11 +166,11 @@ fn lead(
 // The port of a subcomponent that a connection leads.
 fn led(
     ports: &Ports,
-    wires: &Wires<'_>,
+    wires: &PackageConnections<'_>,
     inside: &InnerJoins,
     side: PortSearch,
     number: usize,
-    wire: Wire,
+    wire: ConnectionPorts,
 ) -> Option<PortAt>
     requires { inside.now.direction ≡ opposite side.direction }
     ensures { result ≡ spec.led_by ports.now inside.now.ports (placed wires.now.uses.names.tree.now) side.root side.direction number wire }
@@ -192,24 +192,24 @@ fn led(
 // Whether an end of a connection leads to a thread or the root, as the sets have it.
 fn leads_from(
     ports: &Ports,
-    wires: &Wires<'_>,
+    wires: &PackageConnections<'_>,
     inside: &InnerJoins,
     side: PortSearch,
     number: usize,
-    site: Option<PortPlace>,
+    site: Option<NumberedPort>,
 ) -> bool
     requires { inside.now.direction ≡ opposite side.direction }
     ensures { result ≡ spec.leads_from ports.now inside.now.ports (placed wires.now.uses.names.tree.now) side.root side.direction number site }
 {
     match site {
-        Some(PortPlace::Own(port)) => {
+        Some(NumberedPort::Own(port)) => {
             number == side.root
                 || ports.has(PortAt {
                     declaration: number,
                     port,
                 })
         }
-        Some(PortPlace::Inner(sub, port)) => {
+        Some(NumberedPort::Inner(sub, port)) => {
             let below = wires.uses.below(number, sub);
             reaches_in(&inside.ports, wires, inside.direction, below, port)
         }
@@ -218,12 +218,12 @@ fn leads_from(
 }
 
 // The port of a subcomponent that an end of a connection names.
-fn port_in(wires: &Wires<'_>, number: usize, site: Option<PortPlace>) -> Option<PortAt>
+fn port_in(wires: &PackageConnections<'_>, number: usize, site: Option<NumberedPort>) -> Option<PortAt>
     ensures { result ≡ spec.port_in (placed wires.now.uses.names.tree.now) number site }
 {
     match site {
-        Some(PortPlace::Inner(sub, port)) => port_below(wires.uses.below(number, sub), port),
-        Some(PortPlace::Own(_)) => None,
+        Some(NumberedPort::Inner(sub, port)) => port_below(wires.uses.below(number, sub), port),
+        Some(NumberedPort::Own(_)) => None,
         None => None,
     }
 }

@@ -2,20 +2,20 @@
 ghost use Rattle.std.specs.Prelude.{◌≡◌, ◌+◌, ℕ, min, Some, slice_get, IfOk, OnOk, Contains, if◌then◌else◌};
 ghost use Rattle.aadl_tree.specs.proof.PackageViews.{placed};
 ghost use Rattle.aadl_uses.specs.proof.PackageContainment.{containment};
-ghost use Rattle.aadl_uses.specs.Wiring.{wires_at};
+ghost use Rattle.aadl_uses.specs.Wiring.{connection_ports_at};
 ghost use Rattle.aadl_uses.specs.proof.ContainmentOrders.{IsOrder};
 ghost use Rattle.aadl_chains.specs.declared.port_set.PortAt.{PortAt};
 ghost use Rattle.aadl_chains.specs.proof.PortSets.{same_port};
-ghost use Rattle.aadl_chains.specs.proof.DeclaredEnds.{AreDeclared};
+ghost use Rattle.aadl_chains.specs.proof.DeclaredEnds.{ArePermitted};
 ghost use Rattle.aadl_chains.specs.proof.LimitedCounts.{IsNumber};
-ghost use Rattle.aadl_chains.specs.proof.EnteredPortCountTables.{taken, taken_by, AreTaken, AreTakenBelow, IsTaken};
+ghost use Rattle.aadl_chains.specs.proof.EnteredPortCountTables.{entered_count, entered_count_by, AreCounted, AreTakenBelow, IsCounted};
 ghost use Rattle.aadl_chains.specs.proof.EnteredPortCountTables.{AreAdded};
-ghost use Rattle.aadl_chains.specs.proof.EnteredThreadPorts.{Through};
+ghost use Rattle.aadl_chains.specs.proof.EnteredThreadPorts.{IsEnteredThrough};
 
 use crate::PortAt;
-use aadl_names::PortPlace;
+use aadl_names::NumberedPort;
 use aadl_uses::marked_counts::add_up_to;
-use aadl_uses::{Wire, Wires};
+use aadl_uses::{ConnectionPorts, PackageConnections};
 use indexmap::{IndexMap, IndexSet};
 use std::alloc::{AllocError, Global};
 use std::marker::Model;
@@ -46,13 +46,13 @@ impl PortCounts {
     /// contains.
     pub fn of(
         alloc: Global,
-        wires: &Wires<'_>,
+        wires: &PackageConnections<'_>,
         order: &IndexSet<usize>,
         limit: usize,
     ) -> Result<PortCounts, AllocError>
         requires order { IsOrder (containment (placed wires.now.uses.names.tree.now)) order.now.keys }
-        requires declared { AreDeclared (placed wires.now.uses.names.tree.now) }
-        ensures { IfOk result (λ takes. (n : ℕ) → Contains order.now.keys n → AreTaken (placed wires.now.uses.names.tree.now) limit takes n) }
+        requires declared { ArePermitted (placed wires.now.uses.names.tree.now) }
+        ensures { IfOk result (λ takes. (n : ℕ) → Contains order.now.keys n → AreCounted (placed wires.now.uses.names.tree.now) limit takes n) }
     {
         let mut takes = PortCounts {
             numbers: IndexMap::new(alloc),
@@ -70,27 +70,27 @@ impl PortCounts {
     /// A connection into a port into which one before it goes leads nowhere.
     pub fn through(
         &self,
-        wires: &Wires<'_>,
+        wires: &PackageConnections<'_>,
         number: usize,
         at: usize,
-        wire: Wire,
+        wire: ConnectionPorts,
         limit: usize,
     ) -> usize
-        requires wire { slice_get (wires_at (placed wires.now.uses.names.tree.now) number) at ≡ Some wire }
-        requires declared { AreDeclared (placed wires.now.uses.names.tree.now) }
+        requires wire { slice_get (connection_ports_at (placed wires.now.uses.names.tree.now) number) at ≡ Some wire }
+        requires declared { ArePermitted (placed wires.now.uses.names.tree.now) }
         ensures { AreTakenBelow (placed wires.now.uses.names.tree.now) limit self.now number
-            → IsNumber limit (Through (placed wires.now.uses.names.tree.now) number at) result }
+            → IsNumber limit (IsEnteredThrough (placed wires.now.uses.names.tree.now) number at) result }
     {
         match wire.target {
             Some(target) => match target {
-                PortPlace::Inner(sub, port) => {
+                NumberedPort::Inner(sub, port) => {
                     if wires.is_second(number, at) {
                         0
                     } else {
                         self.below(wires, wires.uses.below(number, sub), port, limit)
                     }
                 }
-                PortPlace::Own(_) => 0,
+                NumberedPort::Own(_) => 0,
             },
             None => 0,
         }
@@ -99,12 +99,12 @@ impl PortCounts {
     // To how many a port of a declaration leads, or of a thread whether it goes in.
     fn below(
         &self,
-        wires: &Wires<'_>,
+        wires: &PackageConnections<'_>,
         declaration: Option<usize>,
         port: usize,
         limit: usize,
     ) -> usize
-        ensures { result ≡ taken_by limit self.now (placed wires.now.uses.names.tree.now) declaration port }
+        ensures { result ≡ entered_count_by limit self.now (placed wires.now.uses.names.tree.now) declaration port }
     {
         match declaration {
             Some(declaration) => {
@@ -124,7 +124,7 @@ impl PortCounts {
 
     // The number of a port.
     fn at(&self, port: PortAt) -> usize
-        ensures { result ≡ taken self.now port }
+        ensures { result ≡ entered_count self.now port }
     {
         match self.numbers.get(&port) {
             Some(number) => *number,
@@ -133,8 +133,8 @@ impl PortCounts {
     }
 
     // Adds what the connections of an implementation lead to.
-    fn add_all(&mut self, wires: &Wires<'_>, number: usize, limit: usize) -> Result<(), AllocError>
-        requires { AreDeclared (placed wires.now.uses.names.tree.now) }
+    fn add_all(&mut self, wires: &PackageConnections<'_>, number: usize, limit: usize) -> Result<(), AllocError>
+        requires { ArePermitted (placed wires.now.uses.names.tree.now) }
         ensures { OnOk result (AreAdded (placed wires.now.uses.names.tree.now) limit number self.old self.new) }
     {
         for (at, wire) in wires.wires(number).iter().enumerate() {
@@ -146,19 +146,19 @@ impl PortCounts {
     // Adds what a connection leads to, if it comes from an own port.
     fn add(
         &mut self,
-        wires: &Wires<'_>,
+        wires: &PackageConnections<'_>,
         number: usize,
         at: usize,
-        wire: Wire,
+        wire: ConnectionPorts,
         limit: usize,
     ) -> Result<(), AllocError>
-        requires wire { slice_get (wires_at (placed wires.now.uses.names.tree.now) number) at ≡ Some wire }
-        requires declared { AreDeclared (placed wires.now.uses.names.tree.now) }
-        ensures { OnOk result (IsTaken (placed wires.now.uses.names.tree.now) limit number at wire self.old self.new) }
+        requires wire { slice_get (connection_ports_at (placed wires.now.uses.names.tree.now) number) at ≡ Some wire }
+        requires declared { ArePermitted (placed wires.now.uses.names.tree.now) }
+        ensures { OnOk result (IsCounted (placed wires.now.uses.names.tree.now) limit number at wire self.old self.new) }
     {
         match wire.source {
             Some(source) => match source {
-                PortPlace::Own(port) => {
+                NumberedPort::Own(port) => {
                     let more = self.through(wires, number, at, wire, limit);
                     let port = PortAt {
                         declaration: number,
@@ -166,7 +166,7 @@ impl PortCounts {
                     };
                     self.increase(port, more, limit)
                 }
-                PortPlace::Inner(_, _) => Ok(()),
+                NumberedPort::Inner(_, _) => Ok(()),
             },
             None => Ok(()),
         }
@@ -175,7 +175,7 @@ impl PortCounts {
     // Adds to the number of a port.
     fn increase(&mut self, port: PortAt, more: usize, limit: usize) -> Result<(), AllocError>
         ensures { OnOk result ((other : PortAt)
-            → taken self.new other ≡ (if same_port port other then min limit (taken self.old port + more) else taken self.old other)) }
+            → entered_count self.new other ≡ (if same_port port other then min limit (entered_count self.old port + more) else entered_count self.old other)) }
     {
         let number = add_up_to(limit, self.at(port), more);
         self.numbers.insert(port, number)?;

@@ -2,7 +2,7 @@
 -- canonical text is read back.
 use Rattle.std.specs.Prelude.{ℕ, ◌≡◌, ◌==◌, Bool, true, not, ◌&&◌, ◌||◌, List, [], ◌∷◌}
 use Rattle.aadl_tree.specs.declared.mark.Mark.TheVariants as k
-use Rattle.aadl_tree.specs.Terminals.{Kind}
+use Rattle.aadl_tree.specs.Terminals.{PlainTerminal}
 use Rattle.aadl_grammar.specs.proof.GrammarSymbols.{Class, a_word, an_unread, the}
 use Rattle.aadl_grammar.specs.proof.StackMachine.{class_number, kind_number}
 
@@ -22,6 +22,6 @@ may_stand_behind p n =
     && (of_class p a_word || not (of_class n an_unread || of_class n (the k.AnnexOpen)))))))
 
 -- each terminal may stand behind the one before it
-abbrev pub AreNeighbours : ℕ → List Kind → Type 0
+abbrev pub AreNeighbours : ℕ → List PlainTerminal → Type 0
 AreNeighbours p [] = Unit {0}
 AreNeighbours p (kind ∷ ks) = (may_stand_behind p (kind_number kind) ≡ true) × AreNeighbours (kind_number kind) ks

@@ -5,13 +5,13 @@ use Rattle.std.proofs.lemmas.Bool.{and_from}
 use Rattle.aadl_tree.specs.declared.mark.Mark.{Mark}
 use Rattle.aadl_tree.specs.declared.mark.Mark.TheVariants as k
 use Rattle.aadl_tree.specs.proof.MarkNumbers.{mark_number}
-use Rattle.aadl_tree.specs.Terminals.{Kind}
+use Rattle.aadl_tree.specs.Terminals.{PlainTerminal}
 use Rattle.aadl_grammar.specs.proof.GrammarSymbols.{Class, a_word, a_whole, a_real, a_quoted, an_unread, the, Symbol}
 use Rattle.aadl_grammar.specs.proof.GrammarSymbols as s
 use Rattle.aadl_grammar.specs.proof.StackMachine.{class_number, kind_number, whole_package}
 use Rattle.aadl_grammar.proofs.DerivationTrees.DerivationsAndMachineSteps.{Derives}
 use Rattle.aadl_grammar.proofs.AdjacencyRules.{of_class, AreNeighbours}
-use Rattle.aadl_grammar.proofs.StackAdjacency.{neat, on_top, seam, Guard, Beside, guarded}
+use Rattle.aadl_grammar.proofs.StackAdjacency.{pairs_hold, on_top, seam, Guard, Beside, guarded}
 use Rattle.aadl_grammar.proofs.ParseTableAdjacency.{after_check, after_beside, after_guard, before_check, before_beside}
 use Rattle.aadl_grammar.proofs.ParseTableAdjacency.{before_guard}
 
@@ -142,7 +142,7 @@ class_stands an_unread = refl
 class_stands (the k.Package) = refl
 class_stands (the _) = refl
 
-neat_any : (f : List Symbol) → neat any_pair f ≡ true
+neat_any : (f : List Symbol) → pairs_hold any_pair f ≡ true
 neat_any [] = refl
 neat_any (x ∷ []) = refl
 neat_any (x ∷ (y ∷ f)) = neat_any (y ∷ f)
@@ -165,7 +165,7 @@ class_guard = record {
   takes = λ p x r m h. class_stands r.first;
 }
 
-all_beside : (p : ℕ) (ks : List Kind) → Beside (after_beside (class_number (the k.Dot)) is_word) p ks
+all_beside : (p : ℕ) (ks : List PlainTerminal) → Beside (after_beside (class_number (the k.Dot)) is_word) p ks
     → Beside (after_beside (class_number (the k.Bang)) is_group) p ks
     → Beside (after_beside (class_number (the k.Colon)) no_colon) p ks
     → Beside (before_beside (class_number a_word) is_dot) p ks
@@ -181,7 +181,7 @@ all_beside p (kind ∷ ks) (a, a_s) (b, b_s) (c, c_s) (d, d_s) (e, e_s) (f, f_s)
   all_beside (kind_number kind) ks a_s b_s c_s d_s e_s f_s,
 )
 
-pub neighbours : (ks : List Kind) → Derives whole_package ks → AreNeighbours 0 ks
+pub neighbours : (ks : List PlainTerminal) → Derives whole_package ks → AreNeighbours 0 ks
 neighbours ks d =
     all_beside 0 ks
     (guarded _ _ _ (after_guard (class_number (the k.Dot)) names_one nothing_more is_word dot_checked) 0 whole_package

@@ -8,7 +8,7 @@ use Rattle.aadl_lex.specs.Tokens.{AreInOrder}
 use Rattle.aadl_lex.proofs.TokenOrder.{order_lexes}
 use Rattle.aadl_lex.proofs.UniqueTokens.{lexes_one}
 use Rattle.aadl_tree.specs.declared.mark.Mark.TheVariants as k
-use Rattle.aadl_tree.specs.Terminals.{Kind, mark, inside_behind, spots_from, spots, kinds_of}
+use Rattle.aadl_tree.specs.Terminals.{PlainTerminal, mark, inside_behind, spots_from, placed_terminals, kinds_of}
 use Rattle.aadl_tree.specs.SpellingParts.{Spells, Written, kept}
 use Rattle.aadl_tree.specs.Declarations.{PackageTree, package_parts}
 use Rattle.aadl_tree.specs.proof.PlaceMaps.{package_to, no_place}
@@ -24,10 +24,10 @@ use Rattle.aadl_grammar.proofs.DerivationTrees.DerivationsAndMachineSteps.{Deriv
 use Rattle.aadl_grammar.proofs.UniquePlacedTrees.PackagesAndBehaviours.{one_placed_package}
 use Rattle.aadl_grammar.proofs.UniquePlacedTrees.KeptTerminalTrees.{same_package}
 use Rattle.aadl_grammar.proofs.Fates.GrammarLanguages.{packages}
-use Rattle.aadl_grammar.specs.proof.CanonicalRoundTrip.{HasTree}
+use Rattle.aadl_grammar.specs.proof.CanonicalRoundTrip.{HasSameTree}
 use Rattle.aadl_grammar.proofs.AdjacentTerminals.{neighbours}
 use Rattle.aadl_grammar.proofs.KeptTerminalNesting.{kept_shallow}
-use Rattle.aadl_grammar.proofs.PossibleTerminals.{Said, kept_said}
+use Rattle.aadl_grammar.proofs.PossibleTerminals.{ArePossibleTerminals, kept_said}
 use Rattle.aadl_grammar.proofs.CanonicalTextLexing.{outer}
 use Rattle.aadl_grammar.proofs.PossibleLexedTerminals.{text_terminals_possible}
 use Rattle.aadl_grammar.proofs.CanonicalUtf8.{text_utf8}
@@ -47,7 +47,7 @@ rising inside text from to (t ∷ ts) (start, some, order) = (
   rising (inside_behind inside t.kind) text t.end to ts order,
 )
 
-derived : (tree : PackageTree ℕ) (ks : List Kind) → Spells (package_parts tree) ks [] → Derives whole_package ks
+derived : (tree : PackageTree ℕ) (ks : List PlainTerminal) → Spells (package_parts tree) ks [] → Derives whole_package ks
 derived tree ks s = packages.derived ks (record { tree = tree; spelled = s })
 
 -- the canonical text does not hang on places
@@ -58,25 +58,25 @@ canon_of tree = sym (ap canonical (alike_kept (package_alike no_place tree)))
 pub no_other : (text : List ℕ) (tree other : PackageTree ℕ) → IsTreeOf text tree → IsTreeOf text other → tree ≡ other
 no_other text tree other h g =
     let tokens = lexes_one Outside text 0 h.tokens g.tokens h.lexed.lexed g.lexed.lexed in
-    one_placed_package (spots text h.tokens) tree other h.written
-    (subst (λ (ts : List Token). Written (package_parts other) (spots text ts) []) (sym tokens) g.written)
+    one_placed_package (placed_terminals text h.tokens) tree other h.written
+    (subst (λ (ts : List Token). Written (package_parts other) (placed_terminals text ts) []) (sym tokens) g.written)
 
 pub reads_back : (text : List ℕ) (tree : PackageTree ℕ) → IsTreeOf text tree
-    → HasTree (canon tree) (package_to no_place tree)
+    → HasSameTree (canon tree) (package_to no_place tree)
 reads_back text tree h =
     let parts = package_parts tree in
-    let first = kinds_of (spots text h.tokens) in
-    let spelled : Spells parts first [] = written_spells parts (spots text h.tokens) [] h.written in
+    let first = kinds_of (placed_terminals text h.tokens) in
+    let spelled : Spells parts first [] = written_spells parts (placed_terminals text h.tokens) [] h.written in
     let near = neighbours first (derived tree first spelled) in
-    let said : Said Outside (kept parts) =
+    let said : ArePossibleTerminals Outside (kept parts) =
     kept_said parts 0 Outside first spelled near (text_terminals_possible text h.tokens h.lexed) in
     let again : Spells parts (kept parts) [] =
-    subst (λ (l : List Kind). Spells parts l []) (append-nil (kept parts)) (kept_spells parts []) in
+    subst (λ (l : List PlainTerminal). Spells parts l []) (append-nil (kept parts)) (kept_spells parts []) in
     let beside = neighbours (kept parts) (derived tree (kept parts) again) in
     let lexed = outer (mark k.ParenOpen) (kept parts) Outside (canon tree) 0 refl (refl, beside.1) said refl in
     let order = order_lexes Outside text 0 h.tokens (omega arith) h.lexed.lexed in
     let moved =
-    same_package tree (spots text h.tokens) (spots (canon tree) lexed.tokens) h.written
+    same_package tree (placed_terminals text h.tokens) (placed_terminals (canon tree) lexed.tokens) h.written
     (rising false text 0 (length text) h.tokens order) lexed.kinds in
     let shallow = kept_shallow 0 parts first spelled h.shallow in
     record {

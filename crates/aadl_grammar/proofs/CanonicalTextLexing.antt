@@ -12,13 +12,13 @@ use Rattle.aadl_lex.specs.Rules.{is_blank, close_from, first, after}
 use Rattle.aadl_lex.specs.Tokens.{token, Lexes, ended, takes, reads}
 use Rattle.aadl_tree.specs.declared.mark.Mark.TheVariants as k
 use Rattle.aadl_tree.specs.KeywordsAndSymbols.{mark_text, keyword_of, symbol_of}
-use Rattle.aadl_tree.specs.Terminals.{Kind, mark, class_kind, inside_behind, spots_from, kinds_of}
+use Rattle.aadl_tree.specs.Terminals.{PlainTerminal, mark, class_kind, inside_behind, spots_from, kinds_of}
 use Rattle.aadl_tree.specs.CanonicalText.{kind_text, line_end, between, text_behind}
 use Rattle.aadl_grammar.specs.proof.StackMachine.{kind_number}
 use Rattle.aadl_grammar.proofs.AdjacencyRules.{AreNeighbours}
 use Rattle.aadl_grammar.proofs.LiteralAndAnnexLexing.{body_first}
-use Rattle.aadl_grammar.proofs.PossibleTerminals.{is_inside, Spoken, a_word, a_number, a_real, a_string, an_annex}
-use Rattle.aadl_grammar.proofs.PossibleTerminals.{a_keyword, a_symbol, opens, closes, behind, Said}
+use Rattle.aadl_grammar.proofs.PossibleTerminals.{is_inside, IsPossibleTerminal, a_word, a_number, a_real, a_string, an_annex}
+use Rattle.aadl_grammar.proofs.PossibleTerminals.{a_keyword, a_symbol, opens, closes, behind, ArePossibleTerminals}
 use Rattle.aadl_grammar.proofs.TerminalRelexing.{Ends, Lexed, IsPlain, lexed}
 use Rattle.aadl_grammar.proofs.TerminalSeparation.{ends_behind}
 use Rattle.aadl_grammar.proofs.NoAnnexEnds.{close_past, kind_past, close_at}
@@ -26,13 +26,13 @@ use Rattle.aadl_grammar.proofs.TextPieces.{line, is_gap, gap_blank, stands_withi
 use Rattle.aadl_grammar.proofs.TextPieces.{token_bytes, close_gap}
 
 -- from a place outside on
-pub record Outer (r : Reading) (text : List ℕ) (at : ℕ) (ks : List Kind) : Type 0 where
+pub record Outer (r : Reading) (text : List ℕ) (at : ℕ) (ks : List PlainTerminal) : Type 0 where
   pub tokens : List Token
   pub lexes : Lexes r text at tokens
   pub kinds : kinds_of (spots_from false text tokens) ≡ ks
 
 -- from a place inside on: the rest of the body, and what stands behind it
-record Inner (text : List ℕ) (at : ℕ) (left : List ℕ) (ks : List Kind) : Type 0 where
+record Inner (text : List ℕ) (at : ℕ) (left : List ℕ) (ks : List PlainTerminal) : Type 0 where
   size : ℕ
   closed : close_from 0 left ≡ Some size
   body : List Token
@@ -41,12 +41,12 @@ record Inner (text : List ℕ) (at : ℕ) (left : List ℕ) (ks : List Kind) : T
   outside : Lexes Outside text (at + size + 3) rest
   kinds : kinds_of (spots_from true text (body ++ token AnnexClose (at + size) 3 ∷ rest)) ≡ ks
 
-ends_cut : (kind : Kind) (s : List ℕ) (m : ℕ) → Ends kind s → Ends kind (take m s)
+ends_cut : (kind : PlainTerminal) (s : List ℕ) (m : ℕ) → Ends kind s → Ends kind (take m s)
 ends_cut kind s zero e = tt
 ends_cut kind [] (suc m) e = tt
 ends_cut kind (h ∷ t) (suc m) e = e
 
-which : (kind : Kind) → ((kind ≡ mark k.AnnexOpen) ⊎ (kind ≡ mark k.AnnexClose)) ⊎ IsPlain kind
+which : (kind : PlainTerminal) → ((kind ≡ mark k.AnnexOpen) ⊎ (kind ≡ mark k.AnnexClose)) ⊎ IsPlain kind
 which (mark k.AnnexOpen) = inl (inl refl)
 which (mark k.AnnexClose) = inl (inr refl)
 which (mark _) = inr ((λ e. cc), (λ e. cc))
@@ -58,7 +58,7 @@ keyword_no_end : (b : Bool)
 keyword_no_end true = (refl, refl)
 keyword_no_end false = (refl, refl)
 
-opened : (r : Reading) (kind : Kind) → kind ≡ mark k.AnnexOpen → Spoken r kind → r ≡ AfterName
+opened : (r : Reading) (kind : PlainTerminal) → kind ≡ mark k.AnnexOpen → IsPossibleTerminal r kind → r ≡ AfterName
 opened r _ e (a_word _ b w h) = absurd cc
 opened r _ e (a_number _ n h) = absurd cc
 opened r _ e (a_real _ b h) = absurd cc
@@ -73,7 +73,7 @@ opened r _ e (a_symbol _ m h) =
 opened _ _ e opens = refl
 opened _ _ e closes = absurd cc
 
-closed_inside : (r : Reading) (kind : Kind) → kind ≡ mark k.AnnexClose → Spoken r kind → r ≡ Inside
+closed_inside : (r : Reading) (kind : PlainTerminal) → kind ≡ mark k.AnnexClose → IsPossibleTerminal r kind → r ≡ Inside
 closed_inside r _ e (a_word _ b w h) = absurd cc
 closed_inside r _ e (a_number _ n h) = absurd cc
 closed_inside r _ e (a_real _ b h) = absurd cc
@@ -89,18 +89,18 @@ closed_inside _ _ e closes = refl
 closed_inside _ _ e opens = absurd cc
 
 -- one token, and the tokens behind it
-spots_first : (inside : Bool) (text : List ℕ) (class : TokenKind) (at : ℕ) (kind : Kind) (s : List ℕ) (ts : List Token)
-    (ks : List Kind) → drop at text ≡ kind_text kind ++ s
+spots_first : (inside : Bool) (text : List ℕ) (class : TokenKind) (at : ℕ) (kind : PlainTerminal) (s : List ℕ) (ts : List Token)
+    (ks : List PlainTerminal) → drop at text ≡ kind_text kind ++ s
     → class_kind inside class (kind_text kind) ≡ kind → inside_behind inside class ≡ inside
     → kinds_of (spots_from inside text ts) ≡ ks
     → kinds_of (spots_from inside text (token class at (length (kind_text kind)) ∷ ts)) ≡ kind ∷ ks
 spots_first inside text class at kind s ts ks e read stays more =
-    ap₂ (λ (x : Kind) (l : List Kind). x ∷ l)
+    ap₂ (λ (x : PlainTerminal) (l : List PlainTerminal). x ∷ l)
     (ap (class_kind inside class) (token_bytes text class at (kind_text kind) s e) ∙ read)
     (ap (λ (b : Bool). kinds_of (spots_from b text ts)) stays ∙ more)
 
 -- a terminal is taken, and the text is read on behind it
-token_taken : (r : Reading) (text : List ℕ) (at : ℕ) (kind : Kind) (s : List ℕ) (ts : List Token) (l : Lexed r kind s)
+token_taken : (r : Reading) (text : List ℕ) (at : ℕ) (kind : PlainTerminal) (s : List ℕ) (ts : List Token) (l : Lexed r kind s)
     → drop at text ≡ kind_text kind ++ s
     → Lexes (behind r kind) text (at + length (kind_text kind)) ts
     → Lexes r text at (token l.class at (length (kind_text kind)) ∷ ts)
@@ -112,10 +112,10 @@ token_taken r text at kind s ts l e more =
     (subst (λ (x : Reading). Lexes x text (at + length (kind_text kind)) ts)
     (sym (ap (after r l.class) bytes ∙ l.goes)) more)
 
-outer_plain : (p kind : Kind) (ks : List Kind) (r : Reading) (text : List ℕ) (at : ℕ) → is_inside r ≡ false
-    → AreNeighbours (kind_number kind) ks → Spoken r kind → Said (behind r kind) ks → IsPlain kind
+outer_plain : (p kind : PlainTerminal) (ks : List PlainTerminal) (r : Reading) (text : List ℕ) (at : ℕ) → is_inside r ≡ false
+    → AreNeighbours (kind_number kind) ks → IsPossibleTerminal r kind → ArePossibleTerminals (behind r kind) ks → IsPlain kind
     → drop at text ≡ between p kind ++ (kind_text kind ++ text_behind kind ks)
-    → ((s : Reading) (to : ℕ) → is_inside s ≡ false → Said s ks → drop to text ≡ text_behind kind ks
+    → ((s : Reading) (to : ℕ) → is_inside s ≡ false → ArePossibleTerminals s ks → drop to text ≡ text_behind kind ks
     → Outer s text to ks) → Outer r text at (kind ∷ ks)
 outer_plain p kind ks r text at i near said saids plain e go =
     let here = at + length (between p kind) in
@@ -136,7 +136,7 @@ outer_plain p kind ks r text at i near said saids plain e go =
           (ap (λ (b : Bool). class_kind b l.class (kind_text kind)) (sym i) ∙ l.read) (l.inner false) more.kinds;
     }
 
-outer_opens : (p : Kind) (ks : List Kind) (text : List ℕ) (at : ℕ)
+outer_opens : (p : PlainTerminal) (ks : List PlainTerminal) (text : List ℕ) (at : ℕ)
     → drop at text ≡ between p (mark k.AnnexOpen) ++ (mark_text k.AnnexOpen ++ text_behind (mark k.AnnexOpen) ks)
     → ((to : ℕ) → drop to text ≡ text_behind (mark k.AnnexOpen) ks
     → Inner text to (text_behind (mark k.AnnexOpen) ks) ks) → Outer AfterName text at (mark k.AnnexOpen ∷ ks)
@@ -152,10 +152,10 @@ outer_opens p ks text at e go =
           (reads AfterName text here b.size b.body b.rest
           (stands_within text here (mark_text k.AnnexOpen) left (omega arith) e1)
           (ap (first AfterName here) e1 ∙ body_first here b.size left b.closed) b.inside b.outside);
-      kinds = ap (λ (l : List Kind). mark k.AnnexOpen ∷ l) b.kinds;
+      kinds = ap (λ (l : List PlainTerminal). mark k.AnnexOpen ∷ l) b.kinds;
     }
 
-inner_closes : (p : Kind) (ks : List Kind) (text : List ℕ) (at : ℕ)
+inner_closes : (p : PlainTerminal) (ks : List PlainTerminal) (text : List ℕ) (at : ℕ)
     → drop at text ≡ between p (mark k.AnnexClose) ++ (mark_text k.AnnexClose ++ text_behind (mark k.AnnexClose) ks)
     → ((to : ℕ) → drop to text ≡ text_behind (mark k.AnnexClose) ks → Outer Outside text to ks)
     → Inner text at (between p (mark k.AnnexClose) ++ (mark_text k.AnnexClose ++ text_behind (mark k.AnnexClose) ks))
@@ -180,16 +180,16 @@ inner_closes p ks text at e go =
           gap_skipped Inside (take here text) at [] gap [] (is_gap p (mark k.AnnexClose)) cut
           (ended Inside (take here text) here (let l = length-take-le here text (omega arith) in omega arith));
       outside = more.lexes;
-      kinds = ap (λ (l : List Kind). mark k.AnnexClose ∷ l) more.kinds;
+      kinds = ap (λ (l : List PlainTerminal). mark k.AnnexClose ∷ l) more.kinds;
     }
 
-inside_stays : (kind : Kind) → IsPlain kind → behind Inside kind ≡ Inside
+inside_stays : (kind : PlainTerminal) → IsPlain kind → behind Inside kind ≡ Inside
 inside_stays (mark k.AnnexClose) plain = absurd (plain.1 refl)
 inside_stays (mark _) plain = refl
 inside_stays _ plain = refl
 
-inner_plain : (p kind : Kind) (ks : List Kind) (text : List ℕ) (at : ℕ) → AreNeighbours (kind_number kind) ks
-    → Spoken Inside kind → Said (behind Inside kind) ks → IsPlain kind
+inner_plain : (p kind : PlainTerminal) (ks : List PlainTerminal) (text : List ℕ) (at : ℕ) → AreNeighbours (kind_number kind) ks
+    → IsPossibleTerminal Inside kind → ArePossibleTerminals (behind Inside kind) ks → IsPlain kind
     → drop at text ≡ between p kind ++ (kind_text kind ++ text_behind kind ks)
     → ((to : ℕ) → drop to text ≡ text_behind kind ks → Inner text to (text_behind kind ks) ks)
     → Inner text at (between p kind ++ (kind_text kind ++ text_behind kind ks)) (kind ∷ ks)
@@ -235,8 +235,8 @@ inner_plain p kind ks text at near said saids plain e go =
     }
 
 mutual
-  pub outer : (p : Kind) (ks : List Kind) (r : Reading) (text : List ℕ) (at : ℕ) → is_inside r ≡ false
-      → AreNeighbours (kind_number p) ks → Said r ks → drop at text ≡ text_behind p ks → Outer r text at ks
+  pub outer : (p : PlainTerminal) (ks : List PlainTerminal) (r : Reading) (text : List ℕ) (at : ℕ) → is_inside r ≡ false
+      → AreNeighbours (kind_number p) ks → ArePossibleTerminals r ks → drop at text ≡ text_behind p ks → Outer r text at ks
   outer p [] r text at i near said e = record {
     tokens = [];
     lexes =
@@ -247,26 +247,26 @@ mutual
   outer p (kind ∷ ks) r text at i (near, nears) (said, saids) e = elim (which kind) [
     | inl (inl x) ↦ (
         let after = opened r kind x said in
-        subst (λ (q : Kind). Outer r text at (q ∷ ks)) (sym x)
+        subst (λ (q : PlainTerminal). Outer r text at (q ∷ ks)) (sym x)
         (subst (λ (s : Reading). Outer s text at (mark k.AnnexOpen ∷ ks)) (sym after)
-        (outer_opens p ks text at (subst (λ (q : Kind). drop at text ≡ text_behind p (q ∷ ks)) x e)
-        (λ to f. inner (mark k.AnnexOpen) ks text to (subst (λ (q : Kind). AreNeighbours (kind_number q) ks) x nears)
-        (subst (λ (s : Reading). Said s ks) (ap₂ behind after x) saids) f))))
+        (outer_opens p ks text at (subst (λ (q : PlainTerminal). drop at text ≡ text_behind p (q ∷ ks)) x e)
+        (λ to f. inner (mark k.AnnexOpen) ks text to (subst (λ (q : PlainTerminal). AreNeighbours (kind_number q) ks) x nears)
+        (subst (λ (s : Reading). ArePossibleTerminals s ks) (ap₂ behind after x) saids) f))))
     | inl (inr x) ↦ absurd (let inside = closed_inside r kind x said in let never = ap is_inside inside in cc)
     | inr plain ↦ outer_plain p kind ks r text at i nears said saids plain e
         (λ s to o more f. outer kind ks s text to o nears more f)
   ]
 
-  inner : (p : Kind) (ks : List Kind) (text : List ℕ) (at : ℕ) → AreNeighbours (kind_number p) ks → Said Inside ks
+  inner : (p : PlainTerminal) (ks : List PlainTerminal) (text : List ℕ) (at : ℕ) → AreNeighbours (kind_number p) ks → ArePossibleTerminals Inside ks
       → drop at text ≡ text_behind p ks → Inner text at (text_behind p ks) ks
   inner p [] text at near said e = absurd cc
   inner p (kind ∷ ks) text at (near, nears) (said, saids) e = elim (which kind) [
     | inl (inl x) ↦ absurd (let after = opened Inside kind x said in cc)
-    | inl (inr x) ↦ subst (λ (q : Kind). Inner text at (text_behind p (q ∷ ks)) (q ∷ ks)) (sym x)
-        (inner_closes p ks text at (subst (λ (q : Kind). drop at text ≡ text_behind p (q ∷ ks)) x e)
+    | inl (inr x) ↦ subst (λ (q : PlainTerminal). Inner text at (text_behind p (q ∷ ks)) (q ∷ ks)) (sym x)
+        (inner_closes p ks text at (subst (λ (q : PlainTerminal). drop at text ≡ text_behind p (q ∷ ks)) x e)
         (λ to f. outer (mark k.AnnexClose) ks Outside text to refl
-        (subst (λ (q : Kind). AreNeighbours (kind_number q) ks) x nears)
-        (subst (λ (q : Kind). Said (behind Inside q) ks) x saids) f))
+        (subst (λ (q : PlainTerminal). AreNeighbours (kind_number q) ks) x nears)
+        (subst (λ (q : PlainTerminal). ArePossibleTerminals (behind Inside q) ks) x saids) f))
     | inr plain ↦ inner_plain p kind ks text at nears said saids plain e
-        (λ to f. inner kind ks text to nears (subst (λ (s : Reading). Said s ks) (inside_stays kind plain) saids) f)
+        (λ to f. inner kind ks text to nears (subst (λ (s : Reading). ArePossibleTerminals s ks) (inside_stays kind plain) saids) f)
   ]

@@ -14,12 +14,12 @@ use Rattle.aadl_lex.specs.Rules.{is_blank}
 use Rattle.aadl_tree.specs.declared.mark.Mark.{Mark}
 use Rattle.aadl_tree.specs.declared.mark.Mark.TheVariants as k
 use Rattle.aadl_tree.specs.KeywordsAndSymbols.{mark_text}
-use Rattle.aadl_tree.specs.Terminals.{Kind}
+use Rattle.aadl_tree.specs.Terminals.{PlainTerminal}
 use Rattle.aadl_tree.specs.CanonicalText.{kind_text, line_end, between, text_behind}
 use Rattle.aadl_lex.specs.proof.TokenSpellings.{IsReal}
 use Rattle.aadl_grammar.proofs.LiteralAndAnnexLexing.{number_digits}
-use Rattle.aadl_grammar.proofs.PossibleTerminals.{Spoken, a_word, a_number, a_real, a_string, an_annex, a_keyword}
-use Rattle.aadl_grammar.proofs.PossibleTerminals.{a_symbol, opens, closes, behind, Said}
+use Rattle.aadl_grammar.proofs.PossibleTerminals.{IsPossibleTerminal, a_word, a_number, a_real, a_string, an_annex, a_keyword}
+use Rattle.aadl_grammar.proofs.PossibleTerminals.{a_symbol, opens, closes, behind, ArePossibleTerminals}
 use Rattle.aadl_grammar.proofs.NoAnnexEnds.{all_weaker, all_append}
 use Rattle.aadl_grammar.proofs.TextPieces.{is_gap, gap_blank}
 use Rattle.aadl_grammar.proofs.TerminalSpots.{word_is_text}
@@ -66,7 +66,7 @@ real_utf8 b h =
     ∙ all_append low h.whole (46 ∷ h.fraction) (all_weaker is_ascii_digit low h.whole digit_low h.whole_digits)
     (all_weaker is_ascii_digit low h.fraction digit_low h.fraction_digits))
 
-kind_utf8 : (r : Reading) (kind : Kind) → Spoken r kind → IsUtf8 (kind_text kind)
+kind_utf8 : (r : Reading) (kind : PlainTerminal) → IsPossibleTerminal r kind → IsUtf8 (kind_text kind)
 kind_utf8 r _ (a_word _ b w h) = word_is_text b w
 kind_utf8 r _ (a_number _ n h) =
     low_utf8 (fmt.decimal n) (all_weaker is_ascii_digit low (fmt.decimal n) digit_low (number_digits n h))
@@ -78,7 +78,7 @@ kind_utf8 r _ (a_symbol _ m h) = mark_utf8 m
 kind_utf8 _ _ opens = mark_utf8 k.AnnexOpen
 kind_utf8 _ _ closes = mark_utf8 k.AnnexClose
 
-pub text_utf8 : (r : Reading) (p : Kind) (ks : List Kind) → Said r ks → IsUtf8 (text_behind p ks)
+pub text_utf8 : (r : Reading) (p : PlainTerminal) (ks : List PlainTerminal) → ArePossibleTerminals r ks → IsUtf8 (text_behind p ks)
 text_utf8 r p [] said = low_utf8 line_end refl
 text_utf8 r p (kind ∷ ks) (said, saids) =
     IsUtf8-append (between p kind) (kind_text kind ++ text_behind kind ks)

@@ -2,26 +2,26 @@
 -- text is read back.
 use Rattle.std.proofs.Common.{◌≡◌, ℕ, ◌≤◌, Bool, true, false, ap, subst, refl, List, [], ◌∷◌, ◌++◌, inl, inr, arith}
 use Rattle.aadl_tree.specs.declared.mark.Mark.TheVariants as k
-use Rattle.aadl_tree.specs.Terminals.{Kind, mark}
-use Rattle.aadl_tree.specs.SpellingParts.{Part, token, may, feature_section, subcomponent_section, connection_section}
+use Rattle.aadl_tree.specs.Terminals.{PlainTerminal, mark}
+use Rattle.aadl_tree.specs.SpellingParts.{SpellingPart, token, may, feature_section, subcomponent_section, connection_section}
 use Rattle.aadl_tree.specs.SpellingParts.{property_section, Extra, empty_section, last_semicolon, extra_kinds, Spells}
 use Rattle.aadl_tree.specs.SpellingParts.{kept}
 use Rattle.aadl_tree.specs.declared.nesting_limit.TheConstants.{GREATEST_NESTING}
 use Rattle.aadl_tree.specs.LanguagesAndNesting.{opened, is_end, nesting_from, IsShallow}
 
 -- nowhere are too many open, where n are open before
-abbrev Low : ℕ → Bool → List Kind → Type 0
+abbrev Low : ℕ → Bool → List PlainTerminal → Type 0
 Low n ended [] = n ≤ GREATEST_NESTING
 Low n ended (kind ∷ ks) = (n ≤ GREATEST_NESTING) × Low (opened n ended kind) (is_end kind) ks
 
-low_front : (n : ℕ) (ended : Bool) (front back : List Kind) → Low n ended (front ++ back)
+low_front : (n : ℕ) (ended : Bool) (front back : List PlainTerminal) → Low n ended (front ++ back)
     → nesting_from n ended front ≤ GREATEST_NESTING
 low_front n ended [] [] h = h
 low_front n ended [] (kind ∷ ks) h = h.0
 low_front n ended (kind ∷ front) back h = low_front (opened n ended kind) (is_end kind) front back h.1
 
-front_low : (n : ℕ) (ended : Bool) (ks : List Kind)
-    → ((front back : List Kind) → ks ≡ front ++ back → nesting_from n ended front ≤ GREATEST_NESTING) → Low n ended ks
+front_low : (n : ℕ) (ended : Bool) (ks : List PlainTerminal)
+    → ((front back : List PlainTerminal) → ks ≡ front ++ back → nesting_from n ended front ≤ GREATEST_NESTING) → Low n ended ks
 front_low n ended [] h = h [] [] refl
 front_low n ended (kind ∷ ks) h = (
   h [] (kind ∷ ks) refl,
@@ -42,7 +42,7 @@ same_flag : (n m : ℕ) (flag : Bool) → n ≤ m → NoMore n flag m flag
 same_flag n m true h = (h, refl)
 same_flag n m false h = h
 
-opened_less : (n : ℕ) (ended : Bool) (m : ℕ) (after : Bool) (kind : Kind) → NoMore n ended m after
+opened_less : (n : ℕ) (ended : Bool) (m : ℕ) (after : Bool) (kind : PlainTerminal) → NoMore n ended m after
     → opened n ended kind ≤ opened m after kind
 opened_less n false m true kind h = absurd (let g = h.1 in cc)
 opened_less n true m true (mark k.If) h = let g = h.0 in omega arith
@@ -55,7 +55,7 @@ opened_less n false m false (mark k.If) h = omega arith
 opened_less n false m false (mark _) h = omega arith
 opened_less n false m false _ h = h
 
-low_less : (n : ℕ) (ended : Bool) (m : ℕ) (after : Bool) (ks : List Kind) → NoMore n ended m after → Low m after ks
+low_less : (n : ℕ) (ended : Bool) (m : ℕ) (after : Bool) (ks : List PlainTerminal) → NoMore n ended m after → Low m after ks
     → Low n ended ks
 low_less n ended m after [] h l = let g = no_more n ended m after h in omega arith
 low_less n ended m after (kind ∷ ks) h l =
@@ -68,7 +68,7 @@ low_less n ended m after (kind ∷ ks) h l =
     )
 
 -- behind what means nothing as many are open as before it
-low_behind : (n : ℕ) (ended : Bool) (extra : Extra) (ks : List Kind) → Low n ended (extra_kinds extra ++ ks)
+low_behind : (n : ℕ) (ended : Bool) (extra : Extra) (ks : List PlainTerminal) → Low n ended (extra_kinds extra ++ ks)
     → Low n false ks
 low_behind n true (empty_section feature_section) ks h = h.1.1.1
 low_behind n true (empty_section subcomponent_section) ks h = h.1.1.1
@@ -81,21 +81,21 @@ low_behind n false (empty_section connection_section) ks h = h.1.1.1
 low_behind n false (empty_section property_section) ks h = h.1.1.1
 low_behind n false last_semicolon ks h = h.1
 
-low_kept : {P : Type 0} (ps : List (Part P)) (n : ℕ) (ended : Bool) (ks : List Kind) → Spells ps ks [] → Low n ended ks
+low_kept : {P : Type 0} (ps : List (SpellingPart P)) (n : ℕ) (ended : Bool) (ks : List PlainTerminal) → Spells ps ks [] → Low n ended ks
     → Low n ended (kept ps)
-low_kept [] n ended ks e l = subst (λ (q : List Kind). Low n ended q) e l
+low_kept [] n ended ks e l = subst (λ (q : List PlainTerminal). Low n ended q) e l
 low_kept (token kind places ∷ ps) n ended ks (more, e, s) l =
-    let h = subst (λ (q : List Kind). Low n ended q) e l in
+    let h = subst (λ (q : List PlainTerminal). Low n ended q) e l in
     (h.0, low_kept ps (opened n ended kind) (is_end kind) more s h.1)
 low_kept (may extra ∷ ps) n ended ks (inl s) l = low_kept ps n ended ks s l
 low_kept (may extra ∷ ps) n ended ks (inr (more, e, s)) l =
     low_less n ended n false (kept ps) (omega arith)
-    (low_kept ps n false more s (low_behind n ended extra more (subst (λ (q : List Kind). Low n ended q) e l)))
+    (low_kept ps n false more s (low_behind n ended extra more (subst (λ (q : List PlainTerminal). Low n ended q) e l)))
 
 -- What is kept of terminals that are not nested too deep is not nested too deep.
-pub kept_shallow : {P : Type 0} (outer : ℕ) (ps : List (Part P)) (ks : List Kind) → Spells ps ks [] → IsShallow outer ks
+pub kept_shallow : {P : Type 0} (outer : ℕ) (ps : List (SpellingPart P)) (ks : List PlainTerminal) → Spells ps ks [] → IsShallow outer ks
     → IsShallow outer (kept ps)
 kept_shallow outer ps ks s shallow front back e =
     low_front outer false front back
-    (subst (λ (q : List Kind). Low outer false q) e
+    (subst (λ (q : List PlainTerminal). Low outer false q) e
     (low_kept ps outer false ks s (front_low outer false ks shallow)))

@@ -4,25 +4,25 @@ use Rattle.std.specs.Prelude.{Result, Ok, Err, IfOk, Option, Some, None}
 use Rattle.std.specs.Global.{Vec}
 use Rattle.std.proofs.lemmas.List.Folds.{flat_map-map}
 use Rattle.aadl_tree.specs.declared.mark.Mark.{Mark}
-use Rattle.aadl_tree.specs.Terminals.{Spot}
-use Rattle.aadl_tree.specs.SpellingParts.{Part, behind}
+use Rattle.aadl_tree.specs.Terminals.{PlacedTerminal}
+use Rattle.aadl_tree.specs.SpellingParts.{SpellingPart, behind}
 use Rattle.aadl_grammar.specs.proof.GrammarSymbols.{Symbol}
 use Rattle.aadl_grammar.specs.proof.StackMachine.{Stack, depth, Fate, fate}
 use Rattle.aadl_grammar.specs.declared.reader.Reader.{Reader}
 use Rattle.aadl_grammar.specs.declared.parse_fault.ParseFault.{ParseFault}
 use Rattle.aadl_grammar.specs.proof.ParserAnswers.{here, Reads, RunsTo, Parses}
-use Rattle.aadl_grammar.specs.proof.ListAnswers.{Allows, with_mark, Lists, Answers, ItemsOf, Grows, ParsesMore}
+use Rattle.aadl_grammar.specs.proof.ListAnswers.{Allows, with_mark, IsList, Answers, ItemsOf, Grows, ParsesMore}
 use Rattle.aadl_grammar.proofs.PartSequences.{respelled}
 
-pub spelled : {X Y : Type 0} (before : Option Mark) (f : Y → List (Part ℕ)) (g : X → Y) (xs : List X)
+pub spelled : {X Y : Type 0} (before : Option Mark) (f : Y → List (SpellingPart ℕ)) (g : X → Y) (xs : List X)
     → flat_map (with_mark before (λ x. f (g x))) xs ≡ flat_map (with_mark before f) (map g xs)
 spelled (Some m) f g xs = sym (flat_map-map (behind m f) g xs)
 spelled None f g xs = sym (flat_map-map f g xs)
 
 
 -- a list with the function that reads its items
-abbrev pub items_of : {X Y : Type 0} {r : Reader} {before : Option Mark} {answers : Answers X} (f : Y → List (Part ℕ))
-    (g : X → Y) (allowed : Option ℕ) (item list : Symbol) → Lists before item list
+abbrev pub items_of : {X Y : Type 0} {r : Reader} {before : Option Mark} {answers : Answers X} (f : Y → List (SpellingPart ℕ))
+    (g : X → Y) (allowed : Option ℕ) (item list : Symbol) → IsList before item list
     → ((at : ℕ) (result : Result (X × ℕ) ParseFault) → answers at result
     → Parses r (Allows allowed) (item ∷ []) (λ x. f (g x)) at result) → ItemsOf r before answers
 items_of f g allowed item list lists each =
@@ -30,7 +30,7 @@ items_of f g allowed item list lists each =
 
 
 -- what is read behind nothing is the whole list
-all_read : {X Y : Type 0} (before : Option Mark) (f : Y → List (Part ℕ)) (g : X → Y) (r : Reader) (old : List X)
+all_read : {X Y : Type 0} (before : Option Mark) (f : Y → List (SpellingPart ℕ)) (g : X → Y) (r : Reader) (old : List X)
     (at : ℕ) (result : Result (Vec X × ℕ) ParseFault) → old ≡ []
     → IfOk result (λ y. Grows (with_mark before (λ x. f (g x))) old y.0.items (here r at) (here r y.1))
     → IfOk result (λ y. Reads (flat_map (with_mark before f) (map g y.0.items)) (here r at) (here r y.1))
@@ -41,8 +41,8 @@ all_read before f g r old at (Ok y) n h =
 
 
 pub whole_list : {X Y : Type 0} {r : Reader} {before : Option Mark} {answers : Answers X} {old : List X} {at : ℕ}
-    {result : Result (Vec X × ℕ) ParseFault} (f : Y → List (Part ℕ)) (g : X → Y) (allowed : Option ℕ)
-    (item list : Symbol) → Lists before item list → old ≡ []
+    {result : Result (Vec X × ℕ) ParseFault} (f : Y → List (SpellingPart ℕ)) (g : X → Y) (allowed : Option ℕ)
+    (item list : Symbol) → IsList before item list → old ≡ []
     → ((at : ℕ) (result : Result (X × ℕ) ParseFault) → answers at result
     → Parses r (Allows allowed) (item ∷ []) (λ x. f (g x)) at result)
     → ParsesMore r before answers old at result
@@ -53,9 +53,9 @@ whole_list {X} {Y} {r} {before} {answers} {old} {at} {result} f g allowed item l
 
 
 -- what is read behind a first item is the rest of the list
-rest_read : {X : Type 0} (parts : X → List (Part ℕ)) (r : Reader) (old : List X) (first : X) (at mid : ℕ)
-    (whole : List X → List (Part ℕ)) (result : Result (Vec X × ℕ) ParseFault) → old ≡ first ∷ []
-    → ((more : List X) (rest : List Spot) → Reads (flat_map parts more) (here r mid) rest
+rest_read : {X : Type 0} (parts : X → List (SpellingPart ℕ)) (r : Reader) (old : List X) (first : X) (at mid : ℕ)
+    (whole : List X → List (SpellingPart ℕ)) (result : Result (Vec X × ℕ) ParseFault) → old ≡ first ∷ []
+    → ((more : List X) (rest : List PlacedTerminal) → Reads (flat_map parts more) (here r mid) rest
     → Reads (whole (first ∷ more)) (here r at) rest)
     → IfOk result (λ y. Grows parts old y.0.items (here r mid) (here r y.1))
     → IfOk result (λ y. Reads (whole y.0.items) (here r at) (here r y.1))
@@ -66,11 +66,11 @@ rest_read parts r old first at mid whole (Ok y) n k h =
 
 pub list_from : {X : Type 0} {r : Reader} {before : Option Mark} {answers : Answers X} {old : List X} {at mid : ℕ}
     {wanted : Stack} {result : Result (Vec X × ℕ) ParseFault} (of : ItemsOf r before answers) (first : X)
-    (whole : List X → List (Part ℕ)) → old ≡ first ∷ []
+    (whole : List X → List (SpellingPart ℕ)) → old ≡ first ∷ []
     → ((outer : ℕ) (below : Stack) → Allows of.allowed (outer + depth (wanted ++ below))
     → Allows of.allowed (outer + depth (of.list ∷ below))
     × (fate outer r.end (wanted ++ below) (here r at) ≡ fate outer r.end (of.list ∷ below) (here r mid)))
-    → ((more : List X) (rest : List Spot) → Reads (flat_map (with_mark before of.parts) more) (here r mid) rest
+    → ((more : List X) (rest : List PlacedTerminal) → Reads (flat_map (with_mark before of.parts) more) (here r mid) rest
     → Reads (whole (first ∷ more)) (here r at) rest)
     → ParsesMore r before answers old mid result
     → Parses r (Allows of.allowed) wanted (λ (x : Vec X). whole x.items) at result
@@ -84,7 +84,7 @@ list_from {X} {r} {before} {answers} {old} {at} {mid} {wanted} {result} of first
 
 
 -- what a call answered, written otherwise
-pub same_answer : {X : Type 0} {r : Reader} {Allowed : ℕ → Type 0} {wanted : Stack} {parts : X → List (Part ℕ)} {at : ℕ}
+pub same_answer : {X : Type 0} {r : Reader} {Allowed : ℕ → Type 0} {wanted : Stack} {parts : X → List (SpellingPart ℕ)} {at : ℕ}
     {found result : Result (X × ℕ) ParseFault} → Parses r Allowed wanted parts at found → result ≡ found
     → Parses r Allowed wanted parts at result
 same_answer {X} {r = r} {Allowed = Allowed} {wanted = wanted} {parts = parts} {at = at} p e =
@@ -92,14 +92,14 @@ same_answer {X} {r = r} {Allowed = Allowed} {wanted = wanted} {parts = parts} {a
 
 
 -- the same answer, whose parts are written otherwise
-read_so : {X : Type 0} {p q : X → List (Part ℕ)} (r : Reader) (at : ℕ) (result : Result (X × ℕ) ParseFault)
+read_so : {X : Type 0} {p q : X → List (SpellingPart ℕ)} (r : Reader) (at : ℕ) (result : Result (X × ℕ) ParseFault)
     → ((x : X) → p x ≡ q x) → IfOk result (λ y. Reads (p y.0) (here r at) (here r y.1))
     → IfOk result (λ y. Reads (q y.0) (here r at) (here r y.1))
 read_so r at (Err e) same a = tt
 read_so r at (Ok y) same a = respelled (same y.0) a
 
 
-pub respelled_answer : {X : Type 0} {r : Reader} {Allowed : ℕ → Type 0} {wanted : Stack} {p q : X → List (Part ℕ)}
+pub respelled_answer : {X : Type 0} {r : Reader} {Allowed : ℕ → Type 0} {wanted : Stack} {p q : X → List (SpellingPart ℕ)}
     {at : ℕ} {result : Result (X × ℕ) ParseFault} → ((x : X) → p x ≡ q x) → Parses r Allowed wanted p at result
     → Parses r Allowed wanted q at result
 respelled_answer {r = r} {at = at} {result = result} same a =
@@ -107,9 +107,9 @@ respelled_answer {r = r} {at = at} {result = result} same a =
 
 
 -- an item takes a terminal
-pub item_advances : {X : Type 0} {r : Reader} (Allowed : ℕ → Type 0) (wanted : Stack) (parts : X → List (Part ℕ))
+pub item_advances : {X : Type 0} {r : Reader} (Allowed : ℕ → Type 0) (wanted : Stack) (parts : X → List (SpellingPart ℕ))
     {at : ℕ} (result : Result (X × ℕ) ParseFault)
-    → ((x : X) (ss rest : List Spot) → Reads (parts x) ss rest → length rest < length ss)
+    → ((x : X) (ss rest : List PlacedTerminal) → Reads (parts x) ss rest → length rest < length ss)
     → Parses r Allowed wanted parts at result → IfOk result (λ y. length (here r y.1) < length (here r at))
 item_advances {r = r} Allowed wanted parts {at = at} (Err e) begun p = tt
 item_advances {r = r} Allowed wanted parts {at = at} (Ok y) begun p = begun y.0 (here r at) (here r y.1) p.reads

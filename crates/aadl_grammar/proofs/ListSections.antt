@@ -4,8 +4,8 @@ use Rattle.std.proofs.Common.{length, inl, inr, arith}
 use Rattle.std.specs.Prelude.{Option, None}
 use Rattle.aadl_tree.specs.declared.mark.Mark.{Mark}
 use Rattle.aadl_tree.specs.declared.mark.Mark.TheVariants as k
-use Rattle.aadl_tree.specs.Terminals.{mark, Spot}
-use Rattle.aadl_tree.specs.SpellingParts.{Part, Section, section_mark}
+use Rattle.aadl_tree.specs.Terminals.{mark, PlacedTerminal}
+use Rattle.aadl_tree.specs.SpellingParts.{SpellingPart, Section, section_mark}
 use Rattle.aadl_tree.specs.Declarations.{section_parts}
 use Rattle.aadl_tree.specs.declared.nesting_limit.TheConstants.{GREATEST_NESTING}
 use Rattle.aadl_grammar.specs.proof.GrammarSymbols.{the, Symbol, Row}
@@ -13,21 +13,21 @@ use Rattle.aadl_grammar.specs.proof.GrammarSymbols as s
 use Rattle.aadl_grammar.specs.proof.ParseTable.{on, behind, rows, section_rows, can_omit}
 use Rattle.aadl_grammar.specs.proof.StackMachine.{Stack, closes, depth, fate}
 use Rattle.aadl_grammar.specs.proof.ParserAnswers.{spot, AtMark, Misses, MissAll, Reads}
-use Rattle.aadl_grammar.specs.proof.ListAnswers.{Allows, Lists, IsSection}
+use Rattle.aadl_grammar.specs.proof.ListAnswers.{Allows, IsList, IsSection}
 use Rattle.aadl_grammar.proofs.TopSymbolMoves.{takes_row, omits_unless, begins_past}
 use Rattle.aadl_grammar.proofs.PartSequences.{then, marked, respelled}
 use Rattle.aadl_grammar.proofs.ListSteps.{allows_few}
 use Rattle.aadl_grammar.proofs.ListSymbols.{marked_moves}
 
 pub section_left_out : {keyword : Mark} {item list symbol : Symbol} → IsSection keyword item list symbol
-    → (outer end : ℕ) (below : Stack) (ss : List Spot) → Misses (the keyword) ss
+    → (outer end : ℕ) (below : Stack) (ss : List PlacedTerminal) → Misses (the keyword) ss
     → fate outer end (symbol ∷ below) ss ≡ fate outer end below ss
 section_left_out {symbol = symbol} is outer end below ss n =
     omits_unless outer end symbol below ss is.may_omit
     (subst (λ (rs : List Row). MissAll rs ss) (sym is.own_rows) (n, tt))
 
 opens : {keyword : Mark} {item list symbol : Symbol} (is : IsSection keyword item list symbol) (o : Option ℕ)
-    (outer end : ℕ) (below : Stack) {ss mid : List Spot} → AtMark keyword ss mid
+    (outer end : ℕ) (below : Stack) {ss mid : List PlacedTerminal} → AtMark keyword ss mid
     → Allows o (outer + depth (symbol ∷ below))
     → fate outer end (symbol ∷ below) ss ≡ fate outer end (is.opened ∷ below) mid
 unfolding depth
@@ -36,7 +36,7 @@ opens {keyword} {symbol = symbol} is o outer end below l h =
     (let few = allows_few o (outer + depth (symbol ∷ below)) h in omega (arith, few, is.no_closers))
 
 pub section_empty : {keyword : Mark} {item list symbol : Symbol} (is : IsSection keyword item list symbol)
-    (o : Option ℕ) (outer end : ℕ) (below : Stack) {ss mid rest : List Spot} → AtMark keyword ss mid
+    (o : Option ℕ) (outer end : ℕ) (below : Stack) {ss mid rest : List PlacedTerminal} → AtMark keyword ss mid
     → AtMark k.Nothing mid rest → Allows o (outer + depth (symbol ∷ below))
     → fate outer end (symbol ∷ below) ss ≡ fate outer end (s.only k.Semicolon ∷ below) rest
 unfolding depth
@@ -47,7 +47,7 @@ section_empty {symbol = symbol} is o outer end below l n h =
     (let few = allows_few o (outer + depth (symbol ∷ below)) h in omega (arith, few))
 
 pub section_first : {keyword : Mark} {item list symbol : Symbol} (is : IsSection keyword item list symbol)
-    (o : Option ℕ) (outer end : ℕ) (below : Stack) {ss mid : List Spot} → AtMark keyword ss mid
+    (o : Option ℕ) (outer end : ℕ) (below : Stack) {ss mid : List PlacedTerminal} → AtMark keyword ss mid
     → Misses (the k.Nothing) mid → Allows o (outer + depth (symbol ∷ below))
     → fate outer end (symbol ∷ below) ss ≡ fate outer end (item ∷ list ∷ below) mid
 section_first {item = item} {list = list} is o outer end below {mid = mid} l n h =
@@ -85,7 +85,7 @@ before_list {list = list} {symbol = symbol} is o outer below h =
     subst (λ (n : ℕ). Allows o n) same h
 
 pub before_item : {keyword : Mark} {item list symbol : Symbol} → IsSection keyword item list symbol
-    → Lists None item list → (o : Option ℕ) (outer : ℕ) (below : Stack) → Allows o (outer + depth (symbol ∷ below))
+    → IsList None item list → (o : Option ℕ) (outer : ℕ) (below : Stack) → Allows o (outer + depth (symbol ∷ below))
     → Allows o (outer + depth (item ∷ list ∷ below))
 unfolding depth
 before_item {item = item} {list = list} {symbol = symbol} is lists o outer below h =
@@ -94,11 +94,11 @@ before_item {item = item} {list = list} {symbol = symbol} is lists o outer below
     subst (λ (n : ℕ). Allows o n) same h
 
 -- a section that is absent, of `none ;`, and of something
-pub no_section : (section : Section) {ps : List (Part ℕ)} {ss : List Spot} → [] ≡ ps
+pub no_section : (section : Section) {ps : List (SpellingPart ℕ)} {ss : List PlacedTerminal} → [] ≡ ps
     → Reads (section_parts section ps) ss ss
 no_section section e = respelled (ap (section_parts section) e) (record { written = inl refl })
 
-empty : (section : Section) {ps : List (Part ℕ)} {ss mid last rest : List Spot} → [] ≡ ps
+empty : (section : Section) {ps : List (SpellingPart ℕ)} {ss mid last rest : List PlacedTerminal} → [] ≡ ps
     → AtMark (section_mark section) ss mid → AtMark k.Nothing mid last → AtMark k.Semicolon last rest
     → Reads (section_parts section ps) ss rest
 empty section {ps} {ss} {mid} {last} {rest} e a b c =
@@ -122,20 +122,20 @@ empty section {ps} {ss} {mid} {last} {rest} e a b c =
       );
     })
 
-pub empty_section_read : (section : Section) (keyword : Mark) {ps : List (Part ℕ)} {ss mid last rest : List Spot}
+pub empty_section_read : (section : Section) (keyword : Mark) {ps : List (SpellingPart ℕ)} {ss mid last rest : List PlacedTerminal}
     → section_mark section ≡ keyword → [] ≡ ps → AtMark keyword ss mid → AtMark k.Nothing mid last
     → AtMark k.Semicolon last rest → Reads (section_parts section ps) ss rest
 empty_section_read section keyword {ss = ss} {mid = mid} is e a b c =
     empty section e (subst (λ (m : Mark). AtMark m ss mid) (sym is) a) b c
 
-filled : (section : Section) (ps qs : List (Part ℕ)) {ss mid last rest : List Spot}
+filled : (section : Section) (ps qs : List (SpellingPart ℕ)) {ss mid last rest : List PlacedTerminal}
     → AtMark (section_mark section) ss mid → Reads ps mid last → length last < length mid → Reads qs last rest
     → Reads (section_parts section (ps ++ qs)) ss rest
 filled section [] qs {mid = mid} {last = last} l a less b =
     let e : length mid ≡ length last = ap length a.written in absurd (omega (arith, e, less))
 filled section (p ∷ ps) qs l a less b = marked l (then a b)
 
-pub filled_section_read : (section : Section) (keyword : Mark) (ps qs : List (Part ℕ)) {ss mid last rest : List Spot}
+pub filled_section_read : (section : Section) (keyword : Mark) (ps qs : List (SpellingPart ℕ)) {ss mid last rest : List PlacedTerminal}
     → section_mark section ≡ keyword → AtMark keyword ss mid → Reads ps mid last → length last < length mid
     → Reads qs last rest → Reads (section_parts section (ps ++ qs)) ss rest
 filled_section_read section keyword ps qs {ss = ss} {mid = mid} is l a less b =

@@ -4,8 +4,8 @@ use Rattle.std.specs.Prelude.{Result, Option, Some, None}
 use Rattle.std.proofs.lemmas.List.{append-nil}
 use Rattle.std.proofs.lemmas.Grind.{flat_map-append}
 use Rattle.aadl_tree.specs.declared.mark.Mark.{Mark}
-use Rattle.aadl_tree.specs.Terminals.{Spot}
-use Rattle.aadl_tree.specs.SpellingParts.{Part}
+use Rattle.aadl_tree.specs.Terminals.{PlacedTerminal}
+use Rattle.aadl_tree.specs.SpellingParts.{SpellingPart}
 use Rattle.aadl_tree.specs.declared.nesting_limit.TheConstants.{GREATEST_NESTING}
 use Rattle.aadl_grammar.specs.proof.StackMachine.{Stack, depth, Fate, fate}
 use Rattle.aadl_grammar.specs.declared.reader.Reader.{Reader}
@@ -34,13 +34,13 @@ item_runs {X} {r} {before} {answers} of outer below rest start result was h e f 
     ((of.each start result a).runs outer (of.list ∷ below) (subst (λ (n : ℕ). Allows of.allowed n) same h))
 
 -- it is read with its mark
-marked_item : {X : Type 0} (before : Option Mark) (parts : X → List (Part ℕ)) (x : X) {ss start rest : List Spot}
+marked_item : {X : Type 0} (before : Option Mark) (parts : X → List (SpellingPart ℕ)) (x : X) {ss start rest : List PlacedTerminal}
     → Follows before ss start → Reads (parts x) start rest → Reads (with_mark before parts x) ss rest
 marked_item (Some m) parts x l a = marked l a
-marked_item None parts x {rest = rest} (w, e) a = subst (λ (l : List Spot). Reads (parts x) l rest) e a
+marked_item None parts x {rest = rest} (w, e) a = subst (λ (l : List PlacedTerminal). Reads (parts x) l rest) e a
 
-pub grown : {X : Type 0} (before : Option Mark) (parts : X → List (Part ℕ)) (old new newer : List X) (x : X)
-    {ss mid start rest : List Spot} → Grows (with_mark before parts) old new ss mid → newer ≡ new ++ x ∷ []
+pub grown : {X : Type 0} (before : Option Mark) (parts : X → List (SpellingPart ℕ)) (old new newer : List X) (x : X)
+    {ss mid start rest : List PlacedTerminal} → Grows (with_mark before parts) old new ss mid → newer ≡ new ++ x ∷ []
     → Follows before mid start → Reads (parts x) start rest → Grows (with_mark before parts) old newer ss rest
 grown before parts old new newer x g e f a = record {
   more = g.more ++ x ∷ [];

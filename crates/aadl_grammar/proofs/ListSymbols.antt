@@ -4,14 +4,14 @@ use Rattle.std.proofs.Common.{arith}
 use Rattle.std.specs.Prelude.{Some, None}
 use Rattle.aadl_tree.specs.declared.mark.Mark.{Mark}
 use Rattle.aadl_tree.specs.declared.mark.Mark.TheVariants as k
-use Rattle.aadl_tree.specs.Terminals.{mark, word, Spot}
+use Rattle.aadl_tree.specs.Terminals.{mark, word, PlacedTerminal}
 use Rattle.aadl_grammar.specs.proof.GrammarSymbols.{a_word, Symbol, Row}
 use Rattle.aadl_grammar.specs.proof.GrammarSymbols as s
 use Rattle.aadl_grammar.specs.proof.ParseTable.{by, on, rows, can_omit}
 use Rattle.aadl_grammar.specs.proof.ParseTable as table
 use Rattle.aadl_grammar.specs.proof.StackMachine.{Stack, takes, move_by, move, closes, depth, fate}
 use Rattle.aadl_grammar.specs.proof.ParserAnswers.{MissAll}
-use Rattle.aadl_grammar.specs.proof.ListAnswers.{Lists}
+use Rattle.aadl_grammar.specs.proof.ListAnswers.{IsList}
 use Rattle.aadl_grammar.proofs.Fates.FirstTerminalFates.{fits_itself}
 use Rattle.aadl_grammar.proofs.TopSymbolMoves.{takes_row, omits_unless, begins_as, enters_as}
 use Rattle.aadl_grammar.proofs.ValueAndPropertyLists.{starts_at}
@@ -27,8 +27,8 @@ marked_moves m f rs x row =
 -- a list whose only row is for the mark, and has an item and the list behind it, or what begins so
 marked_list : (m : Mark) (f : List Symbol) (item list : Symbol) → rows list ≡ on m f ∷ [] → can_omit list ≡ true
     → closes item ≡ 0 → ((below : Stack) → depth (f ++ below) ≤ depth (list ∷ below))
-    → ((outer end : ℕ) (below : Stack) (ss : List Spot)
-    → fate outer end (f ++ below) ss ≡ fate outer end (item ∷ list ∷ below) ss) → Lists (Some m) item list
+    → ((outer end : ℕ) (below : Stack) (ss : List PlacedTerminal)
+    → fate outer end (f ++ below) ss ≡ fate outer end (item ∷ list ∷ below) ss) → IsList (Some m) item list
 marked_list m f item list row o c d same = record {
   goes_on =
       λ outer end below ss start l h. takes_row outer end list below l (marked_moves m f [] list row)
@@ -40,31 +40,31 @@ marked_list m f item list row o c d same = record {
   no_closer = c;
 }
 
-pub names_list : Lists (Some k.Scope) s.identifier s.names
+pub names_list : IsList (Some k.Scope) s.identifier s.names
 unfolding depth
 names_list =
     marked_list k.Scope (s.name ∷ []) s.identifier s.names refl refl refl (λ below. omega arith)
     (λ outer end below ss. begins_as outer end s.name s.identifier (s.names ∷ []) below ss refl refl refl)
 
-pub paths_list : Lists (Some k.Dot) s.identifier s.paths
+pub paths_list : IsList (Some k.Dot) s.identifier s.paths
 unfolding depth
 paths_list =
     marked_list k.Dot (s.path ∷ []) s.identifier s.paths refl refl refl (λ below. omega arith)
     (λ outer end below ss. begins_as outer end s.path s.identifier (s.paths ∷ []) below ss refl refl refl)
 
-pub identifiers_list : Lists (Some k.Comma) s.identifier s.more_identifiers
+pub identifiers_list : IsList (Some k.Comma) s.identifier s.more_identifiers
 unfolding depth
 identifiers_list =
     marked_list k.Comma (s.identifier ∷ s.more_identifiers ∷ []) s.identifier s.more_identifiers refl refl refl
     (λ below. omega arith) (λ outer end below ss. refl)
 
-pub path_list : Lists (Some k.Comma) s.path s.more_paths
+pub path_list : IsList (Some k.Comma) s.path s.more_paths
 unfolding depth
 path_list =
     marked_list k.Comma (s.path ∷ s.more_paths ∷ []) s.path s.more_paths refl refl refl (λ below. omega arith)
     (λ outer end below ss. refl)
 
-pub name_list : Lists (Some k.Comma) s.name s.more_names
+pub name_list : IsList (Some k.Comma) s.name s.more_names
 unfolding depth
 name_list =
     marked_list k.Comma (s.name ∷ s.more_names ∷ []) s.name s.more_names refl refl refl (λ below. omega arith)
@@ -73,7 +73,7 @@ name_list =
 -- a list of items that begin with a word, and of which nothing else is known
 pub word_list : (item list : Symbol) {f : List Symbol} → rows item ≡ by a_word f ∷ []
     → rows list ≡ table.behind (list ∷ []) (rows item) → can_omit list ≡ true → can_omit item ≡ false
-    → closes item ≡ 0 → Lists None item list
+    → closes item ≡ 0 → IsList None item list
 unfolding move
 word_list item list row rows_are o p c = record {
   goes_on =

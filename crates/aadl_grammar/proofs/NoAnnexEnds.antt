@@ -15,13 +15,13 @@ use Rattle.aadl_lex.specs.Rules.{is_in_word, is_word, close_from}
 use Rattle.aadl_tree.specs.declared.mark.Mark.{Mark}
 use Rattle.aadl_tree.specs.declared.mark.Mark.TheVariants as k
 use Rattle.aadl_tree.specs.KeywordsAndSymbols.{mark_text}
-use Rattle.aadl_tree.specs.Terminals.{Kind, mark}
+use Rattle.aadl_tree.specs.Terminals.{PlainTerminal, mark}
 use Rattle.aadl_tree.specs.CanonicalText.{kind_text}
 use Rattle.aadl_grammar.proofs.WordAndSymbolLexing.{other_bytes}
 use Rattle.aadl_lex.proofs.AnnexEnds.{none_parts}
 use Rattle.aadl_lex.specs.proof.TokenSpellings.{IsReal, IsString}
 use Rattle.aadl_grammar.proofs.LiteralAndAnnexLexing.{number_digits}
-use Rattle.aadl_grammar.proofs.PossibleTerminals.{Spoken, a_word, a_number, a_real, a_string, a_keyword, a_symbol}
+use Rattle.aadl_grammar.proofs.PossibleTerminals.{IsPossibleTerminal, a_word, a_number, a_real, a_string, a_keyword, a_symbol}
 use Rattle.aadl_grammar.proofs.PossibleTerminals.{closes}
 use Rattle.aadl_grammar.proofs.TerminalRelexing.{Ends, IsPlain, keyword_is_word}
 
@@ -121,7 +121,7 @@ quoted_past b s n h e =
     ∙ ap (λ j. close_from j s) (let g : n + suc (length h.inner) + 1 ≡ n + length b = omega arith in g)
 
 -- The first `**}` behind a terminal inside is not before its end.
-pub kind_past : (kind : Kind) (s : List ℕ) (n : ℕ) → Spoken Inside kind → IsPlain kind → Ends kind s
+pub kind_past : (kind : PlainTerminal) (s : List ℕ) (n : ℕ) → IsPossibleTerminal Inside kind → IsPlain kind → Ends kind s
     → close_from n (kind_text kind ++ s) ≡ close_from (n + length (kind_text kind)) s
 kind_past _ s n (a_word _ b w h) plain e = word_past b s n w
 kind_past _ s n (a_number _ m h) plain e = close_past is_ascii_digit refl (fmt.decimal m) s n (number_digits m h)

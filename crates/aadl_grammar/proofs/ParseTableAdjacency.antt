@@ -9,7 +9,7 @@ use Rattle.aadl_grammar.specs.proof.GrammarSymbols as s
 use Rattle.aadl_grammar.specs.proof.ParseTable.{rows, can_omit}
 use Rattle.aadl_grammar.specs.proof.StackMachine.{class_number}
 use Rattle.aadl_grammar.proofs.DerivationTrees.DerivationsAndMachineSteps.{Member}
-use Rattle.aadl_grammar.proofs.StackAdjacency.{neat, on_top, last_of, seam, Guard}
+use Rattle.aadl_grammar.proofs.StackAdjacency.{pairs_hold, on_top, last_of, seam, Guard}
 
 abbrev pub is_only : ℕ → Symbol → Bool
 is_only t (s.only m) = mark_number m == t
@@ -52,7 +52,7 @@ after_seam t chain x n (z ∷ f) = not (chain (last_of z f) || is_only t (last_o
 
 abbrev after_row : ℕ → (Symbol → Bool) → (Symbol → Bool) → (ℕ → Bool) → Symbol → Row → Bool
 after_row t ok chain come x r =
-    (on_top (after_top t ok) (class_number r.first) r.wanted && neat (after_pair t ok chain) r.wanted)
+    (on_top (after_top t ok) (class_number r.first) r.wanted && pairs_hold (after_pair t ok chain) r.wanted)
     && (after_seam t chain x (class_number r.first) r.wanted && (not (ok x) || come (class_number r.first)))
 
 abbrev pub after_check : ℕ → (Symbol → Bool) → (Symbol → Bool) → (ℕ → Bool) → Symbol → Bool
@@ -88,12 +88,12 @@ after_guard t ok chain come checked =
       seams =
           λ x y r m h. seam_after t ok chain x y (class_number r.first) r.wanted
           (first_so _ _ (second_so
-          (on_top (after_top t ok) (class_number r.first) r.wanted && neat (after_pair t ok chain) r.wanted) _
+          (on_top (after_top t ok) (class_number r.first) r.wanted && pairs_hold (after_pair t ok chain) r.wanted) _
           (row x r m))) h;
       takes = λ p x r m h. implied (p == t) (ok x) (come (class_number r.first)) h
           (second_so (after_seam t chain x (class_number r.first) r.wanted) _
           (second_so (on_top (after_top t ok) (class_number r.first) r.wanted
-          && neat (after_pair t ok chain) r.wanted) _ (row x r m)));
+          && pairs_hold (after_pair t ok chain) r.wanted) _ (row x r m)));
     }
 
 -- Some symbols are on top behind a word alone, and so some terminals come behind a word alone.
@@ -113,7 +113,7 @@ before_seam t keeps x n (z ∷ f) = not (keeps x) || keeps (last_of z f)
 
 abbrev before_row : ℕ → (Symbol → Bool) → (Symbol → Bool) → (ℕ → Bool) → Symbol → Row → Bool
 before_row t held keeps comes x r =
-    (on_top (before_top t held) (class_number r.first) r.wanted && neat (before_pair held keeps) r.wanted)
+    (on_top (before_top t held) (class_number r.first) r.wanted && pairs_hold (before_pair held keeps) r.wanted)
     && (before_seam t keeps x (class_number r.first) r.wanted && (not (comes (class_number r.first)) || held x))
 
 abbrev pub before_check : ℕ → (Symbol → Bool) → (Symbol → Bool) → (ℕ → Bool) → Symbol → Bool
@@ -156,10 +156,10 @@ before_guard t held keeps comes checked =
       seams =
           λ x y r m h. seam_before t held keeps x y (class_number r.first) r.wanted
           (first_so _ _ (second_so
-          (on_top (before_top t held) (class_number r.first) r.wanted && neat (before_pair held keeps) r.wanted) _
+          (on_top (before_top t held) (class_number r.first) r.wanted && pairs_hold (before_pair held keeps) r.wanted) _
           (row x r m))) h;
       takes = λ p x r m h. held_before (p == t) (comes (class_number r.first)) (held x)
           (second_so (before_seam t keeps x (class_number r.first) r.wanted) _
           (second_so (on_top (before_top t held) (class_number r.first) r.wanted
-          && neat (before_pair held keeps) r.wanted) _ (row x r m))) h;
+          && pairs_hold (before_pair held keeps) r.wanted) _ (row x r m))) h;
     }

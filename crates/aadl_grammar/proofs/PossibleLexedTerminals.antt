@@ -21,12 +21,12 @@ use Rattle.aadl_lex.proofs.TokenSpellings.{spelled_tokens}
 use Rattle.aadl_tree.specs.declared.mark.Mark.{Mark}
 use Rattle.aadl_tree.specs.declared.mark.Mark.TheVariants as k
 use Rattle.aadl_tree.specs.KeywordsAndSymbols.{keyword_of, symbol_of}
-use Rattle.aadl_tree.specs.Terminals.{mark, word_kind, symbol_kind, class_kind, inside_behind, spots_from, spots}
+use Rattle.aadl_tree.specs.Terminals.{mark, word_kind, symbol_kind, class_kind, inside_behind, spots_from, placed_terminals}
 use Rattle.aadl_tree.specs.Terminals.{kinds_of}
 use Rattle.aadl_tree.proofs.LexedSymbols.{symbol_known}
 use Rattle.aadl_grammar.proofs.LiteralAndAnnexLexing.{at_seam}
-use Rattle.aadl_grammar.proofs.PossibleTerminals.{is_inside, Spoken, a_word, a_number, a_real, a_string, an_annex}
-use Rattle.aadl_grammar.proofs.PossibleTerminals.{a_keyword, a_symbol, opens, closes, behind, Said}
+use Rattle.aadl_grammar.proofs.PossibleTerminals.{is_inside, IsPossibleTerminal, a_word, a_number, a_real, a_string, an_annex}
+use Rattle.aadl_grammar.proofs.PossibleTerminals.{a_keyword, a_symbol, opens, closes, behind, ArePossibleTerminals}
 use Rattle.aadl_grammar.proofs.TerminalRelexing.{after_inside, word_then, whole_then, real_then, quoted_then}
 use Rattle.aadl_grammar.proofs.KeywordAndSymbolSpellings.{keyword_fixed, symbol_fixed, keyword_behind, symbol_behind}
 
@@ -51,26 +51,26 @@ utf8_piece full at n x y mid utf8 within low high e =
 
 -- what one token says
 record Says (r : Reading) (class : TokenKind) (b : List ℕ) : Type 0 where
-  spoken : Spoken r (class_kind (is_inside r) class b)
+  spoken : IsPossibleTerminal r (class_kind (is_inside r) class b)
   goes : spelled.behind r class b ≡ behind r (class_kind (is_inside r) class b)
 
 word_says : (r : Reading) (b : List ℕ) (o : Option Mark) → keyword_of (is_inside r) b ≡ o → is_word b ≡ true
-    → Spoken r (word_kind b o) × (after r Word b ≡ behind r (word_kind b o))
+    → IsPossibleTerminal r (word_kind b o) × (after r Word b ≡ behind r (word_kind b o))
 word_says r b None e w = (a_word r b w e, word_then r b)
 word_says r b (Some m) e w = (a_keyword r m (keyword_fixed (is_inside r) b m e), keyword_behind r b m e)
 
 symbol_says : (r : Reading) (b : List ℕ) (o : Option Mark) → symbol_of b ≡ o → is_some o ≡ true
-    → Spoken r (symbol_kind b o) × (after r Symbol b ≡ behind r (symbol_kind b o))
+    → IsPossibleTerminal r (symbol_kind b o) × (after r Symbol b ≡ behind r (symbol_kind b o))
 symbol_says r b None e known = absurd cc
 symbol_says r b (Some m) e known = (a_symbol r m (symbol_fixed b m e), symbol_behind r b m (symbol_fixed b m e))
 
-says_open : (r : Reading) → r ≡ AfterName → Spoken r (mark k.AnnexOpen) × (Inside ≡ behind r (mark k.AnnexOpen))
+says_open : (r : Reading) → r ≡ AfterName → IsPossibleTerminal r (mark k.AnnexOpen) × (Inside ≡ behind r (mark k.AnnexOpen))
 says_open r e =
-    subst (λ (q : Reading). Spoken q (mark k.AnnexOpen) × (Inside ≡ behind q (mark k.AnnexOpen))) (sym e) (opens, refl)
+    subst (λ (q : Reading). IsPossibleTerminal q (mark k.AnnexOpen) × (Inside ≡ behind q (mark k.AnnexOpen))) (sym e) (opens, refl)
 
-says_close : (r : Reading) → r ≡ Inside → Spoken r (mark k.AnnexClose) × (Outside ≡ behind r (mark k.AnnexClose))
+says_close : (r : Reading) → r ≡ Inside → IsPossibleTerminal r (mark k.AnnexClose) × (Outside ≡ behind r (mark k.AnnexClose))
 says_close r e =
-    subst (λ (q : Reading). Spoken q (mark k.AnnexClose) × (Outside ≡ behind q (mark k.AnnexClose))) (sym e)
+    subst (λ (q : Reading). IsPossibleTerminal q (mark k.AnnexClose) × (Outside ≡ behind q (mark k.AnnexClose))) (sym e)
     (closes, refl)
 
 says_by : (r : Reading) (class : TokenKind) (b : List ℕ) → IsSpelled r class b
@@ -113,7 +113,7 @@ outside_is AfterName h = refl
 outside_is Inside h = absurd (h refl)
 
 said_tokens : (text : List ℕ) → IsUtf8 text → (r : Reading) (from : ℕ) (ts : List Token)
-    → AreInOrder from (length text) ts → AreSpelled text r ts → Said r (kinds_of (spots_from (is_inside r) text ts))
+    → AreInOrder from (length text) ts → AreSpelled text r ts → ArePossibleTerminals r (kinds_of (spots_from (is_inside r) text ts))
 said_tokens text utf8 r from [] order h = outside_is r h
 said_tokens text utf8 r from (t ∷ ts) (start, some, order) (h, hs) =
     let b = bytes_of text t in
@@ -122,14 +122,14 @@ said_tokens text utf8 r from (t ∷ ts) (start, some, order) (h, hs) =
     let says =
     says_by r t.kind b h (λ x y mid low high e.
     utf8_piece text t.start (t.end - t.start) x y mid utf8 (omega arith) low high e) in
-    let on : Said next (kinds_of (spots_from (is_inside next) text ts)) =
+    let on : ArePossibleTerminals next (kinds_of (spots_from (is_inside next) text ts)) =
     said_tokens text utf8 next t.end ts order hs in (
       says.spoken,
-      subst (λ (x : Bool). Said (behind r (class_kind (is_inside r) t.kind b)) (kinds_of (spots_from x text ts)))
+      subst (λ (x : Bool). ArePossibleTerminals (behind r (class_kind (is_inside r) t.kind b)) (kinds_of (spots_from x text ts)))
           (sym (inside_goes r t.kind b))
-          (subst (λ (q : Reading). Said q (kinds_of (spots_from (is_inside next) text ts))) says.goes on),
+          (subst (λ (q : Reading). ArePossibleTerminals q (kinds_of (spots_from (is_inside next) text ts))) says.goes on),
     )
 
 -- The terminals of a text are terminals that a text can have.
-pub text_terminals_possible : (text : List ℕ) (ts : List Token) → AreTokensOf text ts → Said Outside (kinds_of (spots text ts))
+pub text_terminals_possible : (text : List ℕ) (ts : List Token) → AreTokensOf text ts → ArePossibleTerminals Outside (kinds_of (placed_terminals text ts))
 text_terminals_possible text ts h = said_tokens text h.utf8 Outside 0 ts (order_tokens text ts h) (spelled_tokens text ts h)

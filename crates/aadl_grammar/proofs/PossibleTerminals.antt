@@ -12,8 +12,8 @@ use Rattle.aadl_tree.specs.declared.mark.Mark.{Mark}
 use Rattle.aadl_tree.specs.declared.mark.Mark.TheVariants as k
 use Rattle.aadl_tree.specs.KeywordsAndSymbols.{mark_text, keyword_of, symbol_of}
 use Rattle.aadl_tree.specs.proof.MarkNumbers.{mark_number}
-use Rattle.aadl_tree.specs.Terminals.{Kind, word, whole, real, quoted, unread, mark}
-use Rattle.aadl_tree.specs.SpellingParts.{Part, token, may, feature_section, subcomponent_section, connection_section}
+use Rattle.aadl_tree.specs.Terminals.{PlainTerminal, word, whole, real, quoted, unread, mark}
+use Rattle.aadl_tree.specs.SpellingParts.{SpellingPart, token, may, feature_section, subcomponent_section, connection_section}
 use Rattle.aadl_tree.specs.SpellingParts.{property_section, Extra, empty_section, last_semicolon, extra_kinds, Spells}
 use Rattle.aadl_tree.specs.SpellingParts.{kept}
 use Rattle.aadl_grammar.specs.proof.StackMachine.{kind_number}
@@ -25,20 +25,20 @@ is_inside Inside = true
 is_inside _ = false
 
 -- a terminal that can stand where the text is read so
-pub data Spoken : Reading → Kind → Type 0 where
-  a_word : (r : Reading) (b : List ℕ) → is_word b ≡ true → keyword_of (is_inside r) b ≡ None → Spoken r (word b)
-  a_number : (r : Reading) (n : ℕ) → n ≤ most → Spoken r (whole (pos n))
-  a_real : (r : Reading) (b : List ℕ) → IsReal b → Spoken r (real b)
+pub data IsPossibleTerminal : Reading → PlainTerminal → Type 0 where
+  a_word : (r : Reading) (b : List ℕ) → is_word b ≡ true → keyword_of (is_inside r) b ≡ None → IsPossibleTerminal r (word b)
+  a_number : (r : Reading) (n : ℕ) → n ≤ most → IsPossibleTerminal r (whole (pos n))
+  a_real : (r : Reading) (b : List ℕ) → IsReal b → IsPossibleTerminal r (real b)
   a_string : (r : Reading) (b : List ℕ) → IsString b → IsUtf8 b → (r ≡ Inside → close_from 0 b ≡ None)
-      → Spoken r (quoted b)
-  an_annex : (b : List ℕ) → IsUnread b → IsUtf8 b → Spoken Outside (unread b)
-  a_keyword : (r : Reading) (m : Mark) → keyword_of (is_inside r) (mark_text m) ≡ Some m → Spoken r (mark m)
-  a_symbol : (r : Reading) (m : Mark) → symbol_of (mark_text m) ≡ Some m → Spoken r (mark m)
-  opens : Spoken AfterName (mark k.AnnexOpen)
-  closes : Spoken Inside (mark k.AnnexClose)
+      → IsPossibleTerminal r (quoted b)
+  an_annex : (b : List ℕ) → IsUnread b → IsUtf8 b → IsPossibleTerminal Outside (unread b)
+  a_keyword : (r : Reading) (m : Mark) → keyword_of (is_inside r) (mark_text m) ≡ Some m → IsPossibleTerminal r (mark m)
+  a_symbol : (r : Reading) (m : Mark) → symbol_of (mark_text m) ≡ Some m → IsPossibleTerminal r (mark m)
+  opens : IsPossibleTerminal AfterName (mark k.AnnexOpen)
+  closes : IsPossibleTerminal Inside (mark k.AnnexClose)
 
 -- how the text is read behind a terminal
-abbrev pub behind : Reading → Kind → Reading
+abbrev pub behind : Reading → PlainTerminal → Reading
 behind Inside (mark k.AnnexClose) = Outside
 behind Inside _ = Inside
 behind _ (mark k.AnnexOpen) = Inside
@@ -46,12 +46,12 @@ behind _ (word b) = if str_eq_ignore_ascii_case b (codes "behavior_specification
 behind _ _ = Outside
 
 -- terminals that a text can have from here on, up to its end
-abbrev pub Said : Reading → List Kind → Type 0
-Said r [] = is_inside r ≡ false
-Said r (kind ∷ ks) = Spoken r kind × Said (behind r kind) ks
+abbrev pub ArePossibleTerminals : Reading → List PlainTerminal → Type 0
+ArePossibleTerminals r [] = is_inside r ≡ false
+ArePossibleTerminals r (kind ∷ ks) = IsPossibleTerminal r kind × ArePossibleTerminals (behind r kind) ks
 
-spoken_inside : (r s : Reading) (kind : Kind) → is_inside r ≡ false → is_inside s ≡ false
-    → (kind_number kind == 104) ≡ false → s ≡ Outside → Spoken s kind → Spoken r kind
+spoken_inside : (r s : Reading) (kind : PlainTerminal) → is_inside r ≡ false → is_inside s ≡ false
+    → (kind_number kind == 104) ≡ false → s ≡ Outside → IsPossibleTerminal s kind → IsPossibleTerminal r kind
 spoken_inside r s _ i j n e (a_word _ b w h) = a_word r b w (ap (λ x. keyword_of x b) (i ∙ sym j) ∙ h)
 spoken_inside r s _ i j n e (a_number _ m h) = a_number r m h
 spoken_inside r s _ i j n e (a_real _ b h) = a_real r b h
@@ -62,7 +62,7 @@ spoken_inside r s _ i j n e (a_symbol _ m h) = a_symbol r m h
 spoken_inside r _ _ i j n e opens = absurd cc
 spoken_inside r _ _ i j n e closes = absurd cc
 
-behind_same : (r : Reading) (kind : Kind) → is_inside r ≡ false → behind Outside kind ≡ behind r kind
+behind_same : (r : Reading) (kind : PlainTerminal) → is_inside r ≡ false → behind Outside kind ≡ behind r kind
 behind_same Outside kind i = refl
 behind_same AfterName (mark k.AnnexOpen) i = refl
 behind_same AfterName (mark k.AnnexClose) i = refl
@@ -77,22 +77,22 @@ no_annex n h =
     (λ e. let same = eqb-true n 104 e in let never = ap (may_stand_behind (mark_number k.Semicolon)) same in absurd cc)
 
 -- behind a `;` a text goes on in one way, whatever was before it
-said_anyhow : (r : Reading) (ks : List Kind) → is_inside r ≡ false → AreNeighbours (mark_number k.Semicolon) ks
-    → Said Outside ks → Said r ks
+said_anyhow : (r : Reading) (ks : List PlainTerminal) → is_inside r ≡ false → AreNeighbours (mark_number k.Semicolon) ks
+    → ArePossibleTerminals Outside ks → ArePossibleTerminals r ks
 said_anyhow r [] i near said = i
 said_anyhow r (kind ∷ ks) i (near, nears) (said, more) = (
   spoken_inside r Outside kind i refl (no_annex (kind_number kind) near) refl said,
-  subst (λ (x : Reading). Said x ks) (behind_same r kind i) more,
+  subst (λ (x : Reading). ArePossibleTerminals x ks) (behind_same r kind i) more,
 )
 
 -- what means nothing ends with `;`
-last_near : (p : ℕ) (extra : Extra) (ks : List Kind) → AreNeighbours p (extra_kinds extra ++ ks)
+last_near : (p : ℕ) (extra : Extra) (ks : List PlainTerminal) → AreNeighbours p (extra_kinds extra ++ ks)
     → AreNeighbours (mark_number k.Semicolon) ks
 last_near p (empty_section s) ks h = h.1.1.1
 last_near p last_semicolon ks h = h.1
 
-said_behind : (r : Reading) (extra : Extra) (ks : List Kind) → AreNeighbours (mark_number k.Semicolon) ks
-    → Said r (extra_kinds extra ++ ks) → Said r ks
+said_behind : (r : Reading) (extra : Extra) (ks : List PlainTerminal) → AreNeighbours (mark_number k.Semicolon) ks
+    → ArePossibleTerminals r (extra_kinds extra ++ ks) → ArePossibleTerminals r ks
 said_behind Inside (empty_section feature_section) ks near h = h.1.1.1
 said_behind Inside (empty_section subcomponent_section) ks near h = h.1.1.1
 said_behind Inside (empty_section connection_section) ks near h = h.1.1.1
@@ -110,15 +110,15 @@ said_behind AfterName (empty_section property_section) ks near h = said_anyhow A
 said_behind AfterName last_semicolon ks near h = said_anyhow AfterName ks refl near h.1
 
 -- What is kept of the terminals of a text are the terminals of a text.
-pub kept_said : {P : Type 0} (ps : List (Part P)) (p : ℕ) (r : Reading) (ks : List Kind) → Spells ps ks []
-    → AreNeighbours p ks → Said r ks → Said r (kept ps)
-kept_said [] p r ks e near said = subst (λ (q : List Kind). Said r q) e said
+pub kept_said : {P : Type 0} (ps : List (SpellingPart P)) (p : ℕ) (r : Reading) (ks : List PlainTerminal) → Spells ps ks []
+    → AreNeighbours p ks → ArePossibleTerminals r ks → ArePossibleTerminals r (kept ps)
+kept_said [] p r ks e near said = subst (λ (q : List PlainTerminal). ArePossibleTerminals r q) e said
 kept_said (token kind places ∷ ps) p r ks (more, e, s) near said =
-    let n = subst (λ (q : List Kind). AreNeighbours p q) e near in
-    let h = subst (λ (q : List Kind). Said r q) e said in
+    let n = subst (λ (q : List PlainTerminal). AreNeighbours p q) e near in
+    let h = subst (λ (q : List PlainTerminal). ArePossibleTerminals r q) e said in
     (h.0, kept_said ps (kind_number kind) (behind r kind) more s n.1 h.1)
 kept_said (may extra ∷ ps) p r ks (inl s) near said = kept_said ps p r ks s near said
 kept_said (may extra ∷ ps) p r ks (inr (more, e, s)) near said =
-    let n = last_near p extra more (subst (λ (q : List Kind). AreNeighbours p q) e near) in
+    let n = last_near p extra more (subst (λ (q : List PlainTerminal). AreNeighbours p q) e near) in
     kept_said ps (mark_number k.Semicolon) r more s n
-    (said_behind r extra more n (subst (λ (q : List Kind). Said r q) e said))
+    (said_behind r extra more n (subst (λ (q : List PlainTerminal). ArePossibleTerminals r q) e said))

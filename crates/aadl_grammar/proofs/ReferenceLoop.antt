@@ -2,7 +2,7 @@
 use Rattle.std.proofs.Common.{◌≡◌, ◌∙◌, ap, sym, List, [], ◌∷◌, ◌++◌, map, flat_map, append_assoc}
 use Rattle.aadl_tree.specs.declared.mark.Mark.TheVariants as k
 use Rattle.aadl_tree.specs.declared.names.Identifier.{Identifier}
-use Rattle.aadl_tree.specs.Terminals.{Spot}
+use Rattle.aadl_tree.specs.Terminals.{PlacedTerminal}
 use Rattle.aadl_tree.specs.SpellingParts.{plain}
 use Rattle.aadl_tree.specs.Names.{identifier_parts, qualifier_parts}
 use Rattle.aadl_tree.specs.proof.NameViews.{identifier_view}
@@ -10,7 +10,7 @@ use Rattle.aadl_tree.specs.proof.PlaceMaps.{kept_place}
 use Rattle.aadl_grammar.specs.proof.ParserAnswers.{AtMark, Reads}
 use Rattle.aadl_grammar.proofs.PartSequences.{nothing, then, marked, respelled, listed}
 
-pub qualified : (xs ys : List Identifier) (x : Identifier) {ss mid rest : List Spot} → ys ≡ xs ++ x ∷ []
+pub qualified : (xs ys : List Identifier) (x : Identifier) {ss mid rest : List PlacedTerminal} → ys ≡ xs ++ x ∷ []
     → Reads (flat_map qualifier_parts (map (identifier_view kept_place) xs)
     ++ identifier_parts (identifier_view kept_place x)) ss mid → AtMark k.Scope mid rest
     → Reads (flat_map qualifier_parts (map (identifier_view kept_place) ys)) ss rest

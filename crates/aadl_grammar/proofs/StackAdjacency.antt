@@ -4,17 +4,17 @@ use Rattle.std.proofs.Common.{◌≡◌, ℕ, Bool, true, ◌&&◌, ◌∙◌, s
 use Rattle.std.proofs.lemmas.List.{append-nil}
 use Rattle.std.proofs.lemmas.Bool.{eqb-true, and_from}
 use Rattle.std.specs.Cmp.{first_so, second_so}
-use Rattle.aadl_tree.specs.Terminals.{Kind}
+use Rattle.aadl_tree.specs.Terminals.{PlainTerminal}
 use Rattle.aadl_grammar.specs.proof.GrammarSymbols.{Symbol, Row}
 use Rattle.aadl_grammar.specs.proof.ParseTable.{rows, can_omit}
 use Rattle.aadl_grammar.specs.proof.StackMachine.{Stack, class_number, kind_number}
 use Rattle.aadl_grammar.proofs.DerivationTrees.DerivationsAndMachineSteps.{Member, Derives, nothing, take, omit}
 
 -- symbols one below the other
-abbrev pub neat : (Symbol → Symbol → Bool) → Stack → Bool
-neat pair [] = true
-neat pair (x ∷ []) = true
-neat pair (x ∷ (y ∷ s)) = pair x y && neat pair (y ∷ s)
+abbrev pub pairs_hold : (Symbol → Symbol → Bool) → Stack → Bool
+pairs_hold pair [] = true
+pairs_hold pair (x ∷ []) = true
+pairs_hold pair (x ∷ (y ∷ s)) = pair x y && pairs_hold pair (y ∷ s)
 
 -- the symbol on top, behind a terminal of this number
 abbrev pub on_top : (ℕ → Symbol → Bool) → ℕ → Stack → Bool
@@ -33,31 +33,31 @@ seam top pair n (z ∷ f) y = pair (last_of z f) y
 pub record Guard (top : ℕ → Symbol → Bool) (pair : Symbol → Symbol → Bool) (beside : ℕ → ℕ → Bool) : Type 0 where
   pub omits : (p : ℕ) (x y : Symbol) → can_omit x ≡ true → top p x ≡ true → pair x y ≡ true → top p y ≡ true
   pub wants : (x : Symbol) (r : Row) → Member r (rows x)
-      → (on_top top (class_number r.first) r.wanted && neat pair r.wanted) ≡ true
+      → (on_top top (class_number r.first) r.wanted && pairs_hold pair r.wanted) ≡ true
   pub seams : (x y : Symbol) (r : Row) → Member r (rows x) → pair x y ≡ true
       → seam top pair (class_number r.first) r.wanted y ≡ true
   pub takes : (p : ℕ) (x : Symbol) (r : Row) → Member r (rows x) → top p x ≡ true
       → beside p (class_number r.first) ≡ true
 
 -- each terminal beside the one before it
-abbrev pub Beside : (ℕ → ℕ → Bool) → ℕ → List Kind → Type 0
+abbrev pub Beside : (ℕ → ℕ → Bool) → ℕ → List PlainTerminal → Type 0
 Beside beside p [] = Unit {0}
 Beside beside p (kind ∷ ks) = (beside p (kind_number kind) ≡ true) × Beside beside (kind_number kind) ks
 
-neat_below : (pair : Symbol → Symbol → Bool) (x : Symbol) (below : Stack) → neat pair (x ∷ below) ≡ true
-    → neat pair below ≡ true
+neat_below : (pair : Symbol → Symbol → Bool) (x : Symbol) (below : Stack) → pairs_hold pair (x ∷ below) ≡ true
+    → pairs_hold pair below ≡ true
 neat_below pair x [] e = refl
 neat_below pair x (y ∷ s) e = second_so (pair x y) _ e
 
 neat_append : (pair : Symbol → Symbol → Bool) (z : Symbol) (f : List Symbol) (y : Symbol) (s : Stack)
-    → neat pair (z ∷ f) ≡ true → pair (last_of z f) y ≡ true → neat pair (y ∷ s) ≡ true
-    → neat pair (z ∷ f ++ y ∷ s) ≡ true
+    → pairs_hold pair (z ∷ f) ≡ true → pair (last_of z f) y ≡ true → pairs_hold pair (y ∷ s) ≡ true
+    → pairs_hold pair (z ∷ f ++ y ∷ s) ≡ true
 neat_append pair z [] y s e h n = and_from (pair z y) _ h n
 neat_append pair z (x ∷ f) y s e h n =
     and_from (pair z x) _ (first_so _ _ e) (neat_append pair x f y s (second_so (pair z x) _ e) h n)
 
 abbrev Fine : (ℕ → Symbol → Bool) → (Symbol → Symbol → Bool) → ℕ → Stack → Type 0
-Fine top pair p wanted = (on_top top p wanted ≡ true) × (neat pair wanted ≡ true)
+Fine top pair p wanted = (on_top top p wanted ≡ true) × (pairs_hold pair wanted ≡ true)
 
 fine_below : (top : ℕ → Symbol → Bool) (pair : Symbol → Symbol → Bool) (beside : ℕ → ℕ → Bool) → Guard top pair beside
     → (p : ℕ) (x : Symbol) (below : Stack) → can_omit x ≡ true
@@ -66,26 +66,26 @@ fine_below top pair beside g p x [] o h = (refl, refl)
 fine_below top pair beside g p x (y ∷ s) o (h, n) = (g.omits p x y o h (first_so _ _ n), second_so (pair x y) _ n)
 
 fine_row : (top : ℕ → Symbol → Bool) (pair : Symbol → Symbol → Bool) (n : ℕ) (f : List Symbol) (below : Stack)
-    → (on_top top n f && neat pair f) ≡ true → ((y : Symbol) (s : Stack) → below ≡ y ∷ s → seam top pair n f y ≡ true)
-    → neat pair below ≡ true → Fine top pair n (f ++ below)
+    → (on_top top n f && pairs_hold pair f) ≡ true → ((y : Symbol) (s : Stack) → below ≡ y ∷ s → seam top pair n f y ≡ true)
+    → pairs_hold pair below ≡ true → Fine top pair n (f ++ below)
 fine_row top pair n [] [] w m h = (refl, refl)
 fine_row top pair n [] (y ∷ s) w m h = (m y s refl, h)
 fine_row top pair n (z ∷ f) [] w m h =
-    (first_so _ _ w, subst (λ (l : Stack). neat pair l ≡ true) (sym (append-nil (z ∷ f))) (second_so (top n z) _ w))
+    (first_so _ _ w, subst (λ (l : Stack). pairs_hold pair l ≡ true) (sym (append-nil (z ∷ f))) (second_so (top n z) _ w))
 fine_row top pair n (z ∷ f) (y ∷ s) w m h =
     (first_so _ _ w, neat_append pair z f y s (second_so (top n z) _ w) (m y s refl) h)
 
 below_seam : (top : ℕ → Symbol → Bool) (pair : Symbol → Symbol → Bool) (beside : ℕ → ℕ → Bool) → Guard top pair beside
     → (x : Symbol) (below : Stack) (r : Row) → Member r (rows x)
-    → neat pair (x ∷ below) ≡ true → (y : Symbol) (s : Stack) → below ≡ y ∷ s
+    → pairs_hold pair (x ∷ below) ≡ true → (y : Symbol) (s : Stack) → below ≡ y ∷ s
     → seam top pair (class_number r.first) r.wanted y ≡ true
 below_seam top pair beside g x below r m n y s e =
-    g.seams x y r m (first_so _ _ (subst (λ (l : Stack). neat pair (x ∷ l) ≡ true) e n))
+    g.seams x y r m (first_so _ _ (subst (λ (l : Stack). pairs_hold pair (x ∷ l) ≡ true) e n))
 
 -- What a guarded stack derives has its terminals beside one another.
 pub guarded : (top : ℕ → Symbol → Bool) (pair : Symbol → Symbol → Bool) (beside : ℕ → ℕ → Bool) → Guard top pair beside
-    → (p : ℕ) (wanted : Stack) (ks : List Kind)
-    → on_top top p wanted ≡ true → neat pair wanted ≡ true → Derives wanted ks → Beside beside p ks
+    → (p : ℕ) (wanted : Stack) (ks : List PlainTerminal)
+    → on_top top p wanted ≡ true → pairs_hold pair wanted ≡ true → Derives wanted ks → Beside beside p ks
 guarded top pair beside g p _ _ h n nothing = tt
 guarded top pair beside g p _ _ h n (take x below r kind ks m e d) =
     let number = eqb-true (kind_number kind) (class_number r.first) e in

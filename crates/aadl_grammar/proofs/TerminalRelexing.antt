@@ -16,17 +16,17 @@ use Rattle.aadl_lex.specs.Rules.{is_in_word, is_word, first, after}
 use Rattle.aadl_tree.specs.declared.mark.Mark.{Mark}
 use Rattle.aadl_tree.specs.declared.mark.Mark.TheVariants as k
 use Rattle.aadl_tree.specs.KeywordsAndSymbols.{mark_text, keyword_of, symbol_of}
-use Rattle.aadl_tree.specs.Terminals.{Kind, word, whole, real, quoted, mark, word_kind, symbol_kind, class_kind}
+use Rattle.aadl_tree.specs.Terminals.{PlainTerminal, word, whole, real, quoted, mark, word_kind, symbol_kind, class_kind}
 use Rattle.aadl_tree.specs.Terminals.{inside_behind}
 use Rattle.aadl_tree.specs.CanonicalText.{kind_text}
 use Rattle.aadl_grammar.proofs.WordAndSymbolLexing.{stops, extends, word_first, symbol_first}
 use Rattle.aadl_grammar.proofs.LiteralAndAnnexLexing.{in_number, number_first, number_some, real_first, string_first}
 use Rattle.aadl_grammar.proofs.LiteralAndAnnexLexing.{unread_first}
-use Rattle.aadl_grammar.proofs.PossibleTerminals.{is_inside, Spoken, a_word, a_number, a_real, a_string, an_annex}
+use Rattle.aadl_grammar.proofs.PossibleTerminals.{is_inside, IsPossibleTerminal, a_word, a_number, a_real, a_string, an_annex}
 use Rattle.aadl_grammar.proofs.PossibleTerminals.{a_keyword, a_symbol, opens, closes, behind}
 
 -- bytes that would go on with a terminal
-abbrev pub goes_on : Kind → ℕ → Bool
+abbrev pub goes_on : PlainTerminal → ℕ → Bool
 goes_on (word b) h = is_in_word h
 goes_on (whole n) h = in_number h
 goes_on (real b) h = is_ascii_digit h
@@ -34,11 +34,11 @@ goes_on (mark m) h = (is_word (mark_text m) && is_in_word h) || extends m h
 goes_on _ h = false
 
 -- what follows does not go on with the terminal
-abbrev pub Ends : Kind → List ℕ → Type 0
+abbrev pub Ends : PlainTerminal → List ℕ → Type 0
 Ends kind [] = Unit {0}
 Ends kind (h ∷ t) = goes_on kind h ≡ false
 
-ends_stops : (kind : Kind) (p : ℕ → Bool) (rest : List ℕ) → ((h : ℕ) → goes_on kind h ≡ false → p h ≡ false)
+ends_stops : (kind : PlainTerminal) (p : ℕ → Bool) (rest : List ℕ) → ((h : ℕ) → goes_on kind h ≡ false → p h ≡ false)
     → Ends kind rest → stops p rest ≡ true
 ends_stops kind p [] same e = refl
 ends_stops kind p (h ∷ t) same e = not_from_false (p h) (same h e)
@@ -112,7 +112,7 @@ keyword_is_word false k.AnnexOpen e = absurd cc
 keyword_is_word false k.AnnexClose e = absurd cc
 keyword_is_word false _ e = refl
 
-pub record Lexed (r : Reading) (kind : Kind) (rest : List ℕ) : Type 0 where
+pub record Lexed (r : Reading) (kind : PlainTerminal) (rest : List ℕ) : Type 0 where
   pub class : TokenKind
   pub taken : (at : ℕ) → first r at (kind_text kind ++ rest) ≡ Taken class (length (kind_text kind))
   pub some : 0 < length (kind_text kind)
@@ -122,7 +122,7 @@ pub record Lexed (r : Reading) (kind : Kind) (rest : List ℕ) : Type 0 where
   pub inner : (b : Bool) → inside_behind b class ≡ b
 
 -- neither of a body's ends
-abbrev pub IsPlain : Kind → Type 0
+abbrev pub IsPlain : PlainTerminal → Type 0
 IsPlain kind = (kind ≡ mark k.AnnexOpen → ⊥) × (kind ≡ mark k.AnnexClose → ⊥)
 
 word_some : (b : List ℕ) → is_word b ≡ true → 0 < length b
@@ -148,7 +148,7 @@ after_inside Outside _ b = refl
 after_inside AfterName Word b = named (str_eq_ignore_ascii_case b (codes "behavior_specification"))
 after_inside AfterName _ b = refl
 
-stays : (r : Reading) (class : TokenKind) (kind : Kind) → IsInner class → after r class (kind_text kind) ≡ behind r kind
+stays : (r : Reading) (class : TokenKind) (kind : PlainTerminal) → IsInner class → after r class (kind_text kind) ≡ behind r kind
     → inside_behind (is_inside r) class ≡ is_inside (behind r kind)
 stays r class kind inner e = inner (is_inside r) ∙ sym (after_inside r class (kind_text kind)) ∙ ap is_inside e
 
@@ -205,7 +205,7 @@ keyword_stops m rest w e =
     (λ h g. sym (ap (λ b. b && is_in_word h) w)
     ∙ (or_parts (is_word (mark_text m) && is_in_word h) (extends m h) g).0) e
 
-pub lexed : (r : Reading) (kind : Kind) (rest : List ℕ) → Spoken r kind → IsPlain kind → Ends kind rest
+pub lexed : (r : Reading) (kind : PlainTerminal) (rest : List ℕ) → IsPossibleTerminal r kind → IsPlain kind → Ends kind rest
     → Lexed r kind rest
 lexed r _ rest (a_word _ b w h) plain e = record {
   class = Word;

@@ -17,7 +17,7 @@ use Rattle.list_lemmas.proofs.Booleans.{by_test}
 use Rattle.aadl_lex.specs.declared.token.TheConstants.{NAME_BYTES}
 use Rattle.aadl_lex.specs.Rules.{is_word, is_in_word}
 use Rattle.aadl_grammar.specs.declared.terminal.Terminal.{Terminal}
-use Rattle.aadl_grammar.specs.declared.terminal.TerminalKind.TheVariants as t
+use Rattle.aadl_grammar.specs.declared.terminal.TerminalClass.TheVariants as t
 use Rattle.aadl_grammar.specs.proof.TerminalSpots.{spot_of, spots_of, is_word_at, AreWords}
 
 -- one terminal, and those behind it

@@ -11,7 +11,7 @@ use Rattle.aadl_lex.specs.declared.token.TokenKind.{TokenKind}
 use Rattle.aadl_lex.specs.declared.rules.Reading.{Reading}
 use Rattle.aadl_lex.specs.Rules.{is_blank, close_from, first}
 use Rattle.aadl_lex.specs.Tokens.{token, bytes_of, Lexes, skips}
-use Rattle.aadl_tree.specs.Terminals.{Kind}
+use Rattle.aadl_tree.specs.Terminals.{PlainTerminal}
 use Rattle.aadl_tree.specs.CanonicalText.{holds_left, holds_right, ends_line, line_end, between}
 use Rattle.aadl_grammar.proofs.WordAndSymbolLexing.{space_first, line_end_first}
 
@@ -25,7 +25,7 @@ gap_by true b = none
 gap_by false true = line
 gap_by false false = space
 
-pub is_gap : (p kind : Kind) → IsGap (between p kind)
+pub is_gap : (p kind : PlainTerminal) → IsGap (between p kind)
 is_gap p kind = gap_by (holds_right p || holds_left kind) (ends_line p)
 
 pub gap_blank : (gap : List ℕ) → IsGap gap → list_all is_blank gap ≡ true

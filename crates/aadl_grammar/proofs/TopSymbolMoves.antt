@@ -6,7 +6,7 @@ use Rattle.std.proofs.lemmas.Bool.{or_cases, or_parts, false_from_ne_true}
 use Rattle.list_lemmas.proofs.Booleans.{opposed}
 use Rattle.aadl_tree.specs.declared.mark.Mark.{Mark}
 use Rattle.aadl_tree.specs.proof.MarkNumbers.{mark_number}
-use Rattle.aadl_tree.specs.Terminals.{Kind, mark, word, Spot}
+use Rattle.aadl_tree.specs.Terminals.{PlainTerminal, mark, word, PlacedTerminal}
 use Rattle.aadl_tree.specs.Names.{Identifier}
 use Rattle.aadl_tree.specs.declared.nesting_limit.TheConstants.{GREATEST_NESTING}
 use Rattle.aadl_tree.specs.TerminalFaults.{place}
@@ -23,13 +23,13 @@ use Rattle.aadl_grammar.proofs.Fates.FirstTerminalFates.{none_own, fits_itself}
 use Rattle.aadl_grammar.specs.proof.ParserAnswers.{spot, At, AtMark, AtWord, Misses, MissAll, IsMarked}
 
 -- the symbol takes the first terminal
-pub takes_row : (outer end : ℕ) (x : Symbol) (below : Stack) {kind : Kind} {ss rest : List Spot} {f : List Symbol}
+pub takes_row : (outer end : ℕ) (x : Symbol) (below : Stack) {kind : PlainTerminal} {ss rest : List PlacedTerminal} {f : List Symbol}
     → At kind ss rest → move x kind ≡ takes f → outer + depth (f ++ below) ≤ GREATEST_NESTING
     → fate outer end (x ∷ below) ss ≡ fate outer end (f ++ below) rest
 takes_row outer end x below {kind} {ss} {rest} {f} l m h =
     ap (fate outer end (x ∷ below)) l.whole ∙ fate_takes outer end x below (spot kind l.at) rest f m h
 
-pub deep_row : (outer end : ℕ) (x : Symbol) (below : Stack) {kind : Kind} {ss rest : List Spot} {f : List Symbol}
+pub deep_row : (outer end : ℕ) (x : Symbol) (below : Stack) {kind : PlainTerminal} {ss rest : List PlacedTerminal} {f : List Symbol}
     → At kind ss rest → move x kind ≡ takes f → GREATEST_NESTING < outer + depth (f ++ below)
     → fate outer end (x ∷ below) ss ≡ deep_at (place end ss)
 deep_row outer end x below {kind} {ss} {rest} {f} l m h =
@@ -37,10 +37,10 @@ deep_row outer end x below {kind} {ss} {rest} {f} l m h =
     ∙ ap (λ l. deep_at (place end l)) (sym l.whole)
 
 -- a word that comes first
-pub a_word_at : {x : Identifier ℕ} {ss rest : List Spot} → AtWord x ss rest → At (word x.spelling) ss rest
+pub a_word_at : {x : Identifier ℕ} {ss rest : List PlacedTerminal} → AtWord x ss rest → At (word x.spelling) ss rest
 a_word_at {x} l = record { at = x.at; whole = l.whole }
 
-none_fits_marks : (rs : List Row) (t : Spot) (ss : List Spot) → MissAll rs (t ∷ ss)
+none_fits_marks : (rs : List Row) (t : PlacedTerminal) (ss : List PlacedTerminal) → MissAll rs (t ∷ ss)
     → among (kind_number t.kind) (firsts rs) ≡ true → ⊥
 none_fits_marks [] t ss m e = cc
 none_fits_marks (r ∷ rs) t ss (m, ms) e =
@@ -49,41 +49,41 @@ none_fits_marks (r ∷ rs) t ss (m, ms) e =
       | inr i ↦ none_fits_marks rs t ss ms i
     ]
 
-moves_on : (x : Symbol) (ss : List Spot) → can_omit x ≡ true → MissAll (rows x) ss → move_at x ss ≡ omitted
+moves_on : (x : Symbol) (ss : List PlacedTerminal) → can_omit x ≡ true → MissAll (rows x) ss → move_at x ss ≡ omitted
 moves_on x [] o m = ap (λ b. cond b omitted refuses) o
 moves_on x (t ∷ ss) o m = move_omits x t.kind o (none_fits_marks (rows x) t ss m)
 
-moves_no : (x : Symbol) (ss : List Spot) → can_omit x ≡ false → MissAll (rows x) ss → move_at x ss ≡ refuses
+moves_no : (x : Symbol) (ss : List PlacedTerminal) → can_omit x ≡ false → MissAll (rows x) ss → move_at x ss ≡ refuses
 moves_no x [] o m = ap (λ b. cond b omitted refuses) o
 moves_no x (t ∷ ss) o m = move_refuses x t.kind o (none_fits_marks (rows x) t ss m)
 
 -- no row fits: the symbol is left out, or no text goes on
-pub omits_unless : (outer end : ℕ) (x : Symbol) (below : Stack) (ss : List Spot) → can_omit x ≡ true
+pub omits_unless : (outer end : ℕ) (x : Symbol) (below : Stack) (ss : List PlacedTerminal) → can_omit x ≡ true
     → MissAll (rows x) ss → fate outer end (x ∷ below) ss ≡ fate outer end below ss
 omits_unless outer end x below ss o m = fate_omits outer end x below ss (moves_on x ss o m)
 
-pub refuses_unless : (outer end : ℕ) (x : Symbol) (below : Stack) (ss : List Spot) → can_omit x ≡ false
+pub refuses_unless : (outer end : ℕ) (x : Symbol) (below : Stack) (ss : List PlacedTerminal) → can_omit x ≡ false
     → MissAll (rows x) ss → fate outer end (x ∷ below) ss ≡ syntax_at (place end ss)
 refuses_unless outer end x below ss o m = fate_refuses outer end x below ss (moves_no x ss o m)
 
-none_own_fits : (rs : List Row) (ss : List Spot) → MissAll rs ss → NoneFits rs ss
+none_own_fits : (rs : List Row) (ss : List PlacedTerminal) → MissAll rs ss → NoneFits rs ss
 none_own_fits rs [] m = tt
 none_own_fits rs (t ∷ ss) m = false_from_ne_true (among (kind_number t.kind) (firsts rs)) (none_fits_marks rs t ss m)
 
 -- past some of its own rows it begins as another one with more behind it
-pub begins_past : (outer end : ℕ) (x y : Symbol) (own : List Row) (more : List Symbol) (below : Stack) (ss : List Spot)
+pub begins_past : (outer end : ℕ) (x y : Symbol) (own : List Row) (more : List Symbol) (below : Stack) (ss : List PlacedTerminal)
     → rows x ≡ own ++ behind more (rows y) → can_omit x ≡ false → can_omit y ≡ false → MissAll own ss
     → fate outer end (x ∷ below) ss ≡ fate outer end (y ∷ more ++ below) ss
 begins_past outer end x y own more below ss e o p m =
     fate_expands outer end x y own more below ss e o p (none_own_fits own ss m)
 
-pub begins_as : (outer end : ℕ) (x y : Symbol) (more : List Symbol) (below : Stack) (ss : List Spot)
+pub begins_as : (outer end : ℕ) (x y : Symbol) (more : List Symbol) (below : Stack) (ss : List PlacedTerminal)
     → rows x ≡ behind more (rows y) → can_omit x ≡ false → can_omit y ≡ false
     → fate outer end (x ∷ below) ss ≡ fate outer end (y ∷ more ++ below) ss
 begins_as outer end x y more below ss e o p = fate_expands outer end x y [] more below ss e o p (none_own ss)
 
 -- one that may be left out begins as another one, where that one takes the terminal
-pub enters_as : (outer end : ℕ) (x y : Symbol) (more : List Symbol) (below : Stack) {kind : Kind} {ss rest : List Spot}
+pub enters_as : (outer end : ℕ) (x y : Symbol) (more : List Symbol) (below : Stack) {kind : PlainTerminal} {ss rest : List PlacedTerminal}
     {f : List Symbol} → rows x ≡ behind more (rows y) → can_omit y ≡ false
     → At kind ss rest → move y kind ≡ takes f → fate outer end (x ∷ below) ss ≡ fate outer end (y ∷ more ++ below) ss
 unfolding move
@@ -91,7 +91,7 @@ enters_as outer end x y more below {kind} {ss} {rest} {f} e p l m =
     fate_enters outer end x y [] more below ss f e p (none_own ss) (ap (move_at y) l.whole ∙ m)
 
 -- two symbols that do the same at the first terminal
-pub acts_as : (outer end : ℕ) (x y : Symbol) (below : Stack) {kind : Kind} {ss rest : List Spot} → At kind ss rest
+pub acts_as : (outer end : ℕ) (x y : Symbol) (below : Stack) {kind : PlainTerminal} {ss rest : List PlacedTerminal} → At kind ss rest
     → move x kind ≡ move y kind → fate outer end (x ∷ below) ss ≡ fate outer end (y ∷ below) ss
 acts_as outer end x y below {kind} {ss} {rest} l m =
     fate_is outer end x below ss
@@ -99,22 +99,22 @@ acts_as outer end x y below {kind} {ss} {rest} l m =
     ∙ sym (fate_is outer end y below ss)
 
 -- where this mark comes first, rows of other classes miss it
-missing : (rs : List Row) (m : Mark) (at : ℕ) (rest : List Spot) → among (mark_number m) (firsts rs) ≡ false
+missing : (rs : List Row) (m : Mark) (at : ℕ) (rest : List PlacedTerminal) → among (mark_number m) (firsts rs) ≡ false
     → MissAll rs (spot (mark m) at ∷ rest)
 missing [] m at rest e = tt
 missing (r ∷ rs) m at rest e = let b = or_parts (fits r.first (mark m)) (among (mark_number m) (firsts rs)) e in
     (b.0, missing rs m at rest b.1)
 
-pub misses_at : (rs : List Row) {m : Mark} {ss rest : List Spot} → AtMark m ss rest
+pub misses_at : (rs : List Row) {m : Mark} {ss rest : List PlacedTerminal} → AtMark m ss rest
     → among (mark_number m) (firsts rs) ≡ false → MissAll rs ss
-misses_at rs {m} {ss} {rest} l e = subst (λ (x : List Spot). MissAll rs x) (sym l.whole) (missing rs m l.at rest e)
+misses_at rs {m} {ss} {rest} l e = subst (λ (x : List PlacedTerminal). MissAll rs x) (sym l.whole) (missing rs m l.at rest e)
 
 -- a symbol that cannot be left out is not
 cond_omits : (b : Bool) (f : List Symbol) (z : Move) → (z ≡ omitted → ⊥) → cond b (takes f) z ≡ omitted → ⊥
 cond_omits true f z h e = cc
 cond_omits false f z h e = h e
 
-rows_omit : (rs : List Row) (kind : Kind) → move_by rs false kind ≡ omitted → ⊥
+rows_omit : (rs : List Row) (kind : PlainTerminal) → move_by rs false kind ≡ omitted → ⊥
 rows_omit [] kind e = cc
 rows_omit (r ∷ rs) kind e = cond_omits (fits r.first kind) r.wanted (move_by rs false kind) (rows_omit rs kind) e
 
@@ -122,14 +122,14 @@ never_end : (b : Bool) → b ≡ false → cond b omitted refuses ≡ omitted �
 never_end true p e = cc
 never_end false p e = cc
 
-never_omits : (y : Symbol) (ss : List Spot) → can_omit y ≡ false → move_at y ss ≡ omitted → ⊥
+never_omits : (y : Symbol) (ss : List PlacedTerminal) → can_omit y ≡ false → move_at y ss ≡ omitted → ⊥
 unfolding move
 never_omits y [] p e = never_end (can_omit y) p e
 never_omits y (t ∷ ss) p e = rows_omit (rows y) t.kind (ap (λ b. move_by (rows y) b t.kind) (sym p) ∙ e)
 
 -- Before a symbol that has to come and does not, leaving out comes to the same fault.
 by_move : (outer end : ℕ) (x y : Symbol) (own : List Row) (more : List Symbol) (m : Mark) (below : Stack)
-    (ss : List Spot) (z : Move) → rows x ≡ own ++ behind more (rows y) → can_omit x ≡ true → can_omit y ≡ false
+    (ss : List PlacedTerminal) (z : Move) → rows x ≡ own ++ behind more (rows y) → can_omit x ≡ true → can_omit y ≡ false
     → MissAll own ss → Misses (the m) ss → move_at y ss ≡ z → (z ≡ omitted → ⊥)
     → fate outer end (x ∷ s.only m ∷ below) ss ≡ fate outer end (y ∷ more ++ s.only m ∷ below) ss
 by_move outer end x y own more m below ss (takes f) e o p own_miss miss h never =
@@ -141,14 +141,14 @@ by_move outer end x y own more m below ss refuses e o p own_miss miss h never =
     ∙ sym (fate_refuses outer end y (more ++ s.only m ∷ below) ss h)
 
 pub before_closer : (outer end : ℕ) (x y : Symbol) (own : List Row) (more : List Symbol) (m : Mark) (below : Stack)
-    (ss : List Spot) → rows x ≡ own ++ behind more (rows y) → can_omit x ≡ true → can_omit y ≡ false
+    (ss : List PlacedTerminal) → rows x ≡ own ++ behind more (rows y) → can_omit x ≡ true → can_omit y ≡ false
     → MissAll own ss → Misses (the m) ss
     → fate outer end (x ∷ s.only m ∷ below) ss ≡ fate outer end (y ∷ more ++ s.only m ∷ below) ss
 before_closer outer end x y own more m below ss e o p own_miss miss =
     by_move outer end x y own more m below ss (move_at y ss) e o p own_miss miss refl (never_omits y ss p)
 
 -- a keyword that may be left out
-pub flag_runs : (outer end : ℕ) (x : Symbol) (below : Stack) (m : Mark) (b : Bool) (ss rest : List Spot)
+pub flag_runs : (outer end : ℕ) (x : Symbol) (below : Stack) (m : Mark) (b : Bool) (ss rest : List PlacedTerminal)
     → rows x ≡ on m [] ∷ [] → can_omit x ≡ true → move x (mark m) ≡ takes [] → outer + depth below ≤ GREATEST_NESTING
     → IsMarked m b ss rest
     → fate outer end (x ∷ below) ss ≡ fate outer end below rest

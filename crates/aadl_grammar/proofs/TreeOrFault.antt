@@ -2,8 +2,8 @@
 use Rattle.std.proofs.Common.{◌≡◌, ◌⊎◌, inl, inr, ℕ, sym, subst, List, [], ◌∷◌, length, refl}
 use Rattle.aadl_lex.specs.declared.token.Token.{Token}
 use Rattle.aadl_lex.specs.Tokens.{AreTokensOf}
-use Rattle.aadl_tree.specs.Terminals.{Spot, spots, kinds_of}
-use Rattle.aadl_tree.specs.SpellingParts.{Part, Spells, Written}
+use Rattle.aadl_tree.specs.Terminals.{PlacedTerminal, placed_terminals, kinds_of}
+use Rattle.aadl_tree.specs.SpellingParts.{SpellingPart, Spells, Written}
 use Rattle.aadl_tree.specs.Declarations.{PackageTree, package_parts}
 use Rattle.aadl_tree.specs.LanguagesAndNesting.{IsPackage}
 use Rattle.aadl_tree.specs.proof.PlaceMaps.{no_place, package_to}
@@ -19,36 +19,36 @@ use Rattle.aadl_grammar.proofs.PlaceFilling.Declarations.{package_fill}
 use Rattle.aadl_grammar.proofs.PlaceFilling.TerminalPlaces.{placed}
 
 -- nothing is left where no kinds are
-none_left : (ss : List Spot) → kinds_of ss ≡ [] → ss ≡ []
+none_left : (ss : List PlacedTerminal) → kinds_of ss ≡ [] → ss ≡ []
 none_left [] e = refl
 none_left (s ∷ ss) e = absurd cc
 
 -- terminals that spell a package are written by one, at its places
-pub record IsWritten (ss : List Spot) : Type 0 where
+pub record IsWritten (ss : List PlacedTerminal) : Type 0 where
   pub tree : PackageTree ℕ
   pub written : Written (package_parts tree) ss []
 
-of_bare : (t : PackageTree U) (ss : List Spot) → Spells (package_parts t) (kinds_of ss) [] → IsWritten ss
+of_bare : (t : PackageTree U) (ss : List PlacedTerminal) → Spells (package_parts t) (kinds_of ss) [] → IsWritten ss
 of_bare t ss sp =
     let p = placed (package_parts t) ss [] sp in
     let f = package_fill t p.parts p.like in
     record {
       tree = f.tree;
       written =
-          subst (λ (a : List (Part ℕ)). Written a ss []) (sym f.is)
-          (subst (λ (l : List Spot). Written p.parts ss l) (none_left p.left p.kinds) p.written);
+          subst (λ (a : List (SpellingPart ℕ)). Written a ss []) (sym f.is)
+          (subst (λ (l : List PlacedTerminal). Written p.parts ss l) (none_left p.left p.kinds) p.written);
     }
 
-pub is_written : (ss : List Spot) → IsPackage (kinds_of ss) → IsWritten ss
+pub is_written : (ss : List PlacedTerminal) → IsPackage (kinds_of ss) → IsWritten ss
 is_written ss x =
     of_bare (package_to no_place x.tree) ss (alike_spells (kinds_of ss) [] (package_alike no_place x.tree) x.spelled)
 
 by_fate : (text : List ℕ) (tokens : List Token) → AreTokensOf text tokens → (f : Fate)
-    → fate 0 (length text) whole_package (spots text tokens) ≡ f
+    → fate 0 (length text) whole_package (placed_terminals text tokens) ≡ f
     → HasTree text ⊎ HasLexFault text ⊎ Stops text ⊎ NestsTooDeep text
 by_fate text tokens l finished e =
-    let both = (answers_text IsPackage 0 (length text) packages (spots text tokens)).0 e in
-    let w = is_written (spots text tokens) both.0 in
+    let both = (answers_text IsPackage 0 (length text) packages (placed_terminals text tokens)).0 e in
+    let w = is_written (placed_terminals text tokens) both.0 in
     inl (w.tree, record { tokens = tokens; lexed = l; written = w.written; shallow = both.1 })
 by_fate text tokens l (syntax_at at) e =
     inr (inr (inl (
@@ -56,7 +56,7 @@ by_fate text tokens l (syntax_at at) e =
       record {
         tokens = tokens;
         lexed = l;
-        fails = (answers_fault IsPackage 0 (length text) packages (spots text tokens) at).0 e;
+        fails = (answers_fault IsPackage 0 (length text) packages (placed_terminals text tokens) at).0 e;
       },
     )))
 by_fate text tokens l (deep_at at) e =
@@ -65,13 +65,13 @@ by_fate text tokens l (deep_at at) e =
       record {
         tokens = tokens;
         lexed = l;
-        deep = (answers_depth IsPackage 0 (length text) packages (spots text tokens) at).0 e;
+        deep = (answers_depth IsPackage 0 (length text) packages (placed_terminals text tokens) at).0 e;
       },
     )))
 
 by_tokens : (text : List ℕ) → HasTokens text ⊎ HasLexFault text
     → HasTree text ⊎ HasLexFault text ⊎ Stops text ⊎ NestsTooDeep text
-by_tokens text (inl (tokens, l)) = by_fate text tokens l (fate 0 (length text) whole_package (spots text tokens)) refl
+by_tokens text (inl (tokens, l)) = by_fate text tokens l (fate 0 (length text) whole_package (placed_terminals text tokens)) refl
 by_tokens text (inr fault) = inr (inl fault)
 
 pub tree_or_fault : (text : List ℕ) → HasTree text ⊎ HasLexFault text ⊎ Stops text ⊎ NestsTooDeep text

@@ -6,8 +6,8 @@ use Rattle.std.proofs.lemmas.List.{append-nil}
 use Rattle.aadl_tree.specs.declared.mark.Mark.TheVariants as k
 use Rattle.aadl_tree.specs.declared.values.Value.{Value}
 use Rattle.aadl_tree.specs.declared.values.Association.{Association}
-use Rattle.aadl_tree.specs.Terminals.{word, mark, Spot}
-use Rattle.aadl_tree.specs.SpellingParts.{Part, plain}
+use Rattle.aadl_tree.specs.Terminals.{word, mark, PlacedTerminal}
+use Rattle.aadl_tree.specs.SpellingParts.{SpellingPart, plain}
 use Rattle.aadl_tree.specs.Values as v
 use Rattle.aadl_tree.specs.proof.ValueViews.{value_view, values_view, association_view, associations_view}
 use Rattle.aadl_tree.specs.proof.PlaceMaps.{kept_place}
@@ -21,11 +21,11 @@ use Rattle.aadl_grammar.specs.declared.parse_fault.ParseFault.{ParseFault}
 use Rattle.aadl_grammar.specs.proof.ParserAnswers.{spot, At, AtMark, StartsWord, Reads, Parses, AnyRoom, Room}
 use Rattle.aadl_grammar.proofs.PartSequences.{nothing, then, marked, respelled, regroup, begun}
 
-pub starts_at : {ss : List Spot} (l : StartsWord ss) → At (word l.spelling) ss l.rest
+pub starts_at : {ss : List PlacedTerminal} (l : StartsWord ss) → At (word l.spelling) ss l.rest
 starts_at l = record { at = l.at; whole = l.whole }
 
 -- a part that has no openers may be read with any room
-pub with_room : {X : Type 0} {r : Reader} (room : ℕ) {wanted : Stack} {parts : X → List (Part ℕ)} {at : ℕ}
+pub with_room : {X : Type 0} {r : Reader} (room : ℕ) {wanted : Stack} {parts : X → List (SpellingPart ℕ)} {at : ℕ}
     {result : Result (X × ℕ) ParseFault} → Parses r AnyRoom wanted parts at result
     → Parses r (Room room) wanted parts at result
 with_room room p = record { runs = λ outer below h. p.runs outer below (omega (arith, h)); reads = p.reads }
@@ -47,7 +47,7 @@ more_listed (y ∷ xs) x =
     (sym (append_assoc (v.value_parts (value_view kept_place y)) (v.more_values_parts (values_view kept_place xs))
     (plain k.Comma ∷ v.value_parts (value_view kept_place x))))
 
-pub values_push : (old new : List Value) (first : Value) (others : List Value) (x : Value) {ss mid rest : List Spot}
+pub values_push : (old new : List Value) (first : Value) (others : List Value) (x : Value) {ss mid rest : List PlacedTerminal}
     → old ≡ first ∷ others → new ≡ old ++ x ∷ [] → Reads (v.values_parts (values_view kept_place old)) ss mid
     → Reads (plain k.Comma ∷ v.value_parts (value_view kept_place x)) mid rest
     → Reads (v.values_parts (values_view kept_place new)) ss rest
@@ -66,7 +66,7 @@ associations_listed (y ∷ xs) x =
     ∙ sym (append_assoc (v.association_parts (association_view kept_place y))
     (v.associations_parts (associations_view kept_place xs)) (v.association_parts (association_view kept_place x)))
 
-pub associations_push : (xs ys : List Association) (x : Association) {ss mid rest : List Spot} → ys ≡ xs ++ x ∷ []
+pub associations_push : (xs ys : List Association) (x : Association) {ss mid rest : List PlacedTerminal} → ys ≡ xs ++ x ∷ []
     → Reads (v.associations_parts (associations_view kept_place xs)) ss mid
     → Reads (v.association_parts (association_view kept_place x)) mid rest
     → Reads (v.associations_parts (associations_view kept_place ys)) ss rest
@@ -81,21 +81,21 @@ associations_spelled [] = refl
 associations_spelled (x ∷ xs) =
     ap (λ l. v.association_parts (association_view kept_place x) ++ l) (associations_spelled xs)
 
-plain_begun : (t : v.Association ℕ) {ss rest : List Spot} → Reads (v.association_parts t) ss rest
+plain_begun : (t : v.Association ℕ) {ss rest : List PlacedTerminal} → Reads (v.association_parts t) ss rest
     → length rest < length ss
 plain_begun (v.association name operator constant t paths) a = begun a
 
-pub association_begun : (x : Association) {ss rest : List Spot}
+pub association_begun : (x : Association) {ss rest : List PlacedTerminal}
     → Reads (v.association_parts (association_view kept_place x)) ss rest → length rest < length ss
 association_begun x a = plain_begun (association_view kept_place x) a
 
 -- a word is no closer, so what is read before the closer is no empty list
-pub braced : (xs : List Association) {front ss mid rest : List Spot} → StartsWord ss → AtMark k.BraceOpen front ss
+pub braced : (xs : List Association) {front ss mid rest : List PlacedTerminal} → StartsWord ss → AtMark k.BraceOpen front ss
     → Reads (v.associations_parts (associations_view kept_place xs)) ss mid → AtMark k.BraceClose mid rest
     → Reads (v.properties_parts (associations_view kept_place xs)) front rest
 braced [] {ss = ss} {mid = mid} {rest = rest} w l a c = absurd (no_closer (sym w.whole ∙ a.written ∙ c.whole)) where
-  no_closer : {bytes : List ℕ} {p q : ℕ} {xs ys : List Spot}
+  no_closer : {bytes : List ℕ} {p q : ℕ} {xs ys : List PlacedTerminal}
       → spot (word bytes) p ∷ xs ≡ spot (mark k.BraceClose) q ∷ ys → ⊥
   no_closer {bytes} {p} {q} {xs} {ys} e = let k : word bytes ≡ mark k.BraceClose =
-      ap (λ (x : Spot). x.kind) (heads (spot (word bytes) p) (spot (mark k.BraceClose) q) xs ys e) in cc
+      ap (λ (x : PlacedTerminal). x.kind) (heads (spot (word bytes) p) (spot (mark k.BraceClose) q) xs ys e) in cc
 braced (x ∷ xs) w l a c = marked l (then a (marked c nothing))

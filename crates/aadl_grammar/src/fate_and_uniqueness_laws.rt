@@ -1,7 +1,7 @@
 //! Laws of the machine. Each function does nothing; its contract is proved.
 ghost use Rattle.std.specs.Prelude.{◌≡◌, ◌↔◌, ◌+◌, ℕ, List, [], ◌∷◌, map};
 ghost use Rattle.aadl_tree.specs.declared.nesting_limit.TheConstants.{GREATEST_NESTING};
-ghost use Rattle.aadl_tree.specs.Terminals.{Kind, mark, Spot, kinds_of};
+ghost use Rattle.aadl_tree.specs.Terminals.{PlainTerminal, mark, PlacedTerminal, kinds_of};
 ghost use Rattle.aadl_tree.specs.declared.mark.Mark.TheVariants as k;
 ghost use Rattle.aadl_tree.specs.SpellingParts.{Spells, Written, kept};
 ghost use Rattle.aadl_tree.specs.Annexes.{AnnexTree, annex_tree_parts};
@@ -35,30 +35,30 @@ pub fn openers_are_counted()
 /// fault just where no text goes on, and for depth just at the opener that makes the nesting too
 /// deep. So of each list of terminals one of the three holds, at one place.
 pub fn fate_of_package()
-    ensures finished { (end : ℕ) (spots : List Spot)
+    ensures finished { (end : ℕ) (spots : List PlacedTerminal)
         → (fate 0 end whole_package spots ≡ finished) ↔ (IsPackage (kinds_of spots) × IsShallow 0 (kinds_of spots)) }
-    ensures syntax { (end : ℕ) (spots : List Spot) (at : ℕ) → (fate 0 end whole_package spots ≡ syntax_at at) ↔ FailsAt IsPackage 0 end spots at }
-    ensures deep { (end : ℕ) (spots : List Spot) (at : ℕ) → (fate 0 end whole_package spots ≡ deep_at at) ↔ DeepAt IsPackage 0 spots at }
+    ensures syntax { (end : ℕ) (spots : List PlacedTerminal) (at : ℕ) → (fate 0 end whole_package spots ≡ syntax_at at) ↔ FailsAt IsPackage 0 end spots at }
+    ensures deep { (end : ℕ) (spots : List PlacedTerminal) (at : ℕ) → (fate 0 end whole_package spots ≡ deep_at at) ↔ DeepAt IsPackage 0 spots at }
 {}
 
 /// The machine finishes on just the bodies of behaviour annexes that are not nested too deep, each
 /// by itself, with its opener open around it. It stops with a fault just where no text goes on, and
 /// for depth just at the opener that makes the nesting too deep.
 pub fn fate_of_behaviour()
-    ensures finished { (end : ℕ) (spots : List Spot)
+    ensures finished { (end : ℕ) (spots : List PlacedTerminal)
         → (fate 1 end annex_body spots ≡ finished) ↔ (IsBehaviour (kinds_of spots) × IsShallow 1 (kinds_of spots)) }
-    ensures syntax { (end : ℕ) (spots : List Spot) (at : ℕ) → (fate 1 end annex_body spots ≡ syntax_at at) ↔ FailsAt IsBehaviour 1 end spots at }
-    ensures deep { (end : ℕ) (spots : List Spot) (at : ℕ) → (fate 1 end annex_body spots ≡ deep_at at) ↔ DeepAt IsBehaviour 1 spots at }
+    ensures syntax { (end : ℕ) (spots : List PlacedTerminal) (at : ℕ) → (fate 1 end annex_body spots ≡ syntax_at at) ↔ FailsAt IsBehaviour 1 end spots at }
+    ensures deep { (end : ℕ) (spots : List PlacedTerminal) (at : ℕ) → (fate 1 end annex_body spots ≡ deep_at at) ↔ DeepAt IsBehaviour 1 spots at }
 {}
 
 /// Terminals spell one package, or one behaviour, at most, where places do not count. So trees of one
 /// text, with their places, have one canonical text.
 pub fn a_text_has_one_tree()
-    ensures package { (ks : List Kind) (t u : PackageTree (Unit {0})) → Spells (package_parts t) ks [] → Spells (package_parts u) ks [] → t ≡ u }
-    ensures behaviour { (ks : List Kind) (t u : AnnexTree (Unit {0})) → Spells (annex_tree_parts t) ks [] → Spells (annex_tree_parts u) ks [] → t ≡ u }
-    ensures kept_of_package { (ks : List Kind) (t u : PackageTree ℕ)
+    ensures package { (ks : List PlainTerminal) (t u : PackageTree (Unit {0})) → Spells (package_parts t) ks [] → Spells (package_parts u) ks [] → t ≡ u }
+    ensures behaviour { (ks : List PlainTerminal) (t u : AnnexTree (Unit {0})) → Spells (annex_tree_parts t) ks [] → Spells (annex_tree_parts u) ks [] → t ≡ u }
+    ensures kept_of_package { (ks : List PlainTerminal) (t u : PackageTree ℕ)
         → Spells (package_parts t) ks [] → Spells (package_parts u) ks [] → kept (package_parts t) ≡ kept (package_parts u) }
-    ensures kept_of_behaviour { (ks : List Kind) (t u : AnnexTree ℕ)
+    ensures kept_of_behaviour { (ks : List PlainTerminal) (t u : AnnexTree ℕ)
         → Spells (annex_tree_parts t) ks [] → Spells (annex_tree_parts u) ks [] → kept (annex_tree_parts t) ≡ kept (annex_tree_parts u) }
 {}
 
@@ -66,9 +66,9 @@ pub fn a_text_has_one_tree()
 /// terminals that are just those that a package keeps are written by the same package at their own
 /// places: so the canonical text of a package has its tree.
 pub fn one_tree_with_places()
-    ensures package { (ss : List Spot) (t u : PackageTree ℕ) → Written (package_parts t) ss [] → Written (package_parts u) ss [] → t ≡ u }
-    ensures behaviour { (ss : List Spot) (t u : AnnexTree ℕ) → Written (annex_tree_parts t) ss [] → Written (annex_tree_parts u) ss [] → t ≡ u }
-    ensures moved { (t : PackageTree ℕ) (ss ts : List Spot)
+    ensures package { (ss : List PlacedTerminal) (t u : PackageTree ℕ) → Written (package_parts t) ss [] → Written (package_parts u) ss [] → t ≡ u }
+    ensures behaviour { (ss : List PlacedTerminal) (t u : AnnexTree ℕ) → Written (annex_tree_parts t) ss [] → Written (annex_tree_parts u) ss [] → t ≡ u }
+    ensures moved { (t : PackageTree ℕ) (ss ts : List PlacedTerminal)
         → Written (package_parts t) ss [] → Rising ss → kinds_of ts ≡ kept (package_parts t) → SamePackage t ts }
 {}
 

@@ -26,5 +26,5 @@ pub use lists::{followers, section};
 pub use names::{dot_identifier, identifier, identifiers, name, path, reference};
 pub use parse_fault::ParseFault;
 pub use reader::{Parsed, Reader};
-pub use terminal::{Terminal, TerminalKind, narrow, resolve};
+pub use terminal::{Terminal, TerminalClass, narrow, resolve};
 pub use values::{association, properties};

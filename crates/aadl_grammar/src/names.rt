@@ -9,7 +9,7 @@ ghost use Rattle.aadl_tree.specs.proof.PlaceMaps.{kept_place};
 ghost use Rattle.aadl_grammar.specs.proof.GrammarSymbols as s;
 ghost use Rattle.aadl_grammar.specs.proof.GrammarSymbols.{Symbol};
 ghost use Rattle.aadl_grammar.specs.proof.ParserAnswers.{Parses, AnyRoom};
-ghost use Rattle.aadl_grammar.specs.proof.ListAnswers.{Lists};
+ghost use Rattle.aadl_grammar.specs.proof.ListAnswers.{IsList};
 
 use crate::lists::followers;
 use crate::parse_fault::ParseFault;
@@ -30,7 +30,7 @@ pub fn identifier(reader: &Reader<'_>, at: usize) -> Parsed<Identifier>
 
 /// `{ mark id }`
 fn more_identifiers(reader: &Reader<'_>, at: usize, mark: Mark) -> Parsed<Vec<Identifier>>
-    ensures { (list : Symbol) → Lists (Some mark) s.identifier list → Parses reader.now AnyRoom (list ∷ [])
+    ensures { (list : Symbol) → IsList (Some mark) s.identifier list → Parses reader.now AnyRoom (list ∷ [])
         (λ x. flat_map (behind mark identifier_parts) (map (identifier_view kept_place) x.items)) at result }
 {
     let none = Vec::new(reader.alloc);

@@ -15,7 +15,7 @@ ghost use Rattle.aadl_grammar.specs.proof.ParserAnswers.{Expects, MissAll, IsMar
 
 use crate::parse_fault::ParseFault;
 use crate::reader::Reader;
-use crate::terminal::{Terminal, TerminalKind, between};
+use crate::terminal::{Terminal, TerminalClass, between};
 use aadl_tree::{Identifier, Mark, Sign};
 use std::str;
 
@@ -53,7 +53,7 @@ impl Reader<'_> {
     {
         let (terminal, next) = self.first(at)?;
         match terminal.kind {
-            TerminalKind::Mark(found) => { if found.is(mark) { Some(next) } else { None } }
+            TerminalClass::Mark(found) => { if found.is(mark) { Some(next) } else { None } }
             _ => None,
         }
     }
@@ -64,7 +64,7 @@ impl Reader<'_> {
     {
         match self.first(at) {
             Some((terminal, _)) => match terminal.kind {
-                TerminalKind::Word => true,
+                TerminalClass::Word => true,
                 _ => false,
             },
             None => false,
@@ -77,7 +77,7 @@ impl Reader<'_> {
     {
         let (terminal, next) = self.first(at)?;
         match terminal.kind {
-            TerminalKind::Whole(value) => Some((value, next)),
+            TerminalClass::Whole(value) => Some((value, next)),
             _ => None,
         }
     }
@@ -91,7 +91,7 @@ impl Reader<'_> {
             return Ok(None);
         };
         match terminal.kind {
-            TerminalKind::Real => {
+            TerminalClass::Real => {
                 let bytes = self.bytes(terminal).to_vec(self.alloc)?;
                 Ok(Some((bytes, next)))
             }
@@ -109,7 +109,7 @@ impl Reader<'_> {
             return Ok(None);
         };
         match terminal.kind {
-            TerminalKind::Quoted => {
+            TerminalClass::Quoted => {
                 let bytes = self.bytes(terminal).to_vec(self.alloc)?;
                 Ok(Some((bytes, next)))
             }
@@ -127,7 +127,7 @@ impl Reader<'_> {
             return Ok(None);
         };
         match terminal.kind {
-            TerminalKind::Unread => {
+            TerminalClass::Unread => {
                 let bytes = self.bytes(terminal).to_vec(self.alloc)?;
                 Ok(Some((bytes, next)))
             }
@@ -155,7 +155,7 @@ impl Reader<'_> {
             return Ok(None);
         };
         match terminal.kind {
-            TerminalKind::Word => {
+            TerminalClass::Word => {
                 let spelling = self.spelling(terminal)?;
                 let at = terminal.start as usize;
                 Ok(Some((Identifier { at, spelling }, next)))

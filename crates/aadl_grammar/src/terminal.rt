@@ -5,7 +5,7 @@ ghost use Rattle.aadl_lex.specs.Tokens.{bytes_of};
 ghost use Rattle.aadl_lex.specs.declared.token.TokenKind.TheVariants as class;
 ghost use Rattle.aadl_tree.specs.Terminals.{spots_from, kind_of};
 ghost use Rattle.aadl_grammar.specs.proof.TerminalSpots.{between, kind_with, spots_of, AreWords};
-ghost use Rattle.aadl_grammar.specs.declared.terminal.TerminalKind.TheVariants as t;
+ghost use Rattle.aadl_grammar.specs.declared.terminal.TerminalClass.TheVariants as t;
 
 use aadl_lex::{Token, TokenKind};
 use aadl_tree::Mark;
@@ -13,7 +13,7 @@ use std::alloc::{AllocError, Global};
 
 /// What a terminal is. What it says otherwise stands in the text.
 #[derive(Clone, Copy)]
-pub enum TerminalKind {
+pub enum TerminalClass {
     /// A word that is no keyword.
     Word,
     /// A whole number, by its value.
@@ -34,7 +34,7 @@ pub enum TerminalKind {
 /// takes 24 bytes.
 #[derive(Clone, Copy)]
 pub struct Terminal {
-    pub kind: TerminalKind,
+    pub kind: TerminalClass,
     pub start: u32,
     pub end: u32,
 }
@@ -47,26 +47,26 @@ pub(crate) fn between(text: &[u8], start: usize, end: usize) -> &[u8]
     &rest[..end.saturating_sub(start).min(rest.len())]
 }
 
-fn terminal_kind(inside: bool, text: &[u8], token: Token) -> TerminalKind
+fn terminal_kind(inside: bool, text: &[u8], token: Token) -> TerminalClass
     ensures kind { kind_with result (bytes_of text.now token) ≡ kind_of inside text.now token }
     ensures word { result ≡ t.Word → token.kind ≡ class.Word }
 {
     let bytes = between(text, token.start, token.end);
     match token.kind {
         TokenKind::Word => match Mark::keyword(inside, bytes) {
-            Some(mark) => TerminalKind::Mark(mark),
-            None => TerminalKind::Word,
+            Some(mark) => TerminalClass::Mark(mark),
+            None => TerminalClass::Word,
         },
-        TokenKind::Whole(value) => TerminalKind::Whole(value),
-        TokenKind::Real => TerminalKind::Real,
-        TokenKind::Quoted => TerminalKind::Quoted,
+        TokenKind::Whole(value) => TerminalClass::Whole(value),
+        TokenKind::Real => TerminalClass::Real,
+        TokenKind::Quoted => TerminalClass::Quoted,
         TokenKind::Symbol => match Mark::symbol(bytes) {
-            Some(mark) => TerminalKind::Mark(mark),
-            None => TerminalKind::Other,
+            Some(mark) => TerminalClass::Mark(mark),
+            None => TerminalClass::Other,
         },
-        TokenKind::AnnexOpen => TerminalKind::Mark(Mark::AnnexOpen),
-        TokenKind::AnnexClose => TerminalKind::Mark(Mark::AnnexClose),
-        TokenKind::Unread => TerminalKind::Unread,
+        TokenKind::AnnexOpen => TerminalClass::Mark(Mark::AnnexOpen),
+        TokenKind::AnnexClose => TerminalClass::Mark(Mark::AnnexClose),
+        TokenKind::Unread => TerminalClass::Unread,
     }
 }
 

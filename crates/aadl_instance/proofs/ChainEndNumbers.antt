@@ -16,7 +16,7 @@ use Rattle.aadl_tree.specs.proof.PlaceMaps.{kept_place}
 use Rattle.aadl_tree.specs.proof.DeclarationViews.{feature_view}
 use Rattle.aadl_uses.specs.ThreadsBelow.{path_before, IsThreadAt, PathBefore}
 use Rattle.aadl_names.specs.ReferenceResolution.{ports_at, ports_of, implementation_at}
-use Rattle.aadl_uses.specs.Uses.{standing, component_at}
+use Rattle.aadl_uses.specs.Uses.{number_at_path, component_at}
 use Rattle.aadl_uses.specs.ThreadLocations.{ThreadWith}
 use Rattle.aadl_uses.proofs.PathOrder.{never_before}
 use Rattle.aadl_chains.specs.proof.PortsJoinedInside.{is_thread_at}
@@ -88,18 +88,18 @@ module _ (tree : PackageTree ℕ) (root : ℕ) where
   thread_shown paths [] port no_thread t = absurd (true≢false (sym (thread_from tree root [] root refl t) ∙ no_thread))
   thread_shown paths (s ∷ path) port no_thread t = refl
 
-  pub stands : (path : List ℕ) → IsThreadAt tree root path → (n : ℕ) × (standing tree root path ≡ Some n)
-  stands path t = by (standing tree root path) refl
+  pub stands : (path : List ℕ) → IsThreadAt tree root path → (n : ℕ) × (number_at_path tree root path ≡ Some n)
+  stands path t = by (number_at_path tree root path) refl
     where
-      by : (o : Option ℕ) → standing tree root path ≡ o → (n : ℕ) × (standing tree root path ≡ Some n)
+      by : (o : Option ℕ) → number_at_path tree root path ≡ o → (n : ℕ) × (number_at_path tree root path ≡ Some n)
       by None e = absurd (none-some t.0 (sym (ap (option_and_then (implementation_at tree)) e) ∙ t.1.0))
       by (Some n) e = (n, e)
 
-  pub open_at : (path : List ℕ) (n : ℕ) → standing tree root path ≡ Some n
+  pub open_at : (path : List ℕ) (n : ℕ) → number_at_path tree root path ≡ Some n
       → component_at tree root path ≡ implementation_at tree n
   open_at path n e = ap (option_and_then (implementation_at tree)) e
 
-  pub few_at : (path : List ℕ) (n : ℕ) → standing tree root path ≡ Some n → IsThreadAt tree root path
+  pub few_at : (path : List ℕ) (n : ℕ) → number_at_path tree root path ≡ Some n → IsThreadAt tree root path
       → (ThreadWith tree root (λ x p. PORTS < length (ports_of tree x)) → ⊥)
       → length (ports_at tree (implementation_at tree n)) ≤ PORTS
   few_at path n e t few = by (cases_lt PORTS (length (ports_of tree t.0)))

@@ -11,12 +11,12 @@ use Rattle.list_lemmas.proofs.ElementPositions.{slice_get-from_Contains}
 use Rattle.aadl_uses.specs.ThreadsBelow.{path_before, Lists, IsThreadAt, PathBefore}
 use Rattle.aadl_tree.specs.Declarations.{PackageTree}
 use Rattle.aadl_names.specs.ReferenceResolution.{ports_at, implementation_at}
-use Rattle.aadl_uses.specs.Uses.{standing, component_at}
+use Rattle.aadl_uses.specs.Uses.{number_at_path, component_at}
 use Rattle.aadl_chains.specs.proof.PortsJoinedInside.{is_thread_at}
 use Rattle.aadl_chains.specs.Chains.{Port, is_in, IsEnd}
 use Rattle.aadl_chains.proofs.ConnectionsOnChains.{thread_from}
 use Rattle.aadl_chains.proofs.SamePaths.{same_path-self}
-use Rattle.aadl_chains.specs.LinksFeedsAndTaps.{Ends, IsLink, IsFeed, IsTap, same_path, TargetBefore, PortBefore}
+use Rattle.aadl_chains.specs.LinksFeedsAndTaps.{CarriedChain, IsLink, IsFeed, IsTap, same_path, TargetBefore, PortBefore}
 use Rattle.aadl_instance.specs.declared.chain.Chain.{Chain}
 use Rattle.aadl_instance.specs.declared.chain_search.Incoming.{Incoming}
 use Rattle.aadl_instance.specs.Instances.{chain_in}
@@ -77,10 +77,10 @@ module _ (paths : List (List ℕ)) where
 
 -- ---- what is passed comes before
 
-first_before : (a b : Ends) → PathBefore a.to.path b.to.path → TargetBefore a b
+first_before : (a b : CarriedChain) → PathBefore a.to.path b.to.path → TargetBefore a b
 first_before a b e = ap (λ t. t || (same_path a.to.path b.to.path && nat_lt a.to.port b.to.port)) e
 
-then_before : (a b : Ends) → a.to.path ≡ b.to.path → a.to.port < b.to.port → TargetBefore a b
+then_before : (a b : CarriedChain) → a.to.path ≡ b.to.path → a.to.port < b.to.port → TargetBefore a b
 then_before a b e lt =
     let same : same_path a.to.path b.to.path ≡ true =
     subst (λ q. same_path a.to.path q ≡ true) e (same_path-self a.to.path) in
@@ -89,7 +89,7 @@ then_before a b e lt =
     ∙ (ap (λ t. path_before (reverse a.to.path) (reverse b.to.path) || t) less
     ∙ or-true (path_before (reverse a.to.path) (reverse b.to.path)))
 
-before_by : (paths : List (List ℕ)) (node port : ℕ) → AllPairs PathBefore paths → (a b : Ends)
+before_by : (paths : List (List ℕ)) (node port : ℕ) → AllPairs PathBefore paths → (a b : CarriedChain)
     → slice_get paths node ≡ Some b.to.path → b.to.port ≡ port
     → IsPassed paths node port a.to → TargetBefore a b
 before_by paths node port pairs a b at is (inl h) =
@@ -112,15 +112,15 @@ not_root tree root no_thread t = true≢false (sym (thread_from tree root [] roo
 
 -- ---- shown lists
 module _ (tree : PackageTree ℕ) (root : ℕ) (paths : List (List ℕ)) where
-  module _ (P Q : Ends → Type 0) (Before : Ends → Ends → Type 0) where
-    shown_same : (chains : List Chain) → ((x : Ends) → P x → Q x) → ((x : Ends) → Q x → P x)
+  module _ (P Q : CarriedChain → Type 0) (Before : CarriedChain → CarriedChain → Type 0) where
+    shown_same : (chains : List Chain) → ((x : CarriedChain) → P x → Q x) → ((x : CarriedChain) → Q x → P x)
         → AreShown tree root paths P Before chains
         → AreShown tree root paths Q Before chains
     shown_same chains to from s =
         record { ends = s.ends; listed = lists_same P Q Before s.ends to from s.listed; shown = s.shown }
 
-    shown_more : (chains : List Chain) (y : Ends) → ((x : Ends) → P x → Q x) → Q y → ((x : Ends) → Q x → P x ⊎ (y ≡ x))
-        → ((x : Ends) → P x → Before x y)
+    shown_more : (chains : List Chain) (y : CarriedChain) → ((x : CarriedChain) → P x → Q x) → Q y → ((x : CarriedChain) → Q x → P x ⊎ (y ≡ x))
+        → ((x : CarriedChain) → P x → Before x y)
         → AreShown tree root paths P Before chains
         → AreShown tree root paths Q Before (chains ++ chain_in tree root paths y ∷ [])
     shown_more chains y to here cases before s = record {
@@ -131,7 +131,7 @@ module _ (tree : PackageTree ℕ) (root : ℕ) (paths : List (List ℕ)) where
           ∙ sym (map-append (chain_in tree root paths) s.ends (y ∷ []));
     }
 
-  shown_none : (P : Ends → Type 0) (Before : Ends → Ends → Type 0) → ((x : Ends) → P x → ⊥)
+  shown_none : (P : CarriedChain → Type 0) (Before : CarriedChain → CarriedChain → Type 0) → ((x : CarriedChain) → P x → ⊥)
       → AreShown tree root paths P Before []
   shown_none P Before none = record { ends = []; listed = lists_none P Before none; shown = refl }
 
@@ -141,11 +141,11 @@ module _ (tree : PackageTree ℕ) (root : ℕ) (paths : List (List ℕ)) where
     in_by p t (inl h) = h.1
     in_by p t (inr h) = absurd (not_root tree root no_thread (subst (IsThreadAt tree root) h.0 t))
 
-    enters_in : (x : Ends) → IsLink tree root x ⊎ IsFeed tree root x → is_in tree root x.to ≡ true
+    enters_in : (x : CarriedChain) → IsLink tree root x ⊎ IsFeed tree root x → is_in tree root x.to ≡ true
     enters_in x (inl h) = in_by x.to h.3 h.1.ends
     enters_in x (inr h) = in_by x.to h.3 h.1.ends
 
-    not_link_and_feed : (x : Ends) → IsLink tree root x → IsFeed tree root x → ⊥
+    not_link_and_feed : (x : CarriedChain) → IsLink tree root x → IsFeed tree root x → ⊥
     not_link_and_feed x l f = not_root tree root no_thread (subst (IsThreadAt tree root) f.2 l.2)
 
     into_none : AreInto tree root paths 0 0 (record { links = []; feeds = [] })
@@ -171,7 +171,7 @@ module _ (tree : PackageTree ℕ) (root : ℕ) (paths : List (List ℕ)) where
 
     -- all ports of a thread are passed
     pub into_thread : (node port n : ℕ) (path : List ℕ) (incoming : Incoming) → slice_get paths node ≡ Some path
-        → standing tree root path ≡ Some n
+        → number_at_path tree root path ≡ Some n
         → length (ports_at tree (implementation_at tree n)) ≤ port → AreInto tree root paths node port incoming
         → AreInto tree root paths (node + 1) 0 incoming
     into_thread node port n path incoming at stands all i = record {
@@ -196,7 +196,7 @@ module _ (tree : PackageTree ℕ) (root : ℕ) (paths : List (List ℕ)) where
             subst (λ q. component_at tree root q ≡ implementation_at tree n) (same_Some path p (sym at ∙ e))
             (open_at tree root path n stands)
 
-        within : (x : Ends) → IsLink tree root x ⊎ IsFeed tree root x → slice_get paths node ≡ Some x.to.path
+        within : (x : CarriedChain) → IsLink tree root x ⊎ IsFeed tree root x → slice_get paths node ≡ Some x.to.path
             → x.to.port < port
         within x k e =
             let lt = in_within (ports_at tree (component_at tree root x.to.path)) x.to.port (enters_in x k) in
@@ -210,9 +210,9 @@ module _ (tree : PackageTree ℕ) (root : ℕ) (paths : List (List ℕ)) where
       to = record { path = path; port = port }
 
       -- no chain of a kind comes into the port
-      module _ (Kind : Ends → Type 0)
-          (none : (x : Ends) → Kind x → x.to ≡ record { path = path; port = port } → ⊥) where
-        still : (x : Ends) → Kind x → IsPassed paths node port x.to ⊎ (x.to ≡ record { path = path; port = port })
+      module _ (Kind : CarriedChain → Type 0)
+          (none : (x : CarriedChain) → Kind x → x.to ≡ record { path = path; port = port } → ⊥) where
+        still : (x : CarriedChain) → Kind x → IsPassed paths node port x.to ⊎ (x.to ≡ record { path = path; port = port })
             → IsPassed paths node port x.to
         still x k (inl h) = h
         still x k (inr e) = absurd (none x k e)
@@ -227,10 +227,10 @@ module _ (tree : PackageTree ℕ) (root : ℕ) (paths : List (List ℕ)) where
             (λ x h. (h.0, still x h.0 (passed_port paths node port path at x.to h.1))) s
 
       -- one comes
-      module _ (Kind : Ends → Type 0) (one : Ends) (is : Kind one)
+      module _ (Kind : CarriedChain → Type 0) (one : CarriedChain) (is : Kind one)
           (there : one.to ≡ record { path = path; port = port })
-          (only : (x : Ends) → Kind x → x.to ≡ record { path = path; port = port } → one ≡ x) where
-        or_one : (x : Ends) → Kind x → IsPassed paths node port x.to ⊎ (x.to ≡ record { path = path; port = port })
+          (only : (x : CarriedChain) → Kind x → x.to ≡ record { path = path; port = port } → one ≡ x) where
+        or_one : (x : CarriedChain) → Kind x → IsPassed paths node port x.to ⊎ (x.to ≡ record { path = path; port = port })
             → (Kind x × IsPassed paths node port x.to) ⊎ (one ≡ x)
         or_one x k (inl h) = inl (k, h)
         or_one x k (inr e) = inr (only x k e)
@@ -251,15 +251,15 @@ module _ (tree : PackageTree ℕ) (root : ℕ) (paths : List (List ℕ)) where
             s
 
       pub into_skip : (incoming : Incoming)
-          → ((x : Ends) → IsLink tree root x ⊎ IsFeed tree root x → x.to ≡ record { path = path; port = port } → ⊥)
+          → ((x : CarriedChain) → IsLink tree root x ⊎ IsFeed tree root x → x.to ≡ record { path = path; port = port } → ⊥)
           → AreInto tree root paths node port incoming → AreInto tree root paths node (port + 1) incoming
       into_skip incoming none i = record {
         links = shown_skip (IsLink tree root) (λ x k e. none x (inl k) e) incoming.links i.links;
         feeds = shown_skip (IsFeed tree root) (λ x k e. none x (inr k) e) incoming.feeds i.feeds;
       }
 
-      module _ (one : Ends) (there : one.to ≡ record { path = path; port = port })
-          (only : (x : Ends) → IsLink tree root x ⊎ IsFeed tree root x → x.to ≡ record { path = path; port = port }
+      module _ (one : CarriedChain) (there : one.to ≡ record { path = path; port = port })
+          (only : (x : CarriedChain) → IsLink tree root x ⊎ IsFeed tree root x → x.to ≡ record { path = path; port = port }
           → x ≡ one) where
         pub into_link : (incoming : Incoming) → IsLink tree root one → AreInto tree root paths node port incoming
             → AreInto tree root paths node (port + 1)
@@ -285,14 +285,14 @@ module _ (tree : PackageTree ℕ) (root : ℕ) (paths : List (List ℕ)) where
 
     -- all threads are passed
     module _ (node : ℕ) (all : length paths ≤ node) (threads : Lists (IsThreadAt tree root) PathBefore paths) where
-      whole : (Kind : Ends → Type 0) (chains : List Chain) → ((x : Ends) → Kind x → IsThreadAt tree root x.to.path)
+      whole : (Kind : CarriedChain → Type 0) (chains : List Chain) → ((x : CarriedChain) → Kind x → IsThreadAt tree root x.to.path)
           → AreShown tree root paths (λ x. Kind x × IsPassed paths node 0 x.to) TargetBefore chains
           → AreShown tree root paths Kind TargetBefore chains
       whole Kind chains is s =
           shown_same (λ x. Kind x × IsPassed paths node 0 x.to) Kind TargetBefore chains (λ x h. h.0)
           (λ x k. (k, reached x (threads.complete x.to.path (is x k)))) s
         where
-          reached : (x : Ends) → Contains paths x.to.path → IsPassed paths node 0 x.to
+          reached : (x : CarriedChain) → Contains paths x.to.path → IsPassed paths node 0 x.to
           reached x h = let lt = h.1 in inl (h.0, omega arith, slice_get-from_Contains paths x.to.path h)
 
       pub links_whole : (incoming : Incoming) → AreInto tree root paths node 0 incoming
@@ -308,7 +308,7 @@ module _ (tree : PackageTree ℕ) (root : ℕ) (paths : List (List ℕ)) where
   taps_none =
       shown_none (λ x. IsTap tree root x × (x.to.port < 0)) PortBefore (λ x h. let lt = h.1 in absurd (omega arith))
 
-  lower_or : (port : ℕ) (x : Ends) → x.to.path ≡ [] → x.to.port < port + 1
+  lower_or : (port : ℕ) (x : CarriedChain) → x.to.path ≡ [] → x.to.port < port + 1
       → (x.to.port ≡ port) ⊎ ((x.to.port < port) ⊎ (port < x.to.port))
       → (x.to.port < port) ⊎ (x.to ≡ record { path = []; port = port })
   lower_or port x e lt (inl same) =
@@ -319,7 +319,7 @@ module _ (tree : PackageTree ℕ) (root : ℕ) (paths : List (List ℕ)) where
 
   module _ (port : ℕ) where
     pub taps_skip : (taps : List Chain)
-        → ((x : Ends) → IsTap tree root x → x.to ≡ record { path = []; port = port } → ⊥)
+        → ((x : CarriedChain) → IsTap tree root x → x.to ≡ record { path = []; port = port } → ⊥)
         → AreTapsTo tree root paths port taps → AreTapsTo tree root paths (port + 1) taps
     taps_skip taps none s =
         shown_same (λ x. IsTap tree root x × (x.to.port < port)) (λ x. IsTap tree root x × (x.to.port < port + 1))
@@ -327,13 +327,13 @@ module _ (tree : PackageTree ℕ) (root : ℕ) (paths : List (List ℕ)) where
         (λ x h. let lt = h.1 in (h.0, omega arith))
         (λ x h. (h.0, by x h.0 (lower_or port x h.0.3 h.1 (cases_order x.to.port port)))) s
       where
-        by : (x : Ends) → IsTap tree root x → (x.to.port < port) ⊎ (x.to ≡ record { path = []; port = port })
+        by : (x : CarriedChain) → IsTap tree root x → (x.to.port < port) ⊎ (x.to ≡ record { path = []; port = port })
             → x.to.port < port
         by x t (inl less) = less
         by x t (inr e) = absurd (none x t e)
 
-    pub taps_more : (taps : List Chain) (one : Ends) → IsTap tree root one → one.to ≡ record { path = []; port = port }
-        → ((x : Ends) → IsTap tree root x → x.to ≡ record { path = []; port = port } → x ≡ one)
+    pub taps_more : (taps : List Chain) (one : CarriedChain) → IsTap tree root one → one.to ≡ record { path = []; port = port }
+        → ((x : CarriedChain) → IsTap tree root x → x.to ≡ record { path = []; port = port } → x ≡ one)
         → AreTapsTo tree root paths port taps
         → AreTapsTo tree root paths (port + 1) (taps ++ chain_in tree root paths one ∷ [])
     taps_more taps one is there only s =
@@ -349,10 +349,10 @@ module _ (tree : PackageTree ℕ) (root : ℕ) (paths : List (List ℕ)) where
         here : one.to.port < port + 1
         here = let e = at in omega arith
 
-        less : (x : Ends) → x.to.port < port → PortBefore x one
+        less : (x : CarriedChain) → x.to.port < port → PortBefore x one
         less x lt = let e = at in let before : x.to.port < one.to.port = omega arith in grind (arith, nat_tests)
 
-        by : (x : Ends) → IsTap tree root x → (x.to.port < port) ⊎ (x.to ≡ record { path = []; port = port })
+        by : (x : CarriedChain) → IsTap tree root x → (x.to.port < port) ⊎ (x.to ≡ record { path = []; port = port })
             → (IsTap tree root x × (x.to.port < port)) ⊎ (one ≡ x)
         by x t (inl lt) = inl (t, lt)
         by x t (inr e) = inr (sym (only x t e))
@@ -364,7 +364,7 @@ module _ (tree : PackageTree ℕ) (root : ℕ) (paths : List (List ℕ)) where
         shown_same (λ x. IsTap tree root x × (x.to.port < port)) (IsTap tree root) PortBefore taps (λ x h. h.0)
         (λ x t. (t, within x t)) s
       where
-        within : (x : Ends) → IsTap tree root x → x.to.port < port
+        within : (x : CarriedChain) → IsTap tree root x → x.to.port < port
         within x t =
             let there : HasPort tree root x.to = ends_there tree root t.0 t.4.place x.from x.to t.4.among t.1.leads in
             let lt : x.to.port < length (ports_at tree (component_at tree root [])) =

@@ -9,13 +9,13 @@ use Rattle.list_lemmas.proofs.Options.{option_map-parts}
 use Rattle.list_lemmas.proofs.ElementPositions.{position_from-within}
 use Rattle.aadl_tree.specs.Names.{Identifier}
 use Rattle.aadl_tree.specs.Declarations.{Feature, Subcomponent, ConnectionEnd, Implementation, PackageTree}
-use Rattle.aadl_names.specs.declared.port_place.PortPlace.{PortPlace}
-use Rattle.aadl_names.specs.declared.port_place.PortPlace.TheVariants.{Own, Inner}
+use Rattle.aadl_names.specs.declared.port_place.NumberedPort.{NumberedPort}
+use Rattle.aadl_names.specs.declared.port_place.NumberedPort.TheVariants.{Own, Inner}
 use Rattle.aadl_names.specs.PackageFaults.{goes_in}
 use Rattle.aadl_names.specs.ReferenceResolution.{implementation_at, referred, target_of, ports_at, ports_of, port_named}
-use Rattle.aadl_names.specs.ReferenceResolution.{sub_named, inner_ports, inner_site, site_by, site, subcomponents_of}
-use Rattle.aadl_uses.specs.Uses.{below, standing, component_at}
-use Rattle.aadl_chains.specs.Chains.{Port, Place, port_at, Goes, Leads}
+use Rattle.aadl_names.specs.ReferenceResolution.{sub_named, inner_ports, inner_end_port, end_port_by, end_port, subcomponents_of}
+use Rattle.aadl_uses.specs.Uses.{below, number_at_path, component_at}
+use Rattle.aadl_chains.specs.Chains.{Port, ConnectionAt, port_at, Goes, Leads}
 use Rattle.aadl_instance.specs.proof.ChainsSoFar.{HasPort}
 
 -- ---- lists
@@ -41,7 +41,7 @@ module _ (tree : PackageTree ℕ) (root : ℕ) where
   targets_same None = refl
   targets_same (Some sub) = refl
 
-  module _ (path : List ℕ) (n : ℕ) (x : Implementation ℕ) (stands : standing tree root path ≡ Some n)
+  module _ (path : List ℕ) (n : ℕ) (x : Implementation ℕ) (stands : number_at_path tree root path ≡ Some n)
       (is : implementation_at tree n ≡ Some x) where
     here : component_at tree root path ≡ Some x
     here = ap (option_and_then (implementation_at tree)) stands ∙ is
@@ -61,46 +61,46 @@ module _ (tree : PackageTree ℕ) (root : ℕ) where
     inner_there : (s p : ℕ) → p < length (inner_ports tree x s) → HasPort tree root (port_at path (Inner s p))
     inner_there s p lt = subst (λ o. p < length (ports_at tree o)) (sym (inside s)) lt
 
-    there_by : (first : Identifier ℕ) (second : Option (Identifier ℕ)) (at : PortPlace)
-        → site_by tree x first second ≡ Some at
+    there_by : (first : Identifier ℕ) (second : Option (Identifier ℕ)) (at : NumberedPort)
+        → end_port_by tree x first second ≡ Some at
         → HasPort tree root (port_at path at)
     there_by first None at e =
         let m = option_map-parts Own (port_named (ports_of tree x) first.spelling) at e in
         subst (λ s. HasPort tree root (port_at path s)) m.2
         (own_there m.0 (named_within (ports_of tree x) first.spelling m.0 m.1))
     there_by first (Some port) at e =
-        option_and_then_some (inner_site tree x port.spelling) (sub_named x.subcomponents first.spelling) at e
+        option_and_then_some (inner_end_port tree x port.spelling) (sub_named x.subcomponents first.spelling) at e
         (λ s f g.
         let m = option_map-parts (Inner s) (port_named (inner_ports tree x s) port.spelling) at g in
         subst (λ t. HasPort tree root (port_at path t)) m.2
         (inner_there s m.0 (named_within (inner_ports tree x s) port.spelling m.0 m.1)))
 
-    pub there : (end : ConnectionEnd ℕ) (at : PortPlace) → site tree x end ≡ Some at
+    pub there : (end : ConnectionEnd ℕ) (at : NumberedPort) → end_port tree x end ≡ Some at
         → HasPort tree root (port_at path at)
-    unfolding site
+    unfolding end_port
     there end at e = there_by end.first end.second at e
 
   -- ---- chains
-  leaves_there : (place : Place) (from to : Port) → Goes tree root place from to → HasPort tree root from
+  leaves_there : (place : ConnectionAt) (from to : Port) → Goes tree root place from to → HasPort tree root from
   leaves_there place from to g =
       subst (HasPort tree root) (sym g.leaves)
       (there place.path g.number g.component g.stands g.is_component g.link.source g.source g.is_source)
 
-  enters_there : (place : Place) (from to : Port) → Goes tree root place from to → HasPort tree root to
+  enters_there : (place : ConnectionAt) (from to : Port) → Goes tree root place from to → HasPort tree root to
   enters_there place from to g =
       subst (HasPort tree root) (sym g.enters)
       (there place.path g.number g.component g.stands g.is_component g.link.target g.target g.is_target)
 
-  begins_by : (c : Place) (cs : List Place) (from to : Port) → Leads tree root (c ∷ cs) from to → HasPort tree root from
+  begins_by : (c : ConnectionAt) (cs : List ConnectionAt) (from to : Port) → Leads tree root (c ∷ cs) from to → HasPort tree root from
   begins_by c [] from to l = subst (HasPort tree root) (sym l.1) (leaves_there c l.0 to l.2)
   begins_by c (d ∷ cs) from to l = begins_by d cs from l.0 l.1
 
-  pub begins_there : (chain : List Place) (place : Place) (from to : Port) → Contains chain place
+  pub begins_there : (chain : List ConnectionAt) (place : ConnectionAt) (from to : Port) → Contains chain place
       → Leads tree root chain from to → HasPort tree root from
   begins_there [] place from to h l = absurd (Contains-nil place h)
   begins_there (c ∷ cs) place from to h l = begins_by c cs from to l
 
-  pub ends_there : (chain : List Place) (place : Place) (from to : Port) → Contains chain place
+  pub ends_there : (chain : List ConnectionAt) (place : ConnectionAt) (from to : Port) → Contains chain place
       → Leads tree root chain from to → HasPort tree root to
   ends_there [] place from to h l = absurd (Contains-nil place h)
   ends_there (c ∷ cs) place from to h l = enters_there c l.0 to l.2

@@ -14,7 +14,7 @@ use Rattle.aadl_uses.specs.Recursion.{IsRecursive}
 use Rattle.aadl_chains.specs.ChainFaults.{IsEndFault}
 use Rattle.aadl_instance.specs.declared.limits.Limit.{Limit}
 use Rattle.aadl_instance.specs.declared.limits.Limit.TheVariants.{Components, Links, Ports, Variables, States, Path}
-use Rattle.aadl_instance.specs.proof.Limits.{name_of, line_of, IsPassed}
+use Rattle.aadl_instance.specs.proof.Limits.{name_of, line_of, IsExceeded}
 use Rattle.aadl_instance.specs.Faults.{IsOver, FoundIn, Found, IsFault, IsSilentTo}
 
 -- limits have the lines from 5 on
@@ -55,7 +55,7 @@ first_by P Q fault to from x = record { found = to fault x.found; first = λ oth
 module _ (tree : PackageTree ℕ) (root : ℕ) where
   -- a limit that is passed, at its line and by its name
   abbrev Passed : ℕ → List ℕ → Type 0
-  Passed line what = (limit : Limit) × (line ≡ line_of limit) × (what ≡ name_of limit) × IsPassed tree root limit
+  Passed line what = (limit : Limit) × (line ≡ line_of limit) × (what ≡ name_of limit) × IsExceeded tree root limit
 
   passed_of : (line : ℕ) (what : List ℕ) → IsOver tree root line what → Passed line what
   passed_of line what (inl h) = (Components, h.0, h.1, h.2)
@@ -65,7 +65,7 @@ module _ (tree : PackageTree ℕ) (root : ℕ) where
   passed_of line what (inr (inr (inr (inr (inl h))))) = (States, h.0, h.1, h.2)
   passed_of line what (inr (inr (inr (inr (inr h))))) = (Path, h.0, h.1, h.2)
 
-  over_of : (limit : Limit) (what : List ℕ) → what ≡ name_of limit → IsPassed tree root limit
+  over_of : (limit : Limit) (what : List ℕ) → what ≡ name_of limit → IsExceeded tree root limit
       → IsOver tree root (line_of limit) what
   over_of Components what e h = inl (refl, e, h)
   over_of Links what e h = inr (inl (refl, e, h))
@@ -157,7 +157,7 @@ module _ (tree : PackageTree ℕ) (root : ℕ) where
       by (inr (inr gt)) = inr (omega arith)
 
   -- no limit is passed
-  pub all_silent : IsSilentTo tree root 5 → ((limit : Limit) → IsPassed tree root limit → ⊥)
+  pub all_silent : IsSilentTo tree root 5 → ((limit : Limit) → IsExceeded tree root limit → ⊥)
       → (line : ℕ) (fault : PackageFault) → FoundIn tree root line fault → ⊥
   all_silent before none line fault h = by (split line)
     where
@@ -195,8 +195,8 @@ module _ (tree : PackageTree ℕ) (root : ℕ) where
   too_many_alike what fault h = ap (λ f. precedes f (TooMany what)) h.1
 
   pub limit_fault : (limit : Limit) (what : List ℕ) → IsSilentTo tree root 5 → what ≡ name_of limit
-      → IsPassed tree root limit
-      → ((other : Limit) → line_of other < line_of limit → IsPassed tree root other → ⊥)
+      → IsExceeded tree root limit
+      → ((other : Limit) → line_of other < line_of limit → IsExceeded tree root other → ⊥)
       → IsFirstByLine (FoundIn tree root) (TooMany what)
   limit_fault limit what before is passed first = record {
     line = line_of limit;

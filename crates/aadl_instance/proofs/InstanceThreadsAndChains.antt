@@ -8,7 +8,7 @@ use Rattle.pals_base.specs.declared.limits.TheConstants.{COMPONENTS}
 use Rattle.aadl_tree.specs.Declarations.{PackageTree}
 use Rattle.aadl_names.specs.declared.fault.PackageFault.TheVariants.{TooMany}
 use Rattle.aadl_names.specs.ReferenceResolution.{root_number}
-use Rattle.aadl_uses.specs.Uses.{standing}
+use Rattle.aadl_uses.specs.Uses.{number_at_path}
 use Rattle.aadl_uses.specs.ThreadsBelow.{Lists, IsThreadAt, PathBefore}
 use Rattle.aadl_uses.specs.declared.thread_locations.ThreadAt.{ThreadAt}
 use Rattle.aadl_uses.specs.ThreadLocations.{thread_at}
@@ -111,7 +111,7 @@ module _ (tree : PackageTree ℕ) (checked : Checked) (is : IsChecked tree check
 -- each path leads somewhere
 pub all_stand : (tree : PackageTree ℕ) (root : ℕ) (threads : List (Vec ℕ Global))
     → Lists (IsThreadAt tree root) PathBefore (paths_of threads)
-    → All (λ path. IsSome (standing tree root (reverse path.items))) threads
+    → All (λ path. IsSome (number_at_path tree root (reverse path.items))) threads
 all_stand tree root threads l k d lt =
     let at = path_got threads k (get_or threads k d) (slice_get-get_or threads k d lt) in
     let there = stands tree root (reverse (get_or threads k d).items)

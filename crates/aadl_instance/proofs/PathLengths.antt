@@ -9,7 +9,7 @@ use Rattle.std.proofs.lemmas.Option.{none-some, same_Some, option_and_then_some}
 use Rattle.pals_base.specs.declared.limits.TheConstants.{PATH_BYTES}
 use Rattle.aadl_tree.specs.Declarations.{Subcomponent, Declaration, Implementation, PackageTree}
 use Rattle.aadl_names.specs.ReferenceResolution.{implementation_in, implementation_at, subcomponents_of, referred}
-use Rattle.aadl_uses.specs.Uses.{sub_at, below, standing}
+use Rattle.aadl_uses.specs.Uses.{sub_at, below, number_at_path}
 use Rattle.aadl_uses.specs.proof.PackageContainment.{containment}
 use Rattle.aadl_uses.specs.proof.ThreadCounts.{thread_marks}
 use Rattle.aadl_uses.proofs.PackageContainment.{below-same}
@@ -62,7 +62,7 @@ weight_at tree n s sub e =
 -- ---- from the root's side
 module _ (tree : PackageTree ℕ) (n s k : ℕ) (sub : Subcomponent ℕ) (declared : sub_at tree n s ≡ Some sub)
     (names : below tree n s ≡ Some k) where
-  standing_inside : (r : List ℕ) → standing tree n (r ++ s ∷ []) ≡ standing tree k r
+  standing_inside : (r : List ℕ) → number_at_path tree n (r ++ s ∷ []) ≡ number_at_path tree k r
   standing_inside [] = names
   standing_inside (t ∷ r) = ap (option_and_then (λ m. below tree m t)) (standing_inside r)
 
@@ -71,8 +71,8 @@ module _ (tree : PackageTree ℕ) (n s k : ℕ) (sub : Subcomponent ℕ) (declar
   names_inside (t ∷ r) =
       ap (λ o. name_at (option_and_then (λ m. sub_at tree m t) o) ++ names_along tree n (r ++ s ∷ []))
       (standing_inside r)
-      ∙ (ap (λ l. name_at (option_and_then (λ m. sub_at tree m t) (standing tree k r)) ++ l) (names_inside r)
-      ∙ sym (assoc (name_at (option_and_then (λ m. sub_at tree m t) (standing tree k r)))))
+      ∙ (ap (λ l. name_at (option_and_then (λ m. sub_at tree m t) (number_at_path tree k r)) ++ l) (names_inside r)
+      ∙ sym (assoc (name_at (option_and_then (λ m. sub_at tree m t) (number_at_path tree k r)))))
     where
       assoc : (xs : List (List ℕ))
           → (xs ++ names_along tree k r) ++ sub.name.spelling ∷ []

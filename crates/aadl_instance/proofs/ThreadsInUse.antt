@@ -6,7 +6,7 @@ use Rattle.std.proofs.lemmas.Bool.{true≢false}
 use Rattle.std.proofs.lemmas.Option.{option_and_then_some, slice_get_within}
 use Rattle.aadl_tree.specs.Declarations.{Implementation, Declaration, PackageTree}
 use Rattle.aadl_names.specs.ReferenceResolution.{implementation_in, implementation_at}
-use Rattle.aadl_uses.specs.Uses.{standing, IsInUse}
+use Rattle.aadl_uses.specs.Uses.{number_at_path, IsInUse}
 use Rattle.aadl_uses.specs.proof.ThreadCounts.{is_thread_in}
 use Rattle.aadl_uses.specs.ThreadLocations.{ThreadWith}
 use Rattle.aadl_instance.specs.declared.thread_limits.ThreadPart.{ThreadPart}
@@ -28,7 +28,7 @@ module _ (tree : PackageTree ℕ) (root : ℕ) (used : List ℕ) (part : ThreadP
 
   to_used : ThreadWith tree root (λ x path. most part < count_of tree x part) → HasTooMany tree used part
   to_used t =
-      option_and_then_some (implementation_at tree) (standing tree root t.0) t.1 t.2.0
+      option_and_then_some (implementation_at tree) (number_at_path tree root t.0) t.1 t.2.0
       (λ n stands is. record {
         number = n;
         component = t.1;

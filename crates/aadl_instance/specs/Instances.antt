@@ -14,8 +14,8 @@ use Rattle.aadl_instance.specs.declared.chain.ChainEnd.{ChainEnd}
 use Rattle.aadl_instance.specs.declared.chain.ChainEnd.TheVariants.{Thread, Root}
 use Rattle.aadl_uses.specs.Uses.{component_at}
 use Rattle.aadl_chains.specs.Chains.{Port, port_of}
-use Rattle.aadl_chains.specs.LinksFeedsAndTaps.{same_path, Ends}
-use Rattle.aadl_instance.specs.FlattenedDesign.{Parts, IsFlat}
+use Rattle.aadl_chains.specs.LinksFeedsAndTaps.{same_path, CarriedChain}
+use Rattle.aadl_instance.specs.FlattenedDesign.{InstanceParts, IsFlat}
 use Rattle.aadl_tree.specs.declared.declarations.Direction.TheVariants as directions
 
 abbrev pub same_direction : Direction → Direction → Bool
@@ -51,7 +51,7 @@ abbrev pub end_in : PackageTree ℕ → ℕ → List (List ℕ) → Port → Cha
 end_in tree root threads p = end_by tree root threads p p.path
 
 -- with the threads at these paths
-abbrev pub chain_in : PackageTree ℕ → ℕ → List (List ℕ) → Ends → Chain
+abbrev pub chain_in : PackageTree ℕ → ℕ → List (List ℕ) → CarriedChain → Chain
 chain_in tree root threads ends =
     record {
       from = end_in tree root threads ends.from;
@@ -59,14 +59,14 @@ chain_in tree root threads ends =
       carrier = record { declaration = ends.declaration; connection = ends.connection };
     }
 
-abbrev pub chain_at : PackageTree ℕ → Parts → Ends → Chain
+abbrev pub chain_at : PackageTree ℕ → InstanceParts → CarriedChain → Chain
 chain_at tree parts = chain_in tree parts.root parts.threads
 
 -- the instance of a flattened design of the package
 pub record IsInstance (tree : PackageTree ℕ) (root : ℕ) (threads : List ThreadAt)
     (links feeds taps : List Chain) : Type 0 where
   pub name : List ℕ
-  pub parts : Parts
+  pub parts : InstanceParts
   pub flat : IsFlat tree name parts
   pub root_is : root ≡ parts.root
   pub threads_are : threads ≡ map (thread_at tree parts.root) parts.threads

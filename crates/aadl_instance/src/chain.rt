@@ -8,7 +8,7 @@ pub struct Chain {
     pub to: ChainEnd,
     /// The connection whose properties are the chain's: the one between two subcomponents, or, of a
     /// feed or a tap, the one in the root's implementation.
-    pub carrier: ConnAt,
+    pub carrier: ConnectionAt,
 }
 
 impl Drop for Chain {
@@ -32,7 +32,7 @@ pub enum ChainEnd {
 
 /// A connection: the number of the declaration in which it stands, and its own number there.
 #[derive(Clone, Copy)]
-pub struct ConnAt {
+pub struct ConnectionAt {
     pub declaration: usize,
     pub connection: usize,
 }

@@ -1,7 +1,7 @@
 //! What a search for chains knows: where chains are, and a thread with its number.
 
 use crate::port_numbers::PortNumbers;
-use aadl_uses::Wires;
+use aadl_uses::PackageConnections;
 use indexmap::IndexSet;
 use pals_base::NodeNo;
 
@@ -9,7 +9,7 @@ use pals_base::NodeNo;
 /// its root, the paths of its threads, in depth-first order of declaration, and the numbers of ports.
 #[derive(Clone, Copy)]
 pub struct ChainMap<'t> {
-    pub wires: &'t Wires<'t>,
+    pub wires: &'t PackageConnections<'t>,
     pub order: &'t IndexSet<usize>,
     pub root: usize,
     pub threads: &'t [Vec<usize>],
@@ -18,7 +18,7 @@ pub struct ChainMap<'t> {
 
 /// A thread of a network: its number, its path, and the number of its declaration.
 #[derive(Drop)]
-pub struct ThreadNode<'t> {
+pub struct NumberedThread<'t> {
     pub number: NodeNo,
     pub path: &'t [usize],
     pub declaration: usize,

@@ -5,11 +5,11 @@ ghost use Rattle.aadl_chains.specs.LinksFeedsAndTaps.{IsLink, IsFeed, IsTap, Tar
 ghost use Rattle.aadl_instance.specs.proof.ChainsSoFar as shown;
 ghost use Rattle.aadl_instance.specs.proof.ChainSearchStates.{tree_of, paths_in, IsReady, IsNumbered, IsNode, Shows};
 ghost use Rattle.aadl_instance.specs.proof.ChainSearchStates.{ShowsInto, ShowsTaps};
-ghost use Rattle.aadl_instance.specs.proof.ChainsSoFar.{HasPort, IsBegin};
+ghost use Rattle.aadl_instance.specs.proof.ChainsSoFar.{HasPort, IsChainStart};
 
-use crate::chain::{Chain, ChainEnd, ConnAt};
-use crate::chain_map::{ChainMap, ThreadNode};
-use crate::numbered_ends::{begin_end, node_end, root_end};
+use crate::chain::{Chain, ChainEnd, ConnectionAt};
+use crate::chain_map::{ChainMap, NumberedThread};
+use crate::numbered_ends::{start_end, node_end, root_end};
 use aadl_chains::{ChainRoute, ChainStart, trace_back, trace_tap};
 use aadl_uses::standing;
 use pals_base::{Items, NodeNo};
@@ -61,7 +61,7 @@ fn add_thread(
     let Some(declaration) = standing(&network.wires.uses, network.root, path) else {
         unreachable!();
     };
-    let node = ThreadNode {
+    let node = NumberedThread {
         number,
         path,
         declaration,
@@ -77,7 +77,7 @@ fn add_port(
     alloc: Global,
     incoming: &mut Incoming,
     network: &ChainMap<'_>,
-    node: &ThreadNode<'_>,
+    node: &NumberedThread<'_>,
     port: usize,
 ) -> Result<(), AllocError>
     requires ready { IsReady network.now }
@@ -96,7 +96,7 @@ fn add_chain(
     alloc: Global,
     incoming: &mut Incoming,
     network: &ChainMap<'_>,
-    node: &ThreadNode<'_>,
+    node: &NumberedThread<'_>,
     port: usize,
 ) -> Result<(), AllocError>
     requires ready { IsReady network.now }
@@ -175,13 +175,13 @@ fn chain_by(
     to: ChainEnd,
 ) -> Result<Chain, AllocError>
     requires ready { IsReady network.now }
-    requires begins { IsBegin (tree_of network.now) network.now.root route.now.begin }
+    requires begins { IsChainStart (tree_of network.now) network.now.root route.now.begin }
     ensures { IfOk result (λ chain. chain ≡ shown.chain_by (tree_of network.now) network.now.root (paths_in network.now) route.now to) }
 {
     Ok(Chain {
-        from: begin_end(alloc, network, &route.begin)?,
+        from: start_end(alloc, network, &route.begin)?,
         to,
-        carrier: ConnAt {
+        carrier: ConnectionAt {
             declaration: route.declaration,
             connection: route.connection,
         },

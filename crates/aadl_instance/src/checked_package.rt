@@ -16,7 +16,7 @@ use crate::root::root_number;
 use aadl_chains::first_end_fault;
 use aadl_names::{Names, PackageFault};
 use aadl_tree::PackageTree;
-use aadl_uses::{Uses, Wires, first_recursive};
+use aadl_uses::{Uses, PackageConnections, first_recursive};
 use indexmap::IndexSet;
 use name_faults::first_name_fault;
 use pals_base::Text;
@@ -25,7 +25,7 @@ use std::alloc::{AllocError, Global};
 /// A package that has no fault below a root.
 pub struct Checked<'t> {
     /// Its connections.
-    pub wires: Wires<'t>,
+    pub wires: PackageConnections<'t>,
     /// Its declarations, each behind those that it contains.
     pub order: IndexSet<usize>,
     /// The declarations in use.
@@ -49,7 +49,7 @@ impl<'t> Checked<'t> {
     ghost use Rattle.std.specs.Prelude.{◌≡◌};
 
     /// Its connections alone.
-    pub fn into_wires(self) -> Wires<'t>
+    pub fn into_wires(self) -> PackageConnections<'t>
         ensures { result ≡ self.entry.wires }
     {
         let Checked {
@@ -77,7 +77,7 @@ pub fn check_package<'t>(
         Some(root) => {
             let names = Names::of(alloc, tree)?;
             let uses = Uses::of(alloc, names)?;
-            let wires = Wires::of(alloc, uses)?;
+            let wires = PackageConnections::of(alloc, uses)?;
             check_names(alloc, wires, root)
         }
         None => Err(PackageFault::NoRoot),
@@ -87,7 +87,7 @@ pub fn check_package<'t>(
 // Looks for what is wrong with names, and then further.
 fn check_names<'t>(
     alloc: Global,
-    wires: Wires<'t>,
+    wires: PackageConnections<'t>,
     root: usize,
 ) -> Result<Checked<'t>, PackageFault>
     requires { IsRoot (placed wires.uses.names.tree.now) root }
@@ -105,7 +105,7 @@ fn check_names<'t>(
 // Looks for implementations that contain themselves, and then further.
 fn check_recursion<'t>(
     alloc: Global,
-    wires: Wires<'t>,
+    wires: PackageConnections<'t>,
     root: usize,
 ) -> Result<Checked<'t>, PackageFault>
     requires root { IsRoot (placed wires.uses.names.tree.now) root }
@@ -124,7 +124,7 @@ fn check_recursion<'t>(
 // Looks for what is wrong with connections, and then further.
 fn check_wires<'t>(
     alloc: Global,
-    wires: Wires<'t>,
+    wires: PackageConnections<'t>,
     root: usize,
 ) -> Result<Checked<'t>, PackageFault>
     requires root { IsRoot (placed wires.uses.names.tree.now) root }

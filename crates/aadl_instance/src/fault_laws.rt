@@ -4,11 +4,11 @@ ghost use Rattle.aadl_tree.specs.Declarations.{PackageTree};
 ghost use Rattle.aadl_names.specs.declared.fault.PackageFault.{PackageFault};
 ghost use Rattle.aadl_names.specs.FirstFaults.{place_of, number_of};
 ghost use Rattle.aadl_instance.specs.Faults.{IsFault};
-ghost use Rattle.aadl_instance.specs.FlattenedDesign.{IsFlat, Parts};
+ghost use Rattle.aadl_instance.specs.FlattenedDesign.{IsFlat, InstanceParts};
 
 /// A package has a flattened design or a first fault, and not both.
 pub fn not_both()
-    ensures { (tree : PackageTree ℕ) (name : List ℕ) (parts : Parts) (fault : PackageFault) → IsFlat tree name parts → IsFault tree name fault → ⊥ }
+    ensures { (tree : PackageTree ℕ) (name : List ℕ) (parts : InstanceParts) (fault : PackageFault) → IsFlat tree name parts → IsFault tree name fault → ⊥ }
 {}
 
 /// Two first faults stand at one place and are of one kind.

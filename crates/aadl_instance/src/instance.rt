@@ -3,14 +3,14 @@ ghost use Rattle.aadl_tree.specs.proof.PackageViews.{placed};
 ghost use Rattle.aadl_instance.specs.Instances.{IsInstance};
 
 use crate::chain::Chain;
-use aadl_uses::{ThreadAt, Wires};
+use aadl_uses::{ThreadAt, PackageConnections};
 use pals_base::Items;
 
 /// The instance of a package below one root. Its type keeps that the package has no fault, and that
 /// these are all threads, links, feeds and taps, each once, in their order.
 pub struct Instance<'t> {
     /// The package with its connections, as its names were looked up.
-    pub wires: Wires<'t>,
+    pub wires: PackageConnections<'t>,
     /// The number of the root's implementation among the package's declarations.
     pub root: usize,
     /// The threads, in depth-first order of declaration.

@@ -19,7 +19,7 @@ mod thread_limits;
 
 pub use aadl_names::PackageFault;
 pub use aadl_uses::{SubAt, ThreadAt};
-pub use chain::{Chain, ChainEnd, ConnAt};
+pub use chain::{Chain, ChainEnd, ConnectionAt};
 pub use checked_package::{Checked, check_package};
 pub use flattening::flatten;
 pub use instance::Instance;

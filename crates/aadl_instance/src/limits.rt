@@ -5,15 +5,15 @@ ghost use Rattle.aadl_names.specs.declared.fault.PackageFault.{PackageFault};
 ghost use Rattle.aadl_uses.specs.proof.PackageContainment.{containment};
 ghost use Rattle.aadl_uses.specs.Uses.{IsInUse};
 ghost use Rattle.aadl_chains.specs.ChainFaults.{IsEndFault};
-ghost use Rattle.aadl_chains.specs.proof.DeclaredEnds.{AreDeclared};
+ghost use Rattle.aadl_chains.specs.proof.DeclaredEnds.{ArePermitted};
 ghost use Rattle.aadl_uses.specs.proof.ContainmentOrders.{IsOrder};
 ghost use Rattle.aadl_chains.specs.proof.PortsJoinedInside.{is_thread_at};
 ghost use Rattle.aadl_instance.specs.proof.Limits as spec;
-ghost use Rattle.aadl_instance.specs.proof.Limits.{IsPassed, IsFirstPassed};
+ghost use Rattle.aadl_instance.specs.proof.Limits.{IsExceeded, IsFirstExceeded};
 
 use crate::{ThreadPart, has_too_long_path, has_too_many};
 use aadl_chains::has_too_many_links;
-use aadl_uses::Wires;
+use aadl_uses::PackageConnections;
 use indexmap::IndexSet;
 use std::alloc::{AllocError, Global};
 
@@ -58,18 +58,18 @@ const LIMITS: [Limit; 6] = [
 /// contains itself, and each connection in use is on a chain, and the only one into a port.
 pub fn first_limit(
     alloc: Global,
-    wires: &Wires<'_>,
+    wires: &PackageConnections<'_>,
     order: &IndexSet<usize>,
     used: &IndexSet<usize>,
     root: usize,
 ) -> Result<Option<Limit>, AllocError>
     requires order { IsOrder (containment (placed wires.now.uses.names.tree.now)) order.now.keys }
     requires used { (n : ℕ) → Contains used.now.keys n ↔ IsInUse (placed wires.now.uses.names.tree.now) root n }
-    requires declared { AreDeclared (placed wires.now.uses.names.tree.now) }
+    requires declared { ArePermitted (placed wires.now.uses.names.tree.now) }
     requires ends { (fault : PackageFault) → ¬ IsEndFault (placed wires.now.uses.names.tree.now) root fault }
     requires root { root < length (placed wires.now.uses.names.tree.now).declarations }
     requires no_thread { is_thread_at (placed wires.now.uses.names.tree.now) root ≡ false }
-    ensures { IfOk result (IsFirstPassed (placed wires.now.uses.names.tree.now) root) }
+    ensures { IfOk result (IsFirstExceeded (placed wires.now.uses.names.tree.now) root) }
 {
     let limits = LIMITS;
     for limit in &limits {
@@ -83,7 +83,7 @@ pub fn first_limit(
 // Whether a design passes a limit.
 fn is_passed(
     alloc: Global,
-    wires: &Wires<'_>,
+    wires: &PackageConnections<'_>,
     order: &IndexSet<usize>,
     used: &IndexSet<usize>,
     root: usize,
@@ -91,11 +91,11 @@ fn is_passed(
 ) -> Result<bool, AllocError>
     requires order { IsOrder (containment (placed wires.now.uses.names.tree.now)) order.now.keys }
     requires used { (n : ℕ) → Contains used.now.keys n ↔ IsInUse (placed wires.now.uses.names.tree.now) root n }
-    requires declared { AreDeclared (placed wires.now.uses.names.tree.now) }
+    requires declared { ArePermitted (placed wires.now.uses.names.tree.now) }
     requires ends { (fault : PackageFault) → ¬ IsEndFault (placed wires.now.uses.names.tree.now) root fault }
     requires root { root < length (placed wires.now.uses.names.tree.now).declarations }
     requires no_thread { is_thread_at (placed wires.now.uses.names.tree.now) root ≡ false }
-    ensures { IfOk result (λ passed. IsTrue passed ↔ IsPassed (placed wires.now.uses.names.tree.now) root limit) }
+    ensures { IfOk result (λ passed. IsTrue passed ↔ IsExceeded (placed wires.now.uses.names.tree.now) root limit) }
 {
     match limit {
         Limit::Components => wires.uses.has_too_many_threads(alloc, order, root),

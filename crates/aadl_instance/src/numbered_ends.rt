@@ -4,23 +4,23 @@ ghost use Rattle.aadl_uses.specs.ThreadsBelow.{path_before, IsThreadAt, PathBefo
 ghost use Rattle.aadl_chains.specs.proof.TracedChains.{begin_port};
 ghost use Rattle.aadl_instance.specs.Instances.{end_in};
 ghost use Rattle.aadl_instance.specs.proof.ChainSearchStates.{tree_of, paths_in, IsReady, IsNode};
-ghost use Rattle.aadl_instance.specs.proof.ChainsSoFar.{paths_of, HasPort, IsBegin};
+ghost use Rattle.aadl_instance.specs.proof.ChainsSoFar.{paths_of, HasPort, IsChainStart};
 
 use crate::chain::ChainEnd;
-use crate::chain_map::{ChainMap, ThreadNode};
+use crate::chain_map::{ChainMap, NumberedThread};
 use aadl_chains::ChainStart;
 use aadl_uses::standing;
 use pals_base::{NodeNo, Text};
 use std::alloc::{AllocError, Global};
 
 /// Where a chain begins.
-pub fn begin_end(
+pub fn start_end(
     alloc: Global,
     network: &ChainMap<'_>,
     begin: &ChainStart,
 ) -> Result<ChainEnd, AllocError>
     requires ready { IsReady network.now }
-    requires begins { IsBegin (tree_of network.now) network.now.root begin.now }
+    requires begins { IsChainStart (tree_of network.now) network.now.root begin.now }
     ensures { IfOk result (λ end. end ≡ end_in (tree_of network.now) network.now.root (paths_in network.now) (begin_port begin.now)) }
 {
     match begin {
@@ -52,7 +52,7 @@ fn thread_end(network: &ChainMap<'_>, path: &[usize], port: usize) -> ChainEnd
     let Some(declaration) = standing(&network.wires.uses, network.root, path) else {
         unreachable!();
     };
-    let node = ThreadNode {
+    let node = NumberedThread {
         number: node_of(network.threads, path),
         path,
         declaration,
@@ -61,7 +61,7 @@ fn thread_end(network: &ChainMap<'_>, path: &[usize], port: usize) -> ChainEnd
 }
 
 /// A port of a thread, by its number among those that go as it does.
-pub fn node_end(network: &ChainMap<'_>, node: &ThreadNode<'_>, port: usize) -> ChainEnd
+pub fn node_end(network: &ChainMap<'_>, node: &NumberedThread<'_>, port: usize) -> ChainEnd
     requires ready { IsReady network.now }
     requires node { IsNode network.now node.now }
     requires port { HasPort (tree_of network.now) network.now.root (record { path = reverse node.now.path.now; port = port }) }

@@ -6,7 +6,7 @@ ghost use Rattle.aadl_tree.specs.proof.DeclarationViews.{feature_view};
 ghost use Rattle.aadl_instance.specs.proof.PortNumberTables.{AreAmong, AreNumbers};
 
 use aadl_tree::{Direction, Feature};
-use aadl_uses::Wires;
+use aadl_uses::PackageConnections;
 use name_faults::port_name_tables::ports_at;
 use std::alloc::{AllocError, Global};
 use std::marker::Model;
@@ -32,7 +32,7 @@ impl PortNumbers {
     ghost use Rattle.aadl_instance.specs.proof.PortNumberTables.{number_in, AreNumbers};
 
     /// Those of the types of a package.
-    pub fn of(alloc: Global, wires: &Wires<'_>) -> Result<PortNumbers, AllocError>
+    pub fn of(alloc: Global, wires: &PackageConnections<'_>) -> Result<PortNumbers, AllocError>
         ensures { IfOk result (λ numbers. AreNumbers (placed wires.now.uses.names.tree.now) numbers) }
     {
         let mut numbers = PortNumbers {

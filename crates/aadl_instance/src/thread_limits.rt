@@ -7,7 +7,7 @@ ghost use Rattle.aadl_instance.specs.proof.ThreadLimits as spec;
 ghost use Rattle.aadl_instance.specs.proof.ThreadLimits.{HasTooMany};
 
 use crate::behaviour_sizes::{states_up_to, variables_up_to};
-use aadl_uses::Wires;
+use aadl_uses::PackageConnections;
 use indexmap::IndexSet;
 use pals_base::limits::{PORTS, STATES, VARIABLES};
 
@@ -36,7 +36,7 @@ impl ThreadPart {
 }
 
 /// Whether a thread that is in use has more of something than it may have.
-pub fn has_too_many(wires: &Wires<'_>, used: &IndexSet<usize>, part: ThreadPart) -> bool
+pub fn has_too_many(wires: &PackageConnections<'_>, used: &IndexSet<usize>, part: ThreadPart) -> bool
     ensures used { IsTrue result ↔ HasTooMany (placed wires.now.uses.names.tree.now) used.now.keys part }
     // of all that is in use below a root
     ensures below { (root : ℕ) → ((n : ℕ) → Contains used.now.keys n ↔ IsInUse (placed wires.now.uses.names.tree.now) root n)
@@ -52,14 +52,14 @@ pub fn has_too_many(wires: &Wires<'_>, used: &IndexSet<usize>, part: ThreadPart)
 }
 
 // Whether an implementation has more of something than a thread may have.
-fn has_over(wires: &Wires<'_>, number: usize, part: ThreadPart) -> bool
+fn has_over(wires: &PackageConnections<'_>, number: usize, part: ThreadPart) -> bool
     ensures { IsTrue result ↔ (spec.most part < spec.count_at (placed wires.now.uses.names.tree.now) number part) }
 {
     count_up_to(wires, number, part, part.most() + 1) > part.most()
 }
 
 // How much of something an implementation has, up to a limit.
-fn count_up_to(wires: &Wires<'_>, number: usize, part: ThreadPart, limit: usize) -> usize
+fn count_up_to(wires: &PackageConnections<'_>, number: usize, part: ThreadPart, limit: usize) -> usize
     ensures { result ≡ min limit (spec.count_at (placed wires.now.uses.names.tree.now) number part) }
 {
     match part {

@@ -7,17 +7,17 @@ use Rattle.aadl_lex.specs.Tokens.{AreInOrder}
 use Rattle.aadl_lex.proofs.TokenOrder.{order_tokens}
 use Rattle.aadl_tree.specs.Declarations.{PackageTree, package_parts}
 use Rattle.aadl_tree.specs.TextTreesAndFaults.{IsTreeOf}
-use Rattle.aadl_tree.specs.Terminals.{Kind, Spot, spots_from, spots, inside_behind}
-use Rattle.aadl_tree.specs.SpellingParts.{Part, token, may, AreAt, HaveKinds, Written, extra_kinds}
+use Rattle.aadl_tree.specs.Terminals.{PlainTerminal, PlacedTerminal, spots_from, placed_terminals, inside_behind}
+use Rattle.aadl_tree.specs.SpellingParts.{SpellingPart, token, may, AreAt, HaveKinds, Written, extra_kinds}
 use Rattle.aadl_tree.proofs.ConcatenatedSpellings.{written_split}
 use Rattle.aadl_names.specs.proof.PlaceOrder.{places_of, StandsBefore}
 
 -- ---- spots that rise from a place on
-abbrev Rising : ℕ → List Spot → Type 0
+abbrev Rising : ℕ → List PlacedTerminal → Type 0
 Rising low [] = Unit {0}
 Rising low (s ∷ ss) = (low ≤ s.at) × Rising (s.at + 1) ss
 
-lower : (low from : ℕ) (ss : List Spot) → low ≤ from → Rising from ss → Rising low ss
+lower : (low from : ℕ) (ss : List PlacedTerminal) → low ≤ from → Rising from ss → Rising low ss
 lower low from [] less r = tt
 lower low from (s ∷ ss) less r = let h = r.0 in (omega (arith, less, h), r.1)
 
@@ -37,7 +37,7 @@ abbrev IsBetween : ℕ → ℕ → ℕ → Type 0
 IsBetween low high p = (low ≤ p) × (p < high)
 
 -- spots that rise from low on lead to spots that rise from high on, and these places lie between
-record Spans (low high : ℕ) (rest : List Spot) (places : List ℕ) : Type 0 where
+record Spans (low high : ℕ) (rest : List PlacedTerminal) (places : List ℕ) : Type 0 where
   up : low ≤ high
   rising : Rising high rest
   between : All (IsBetween low high) places
@@ -55,7 +55,7 @@ wider : (low from high : ℕ) (places : List ℕ) → low ≤ from → All (IsBe
 wider low from high places less each = λ k d within. let h = each k d within in
     (let a = h.0 in omega (arith, less, a), h.1)
 
-one_token : (low : ℕ) (s : Spot) (high : ℕ) (rest : List Spot) (places later : List ℕ) → low ≤ s.at → AreAt places s.at
+one_token : (low : ℕ) (s : PlacedTerminal) (high : ℕ) (rest : List PlacedTerminal) (places later : List ℕ) → low ≤ s.at → AreAt places s.at
     → Spans (s.at + 1) high rest later → Spans low high rest (places ++ later)
 one_token low s high rest places later above are spans =
     let up = spans.up in
@@ -68,7 +68,7 @@ one_token low s high rest places later above are spans =
     }
 
 -- spots of given kinds are passed over
-kinds_passed : (low : ℕ) (ks : List Kind) (ss rest : List Spot) → HaveKinds ks ss rest → Rising low ss
+kinds_passed : (low : ℕ) (ks : List PlainTerminal) (ss rest : List PlacedTerminal) → HaveKinds ks ss rest → Rising low ss
     → (high : ℕ) × (low ≤ high) × Rising high rest
 kinds_passed low [] ss rest have rises = (low, omega arith, subst (Rising low) have rises)
 kinds_passed low (k ∷ ks) ss rest have rises =
@@ -78,7 +78,7 @@ kinds_passed low (k ∷ ks) ss rest have rises =
     let b = r.1 in
     (r.0, omega (arith, a, b), r.2)
 
-widened : (low from high : ℕ) (rest : List Spot) (places : List ℕ) → low ≤ from → Spans from high rest places
+widened : (low from high : ℕ) (rest : List PlacedTerminal) (places : List ℕ) → low ≤ from → Spans from high rest places
     → Spans low high rest places
 widened low from high rest places less spans =
     let up = spans.up in
@@ -88,7 +88,7 @@ widened low from high rest places less spans =
       between = wider low from high places less spans.between;
     }
 
-spanned : (low : ℕ) (parts : List (Part ℕ)) (ss rest : List Spot) → Written parts ss rest → Rising low ss
+spanned : (low : ℕ) (parts : List (SpellingPart ℕ)) (ss rest : List PlacedTerminal) → Written parts ss rest → Rising low ss
     → (high : ℕ) × Spans low high rest (places_of parts)
 spanned low [] ss rest w rises =
     (low, record { up = omega arith; rising = subst (Rising low) w rises; between = All-nil (IsBetween low low) })
@@ -112,7 +112,7 @@ apart low mid high a b p q first second here there =
     let n = y.0 in
     omega (arith, m, n)
 
-before_in : (parts : List (Part ℕ)) (ss rest : List Spot) (p q : ℕ) → Written parts ss rest → Rising 0 ss
+before_in : (parts : List (SpellingPart ℕ)) (ss rest : List PlacedTerminal) (p q : ℕ) → Written parts ss rest → Rising 0 ss
     → StandsBefore parts p q → p < q
 before_in parts ss rest p q w rises stands =
     let two = written_split stands.front stands.back ss rest (subst (λ ps. Written ps ss rest) stands.split w) in
@@ -124,5 +124,5 @@ before_in parts ss rest p q w rises stands =
 pub places_rise : (text : List ℕ) (tree : PackageTree ℕ) → IsTreeOf text tree → (p q : ℕ)
     → StandsBefore (package_parts tree) p q → p < q
 places_rise text tree given p q stands =
-    before_in (package_parts tree) (spots text given.tokens) [] p q given.written
+    before_in (package_parts tree) (placed_terminals text given.tokens) [] p q given.written
     (spots_rise false text 0 (length text) given.tokens (order_tokens text given.tokens given.lexed)) stands

@@ -15,11 +15,11 @@ use Rattle.aadl_names.specs.declared.name_roles.Usage.{Usage}
 use Rattle.aadl_names.specs.declared.name_roles.Usage.TheVariants.{Set, Send, Read, Fresh}
 
 -- what names stand for
-abbrev pub Known : Type 0
-Known = List ℕ → Option Role
+abbrev pub NameRoles : Type 0
+NameRoles = List ℕ → Option Role
 
 -- a name stands for what one of two says, and where both do, for what the first says
-abbrev pub either : Known → Known → Known
+abbrev pub either : NameRoles → NameRoles → NameRoles
 either first second = λ name. option_or (first name) (second name)
 
 -- an assignment sets a variable or an out port
@@ -57,7 +57,7 @@ abbrev pub use_as : Usage → Identifier ℕ → Option Role → List PackageFau
 use_as usage x None = Unknown x.spelling x.at ∷ []
 use_as usage x (Some role) = if allows usage role then [] else WrongKind x.at ∷ []
 
-abbrev pub uses : Known → Usage → Identifier ℕ → List PackageFault
+abbrev pub uses : NameRoles → Usage → Identifier ℕ → List PackageFault
 uses known usage x = use_as usage x (known x.spelling)
 
 abbrev pub reading : Bool → Usage
@@ -65,39 +65,39 @@ reading true = Fresh
 reading false = Read
 
 abbrev mutual
-  pub primary_uses : Known → Primary ℕ → List PackageFault
+  pub primary_uses : NameRoles → Primary ℕ → List PackageFault
   primary_uses known (number at n) = []
   primary_uses known (truth at b) = []
   primary_uses known (named x fresh) = uses known (reading fresh) x
   primary_uses known (group at e) = expression_uses known e
 
-  pub factor_uses : Known → Factor ℕ → List PackageFault
+  pub factor_uses : NameRoles → Factor ℕ → List PackageFault
   factor_uses known (absolute at x) = primary_uses known x
   factor_uses known (negated at x) = primary_uses known x
   factor_uses known (bare x) = primary_uses known x
 
-  pub term_uses : Known → Term ℕ → List PackageFault
+  pub term_uses : NameRoles → Term ℕ → List PackageFault
   term_uses known (term first rest) = factor_uses known first ++ factors_uses known rest
 
-  pub factors_uses : Known → Factors ℕ → List PackageFault
+  pub factors_uses : NameRoles → Factors ℕ → List PackageFault
   factors_uses known no_factors = []
   factors_uses known (factor operator x rest) = factor_uses known x ++ factors_uses known rest
 
-  pub sum_uses : Known → Sum ℕ → List PackageFault
+  pub sum_uses : NameRoles → Sum ℕ → List PackageFault
   sum_uses known (total sign first rest) = term_uses known first ++ terms_uses known rest
 
-  pub terms_uses : Known → Terms ℕ → List PackageFault
+  pub terms_uses : NameRoles → Terms ℕ → List PackageFault
   terms_uses known no_terms = []
   terms_uses known (add sign x rest) = term_uses known x ++ terms_uses known rest
 
-  pub relation_uses : Known → Relation ℕ → List PackageFault
+  pub relation_uses : NameRoles → Relation ℕ → List PackageFault
   relation_uses known (single x) = sum_uses known x
   relation_uses known (compared x operator y) = sum_uses known x ++ sum_uses known y
 
-  pub expression_uses : Known → Expression ℕ → List PackageFault
+  pub expression_uses : NameRoles → Expression ℕ → List PackageFault
   expression_uses known (expression first rest) = relation_uses known first ++ relations_uses known rest
 
-  pub relations_uses : Known → Relations ℕ → List PackageFault
+  pub relations_uses : NameRoles → Relations ℕ → List PackageFault
   relations_uses known no_relations = []
   relations_uses known (join operator x rest) = relation_uses known x ++ relations_uses known rest
 
@@ -106,39 +106,39 @@ abbrev pub again_as : Identifier ℕ → Option Role → List PackageFault
 again_as x None = []
 again_as x (Some role) = Twice x.spelling x.at ∷ []
 
-abbrev pub loop_again : Known → Identifier ℕ → List PackageFault
+abbrev pub loop_again : NameRoles → Identifier ℕ → List PackageFault
 loop_again known x = again_as x (known x.spelling)
 
-abbrev pub turning : List ℕ → Known
-turning variable = λ name. if same_name name variable then Some Turns else None
+abbrev pub loop_variable_role : List ℕ → NameRoles
+loop_variable_role variable = λ name. if same_name name variable then Some Turns else None
 
 -- In a loop its variable is known too.
-abbrev pub with_loop : Known → Identifier ℕ → Known
-with_loop known x = either known (turning x.spelling)
+abbrev pub with_loop : NameRoles → Identifier ℕ → NameRoles
+with_loop known x = either known (loop_variable_role x.spelling)
 
 abbrev mutual
-  pub action_uses : Known → Action ℕ → List PackageFault
+  pub action_uses : NameRoles → Action ℕ → List PackageFault
   action_uses known (assign x e) = uses known Set x ++ expression_uses known e
   action_uses known (send x e) = uses known Send x ++ expression_uses known e
   action_uses known (choose test a es o) =
       expression_uses known test ++ actions_uses known a ++ elsifs_uses known es ++ otherwise_uses known o
   action_uses known (loop at x type low high body) = loop_again known x ++ block_uses (with_loop known x) body
 
-  pub actions_uses : Known → Actions ℕ → List PackageFault
+  pub actions_uses : NameRoles → Actions ℕ → List PackageFault
   actions_uses known (actions first rest) = action_uses known first ++ mores_uses known rest
 
-  pub mores_uses : Known → Mores ℕ → List PackageFault
+  pub mores_uses : NameRoles → Mores ℕ → List PackageFault
   mores_uses known no_mores = []
   mores_uses known (more a rest) = action_uses known a ++ mores_uses known rest
 
-  pub elsifs_uses : Known → Elsifs ℕ → List PackageFault
+  pub elsifs_uses : NameRoles → Elsifs ℕ → List PackageFault
   elsifs_uses known no_elsifs = []
   elsifs_uses known (elsif test a rest) = expression_uses known test ++ actions_uses known a ++ elsifs_uses known rest
 
-  pub otherwise_uses : Known → Otherwise ℕ → List PackageFault
+  pub otherwise_uses : NameRoles → Otherwise ℕ → List PackageFault
   otherwise_uses known no_otherwise = []
   otherwise_uses known (otherwise a) = actions_uses known a
 
-  pub block_uses : Known → Block ℕ → List PackageFault
+  pub block_uses : NameRoles → Block ℕ → List PackageFault
   block_uses known no_block = []
   block_uses known (block a) = actions_uses known a

@@ -16,15 +16,15 @@ use Rattle.aadl_names.specs.declared.fault.PackageFault.TheVariants.{Unknown, Wr
 use Rattle.aadl_names.specs.DuplicateNames.{wrong_if}
 use Rattle.aadl_names.specs.Spelling.{spelled_name, spelled_reference, spelled_implementation, spelled_end}
 use Rattle.aadl_names.specs.ReferenceResolution.{type_number, is_system, is_process, is_thread, ports_of, type_of}
-use Rattle.aadl_names.specs.ReferenceResolution.{target_of, implementation_in, site, with_direction}
+use Rattle.aadl_names.specs.ReferenceResolution.{target_of, implementation_in, end_port, with_direction}
 use Rattle.aadl_names.specs.RecognisedProperties.{list_faults}
 use Rattle.aadl_names.specs.DuplicatesByNamespace.{twice_names}
 use Rattle.aadl_names.specs.BehaviourAnnexes.{behaviours, variables_in, variables_of, states_of}
 use Rattle.aadl_names.specs.declared.name_roles.Role.{Role}
 use Rattle.aadl_names.specs.declared.name_roles.Role.TheVariants.{Receives, Gives, Varies}
-use Rattle.aadl_names.specs.declared.port_place.PortPlace.{PortPlace}
-use Rattle.aadl_names.specs.declared.port_place.PortPlace.TheVariants.{Own, Inner}
-use Rattle.aadl_names.specs.NameUsesInAnnexes.{Known, either, expression_uses, block_uses}
+use Rattle.aadl_names.specs.declared.port_place.NumberedPort.{NumberedPort}
+use Rattle.aadl_names.specs.declared.port_place.NumberedPort.TheVariants.{Own, Inner}
+use Rattle.aadl_names.specs.NameUsesInAnnexes.{NameRoles, either, expression_uses, block_uses}
 use Rattle.aadl_tree.specs.declared.declarations.Category.TheVariants as categories
 use Rattle.aadl_tree.specs.declared.declarations.Direction.TheVariants as directions
 use Rattle.aadl_names.specs.declared.recognised_properties.PropertyHolder.TheVariants as holders
@@ -39,10 +39,10 @@ abbrev pub is_among : List (Identifier ℕ) → List ℕ → Bool
 is_among words = λ name. list_any (λ x. same_name name x.spelling) words
 
 -- what the names of ports, and of variables, stand for
-abbrev pub port_roles : List (Feature ℕ) → Known
+abbrev pub port_roles : List (Feature ℕ) → NameRoles
 port_roles ports = λ name. option_map (λ p. role_in p.direction) (find (λ p. same_name name p.name.spelling) ports)
 
-abbrev pub variable_roles : List (Identifier ℕ) → Known
+abbrev pub variable_roles : List (Identifier ℕ) → NameRoles
 variable_roles variables = λ name. if is_among variables name then Some Varies else None
 
 -- what a type declares goes before what an implementation declares where it stands before it
@@ -50,27 +50,27 @@ abbrev pub comes_first : Option (TypeDeclaration ℕ) → Implementation ℕ →
 comes_first None x = true
 comes_first (Some t) x = nat_lt t.at x.at
 
-abbrev pub in_order : Bool → Known → Known → Known
+abbrev pub in_order : Bool → NameRoles → NameRoles → NameRoles
 in_order first a b = if first then either a b else either b a
 
-abbrev pub known_in : PackageTree ℕ → Implementation ℕ → AnnexTree ℕ → Known
+abbrev pub known_in : PackageTree ℕ → Implementation ℕ → AnnexTree ℕ → NameRoles
 known_in tree x annex =
     in_order (comes_first (type_of tree x) x) (port_roles (ports_of tree x)) (variable_roles (variables_of annex))
 
 abbrev pub state_uses : (List ℕ → Bool) → Identifier ℕ → List PackageFault
 state_uses is_state x = if is_state x.spelling then [] else Unknown x.spelling x.at ∷ []
 
-abbrev pub guard_uses : Known → Option (Guard ℕ) → List PackageFault
+abbrev pub guard_uses : NameRoles → Option (Guard ℕ) → List PackageFault
 guard_uses known None = []
 guard_uses known (Some dispatch) = []
 guard_uses known (Some otherwise) = []
 guard_uses known (Some (when e)) = expression_uses known e
 
-abbrev pub effect_uses : Known → Option (Block ℕ) → List PackageFault
+abbrev pub effect_uses : NameRoles → Option (Block ℕ) → List PackageFault
 effect_uses known None = []
 effect_uses known (Some x) = block_uses known x
 
-abbrev pub transition_uses : (List ℕ → Bool) → Known → Transition ℕ → List PackageFault
+abbrev pub transition_uses : (List ℕ → Bool) → NameRoles → Transition ℕ → List PackageFault
 transition_uses is_state known x =
     state_uses is_state x.source ++ state_uses is_state x.target ++ guard_uses known x.guard
     ++ effect_uses known x.effect
@@ -130,7 +130,7 @@ subcomponent_faults tree outer sub =
     ++ list_faults (holders.Subcomponent sub.category) sub.properties
 
 -- ---- connections
-abbrev pub is_own : Option (PortPlace × Option Direction) → Bool
+abbrev pub is_own : Option (NumberedPort × Option Direction) → Bool
 is_own None = false
 is_own (Some (Own p, direction)) = true
 is_own (Some (Inner s p, direction)) = false
@@ -141,28 +141,28 @@ goes_in (Some directions.In) = true
 goes_in (Some directions.Out) = false
 
 -- a connection goes out of an own in port or an out port of a subcomponent
-abbrev pub may_leave : PortPlace × Option Direction → Bool
+abbrev pub may_leave : NumberedPort × Option Direction → Bool
 may_leave (Own p, direction) = goes_in direction
 may_leave (Inner s p, direction) = not (goes_in direction)
 
 -- and into any other one that is declared
-abbrev pub may_enter : PortPlace × Option Direction → Bool
+abbrev pub may_enter : NumberedPort × Option Direction → Bool
 may_enter port = not (may_leave port)
 
 abbrev pub unknown_end : ConnectionEnd ℕ → List PackageFault
 unknown_end end = Unknown (spelled_end end) end.first.at ∷ []
 
-abbrev pub end_faults : (PortPlace × Option Direction → Bool) → ConnectionEnd ℕ → ℕ
-    → Option (PortPlace × Option Direction) → List PackageFault
+abbrev pub end_faults : (NumberedPort × Option Direction → Bool) → ConnectionEnd ℕ → ℕ
+    → Option (NumberedPort × Option Direction) → List PackageFault
 end_faults may end at None = unknown_end end
 end_faults may end at (Some port) = wrong_if (not (may port)) at
 
 -- the port that an end names, and which way it goes
-abbrev pub sited : PackageTree ℕ → Implementation ℕ → ConnectionEnd ℕ → Option (PortPlace × Option Direction)
-sited tree x end = option_map (with_direction tree x) (site tree x end)
+abbrev pub directed_end_port : PackageTree ℕ → Implementation ℕ → ConnectionEnd ℕ → Option (NumberedPort × Option Direction)
+directed_end_port tree x end = option_map (with_direction tree x) (end_port tree x end)
 
 -- of a connection that joins these ports
-abbrev pub joined_faults : Connection ℕ → Option (PortPlace × Option Direction) → Option (PortPlace × Option Direction)
+abbrev pub joined_faults : Connection ℕ → Option (NumberedPort × Option Direction) → Option (NumberedPort × Option Direction)
     → List PackageFault
 joined_faults c source target =
     end_faults may_leave c.source c.name.at source
@@ -171,7 +171,7 @@ joined_faults c source target =
     ++ list_faults holders.Connection c.properties
 
 abbrev pub connection_faults : PackageTree ℕ → Implementation ℕ → Connection ℕ → List PackageFault
-connection_faults tree x c = joined_faults c (sited tree x c.source) (sited tree x c.target)
+connection_faults tree x c = joined_faults c (directed_end_port tree x c.source) (directed_end_port tree x c.target)
 
 -- ---- declarations
 abbrev pub has_type : Category → Option (TypeDeclaration ℕ) → Bool

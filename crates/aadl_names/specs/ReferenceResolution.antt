@@ -9,8 +9,8 @@ use Rattle.aadl_tree.specs.declared.declarations.Direction.{Direction}
 use Rattle.aadl_tree.specs.Names.{Identifier, Reference, same_name}
 use Rattle.aadl_tree.specs.Declarations.{Feature, Subcomponent, ConnectionEnd, Connection, TypeDeclaration}
 use Rattle.aadl_tree.specs.Declarations.{Implementation, Declaration, type, implementation, PackageTree}
-use Rattle.aadl_names.specs.declared.port_place.PortPlace.{PortPlace}
-use Rattle.aadl_names.specs.declared.port_place.PortPlace.TheVariants.{Own, Inner}
+use Rattle.aadl_names.specs.declared.port_place.NumberedPort.{NumberedPort}
+use Rattle.aadl_names.specs.declared.port_place.NumberedPort.TheVariants.{Own, Inner}
 use Rattle.aadl_names.specs.Spelling.{spelled_implementation}
 use Rattle.aadl_tree.specs.declared.declarations.Category.TheVariants as categories
 
@@ -133,24 +133,24 @@ sub_named subs name = first_number (λ s. same_name name s.name.spelling) subs
 abbrev pub inner_ports : PackageTree ℕ → Implementation ℕ → ℕ → List (Feature ℕ)
 inner_ports tree x s = ports_at tree (option_and_then (target_of tree) (slice_get x.subcomponents s))
 
-abbrev pub inner_site : PackageTree ℕ → Implementation ℕ → List ℕ → ℕ → Option PortPlace
-inner_site tree x port s = option_map (Inner s) (port_named (inner_ports tree x s) port)
+abbrev pub inner_end_port : PackageTree ℕ → Implementation ℕ → List ℕ → ℕ → Option NumberedPort
+inner_end_port tree x port s = option_map (Inner s) (port_named (inner_ports tree x s) port)
 
-abbrev pub site_by : PackageTree ℕ → Implementation ℕ → Identifier ℕ → Option (Identifier ℕ) → Option PortPlace
-site_by tree x first None = option_map Own (port_named (ports_of tree x) first.spelling)
-site_by tree x first (Some port) =
-    option_and_then (inner_site tree x port.spelling) (sub_named x.subcomponents first.spelling)
+abbrev pub end_port_by : PackageTree ℕ → Implementation ℕ → Identifier ℕ → Option (Identifier ℕ) → Option NumberedPort
+end_port_by tree x first None = option_map Own (port_named (ports_of tree x) first.spelling)
+end_port_by tree x first (Some port) =
+    option_and_then (inner_end_port tree x port.spelling) (sub_named x.subcomponents first.spelling)
 
 -- the port that an end names, if it is declared
-unfoldable pub site : PackageTree ℕ → Implementation ℕ → ConnectionEnd ℕ → Option PortPlace
-site tree x end = site_by tree x end.first end.second
+unfoldable pub end_port : PackageTree ℕ → Implementation ℕ → ConnectionEnd ℕ → Option NumberedPort
+end_port tree x end = end_port_by tree x end.first end.second
 
 abbrev pub direction_in : List (Feature ℕ) → ℕ → Option Direction
 direction_in ports n = option_map (λ p. p.direction) (slice_get ports n)
 
-abbrev pub direction_of : PackageTree ℕ → Implementation ℕ → PortPlace → Option Direction
+abbrev pub direction_of : PackageTree ℕ → Implementation ℕ → NumberedPort → Option Direction
 direction_of tree x (Own p) = direction_in (ports_of tree x) p
 direction_of tree x (Inner s p) = direction_in (inner_ports tree x s) p
 
-abbrev pub with_direction : PackageTree ℕ → Implementation ℕ → PortPlace → PortPlace × Option Direction
+abbrev pub with_direction : PackageTree ℕ → Implementation ℕ → NumberedPort → NumberedPort × Option Direction
 with_direction tree x s = (s, direction_of tree x s)

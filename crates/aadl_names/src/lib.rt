@@ -27,6 +27,6 @@ pub use name_roles::{Role, Usage};
 pub use name_table::NameTable;
 pub use numbered_place::NumberedPlace;
 pub use package_names::Names;
-pub use port_place::PortPlace;
+pub use port_place::NumberedPort;
 pub use recognised_properties::{PropertyHolder, PropertyName};
 pub use spelled_name::SpelledName;

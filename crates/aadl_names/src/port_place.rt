@@ -2,7 +2,7 @@
 
 /// A port, by numbers in the text's order.
 #[derive(Clone, Copy, PartialEq, Eq, Hash)]
-pub enum PortPlace {
+pub enum NumberedPort {
     /// A port of the implementation itself.
     Own(usize),
     /// A subcomponent, and a port of its own.

@@ -4,7 +4,7 @@ use Rattle.std.specs.Prelude.{◌≢◌}
 use Rattle.aadl_lex.specs.declared.token.Token.{Token}
 use Rattle.aadl_lex.proofs.UniqueTokens.{one_list, one_fault, not_both}
 use Rattle.aadl_tree.proofs.ConcatenatedSpellings.{written_spells}
-use Rattle.aadl_tree.specs.Terminals.{spots, kinds_of}
+use Rattle.aadl_tree.specs.Terminals.{placed_terminals, kinds_of}
 use Rattle.aadl_tree.specs.SpellingParts.{Written}
 use Rattle.aadl_tree.specs.Declarations.{PackageTree, package_parts}
 use Rattle.aadl_tree.specs.LanguagesAndNesting.{IsPackage, IsShallow}
@@ -18,23 +18,23 @@ use Rattle.aadl_parse.specs.ParseResults.{IsFaultOfText}
 
 -- no two faults
 same_fails : (text : List ℕ) (ts us : List Token) → ts ≡ us → (a b : ℕ)
-    → FailsAt IsPackage 0 (length text) (spots text ts) a → FailsAt IsPackage 0 (length text) (spots text us) b → a ≡ b
+    → FailsAt IsPackage 0 (length text) (placed_terminals text ts) a → FailsAt IsPackage 0 (length text) (placed_terminals text us) b → a ≡ b
 same_fails text ts us e a b f g =
-    fails_once IsPackage 0 (length text) (spots text us) a b
-    (subst (λ (l : List Token). FailsAt IsPackage 0 (length text) (spots text l) a) e f) g
+    fails_once IsPackage 0 (length text) (placed_terminals text us) a b
+    (subst (λ (l : List Token). FailsAt IsPackage 0 (length text) (placed_terminals text l) a) e f) g
 
 
-same_deep : (text : List ℕ) (ts us : List Token) → ts ≡ us → (a b : ℕ) → DeepAt IsPackage 0 (spots text ts) a
-    → DeepAt IsPackage 0 (spots text us) b → a ≡ b
+same_deep : (text : List ℕ) (ts us : List Token) → ts ≡ us → (a b : ℕ) → DeepAt IsPackage 0 (placed_terminals text ts) a
+    → DeepAt IsPackage 0 (placed_terminals text us) b → a ≡ b
 same_deep text ts us e a b f g =
-    deep_once IsPackage 0 (spots text us) a b (subst (λ (l : List Token). DeepAt IsPackage 0 (spots text l) a) e f) g
+    deep_once IsPackage 0 (placed_terminals text us) a b (subst (λ (l : List Token). DeepAt IsPackage 0 (placed_terminals text l) a) e f) g
 
 
 never_both : (text : List ℕ) (ts us : List Token) → ts ≡ us → (a b : ℕ)
-    → FailsAt IsPackage 0 (length text) (spots text ts) a → DeepAt IsPackage 0 (spots text us) b → ⊥
+    → FailsAt IsPackage 0 (length text) (placed_terminals text ts) a → DeepAt IsPackage 0 (placed_terminals text us) b → ⊥
 never_both text ts us e a b f g =
-    fails_not_deep IsPackage 0 (length text) (spots text us) a b
-    (subst (λ (l : List Token). FailsAt IsPackage 0 (length text) (spots text l) a) e f) g
+    fails_not_deep IsPackage 0 (length text) (placed_terminals text us) a b
+    (subst (λ (l : List Token). FailsAt IsPackage 0 (length text) (placed_terminals text l) a) e f) g
 
 
 pub one_text_fault : (text : List ℕ) (f g : TextFault) → f ≢ Memory → g ≢ Memory → IsFaultOfText text f
@@ -60,19 +60,19 @@ one_text_fault text (TooDeep p) (Syntax q) m n a b =
 
 -- no tree and a fault
 is_package : (text : List ℕ) (ts us : List Token) → ts ≡ us → (t : PackageTree ℕ)
-    → Written (package_parts t) (spots text ts) [] → IsPackage (kinds_of (spots text us))
+    → Written (package_parts t) (placed_terminals text ts) [] → IsPackage (kinds_of (placed_terminals text us))
 is_package text ts us e t w =
     record {
       tree = t;
       spelled =
-          written_spells (package_parts t) (spots text us) []
-          (subst (λ (l : List Token). Written (package_parts t) (spots text l) []) e w);
+          written_spells (package_parts t) (placed_terminals text us) []
+          (subst (λ (l : List Token). Written (package_parts t) (placed_terminals text l) []) e w);
     }
 
 
-is_shallow : (text : List ℕ) (ts us : List Token) → ts ≡ us → IsShallow 0 (kinds_of (spots text ts))
-    → IsShallow 0 (kinds_of (spots text us))
-is_shallow text ts us e w = subst (λ (l : List Token). IsShallow 0 (kinds_of (spots text l))) e w
+is_shallow : (text : List ℕ) (ts us : List Token) → ts ≡ us → IsShallow 0 (kinds_of (placed_terminals text ts))
+    → IsShallow 0 (kinds_of (placed_terminals text us))
+is_shallow text ts us e w = subst (λ (l : List Token). IsShallow 0 (kinds_of (placed_terminals text l))) e w
 
 
 pub tree_or_fault : (text : List ℕ) (t : PackageTree ℕ) (f : TextFault) → f ≢ Memory → IsTreeOf text t
@@ -80,8 +80,8 @@ pub tree_or_fault : (text : List ℕ) (t : PackageTree ℕ) (f : TextFault) → 
 tree_or_fault text t Memory m a b = m refl
 tree_or_fault text t (Lex f) m a b = not_both text a.tokens f a.lexed b.1
 tree_or_fault text t (Syntax p) m a b =
-    fails_no_text IsPackage 0 (length text) (spots text b.tokens) p b.fails
+    fails_no_text IsPackage 0 (length text) (placed_terminals text b.tokens) p b.fails
     (is_package text a.tokens b.tokens (one_list text a.tokens b.tokens a.lexed b.lexed) t a.written)
 tree_or_fault text t (TooDeep p) m a b =
-    deep_not_shallow IsPackage 0 (spots text b.tokens) p b.deep
+    deep_not_shallow IsPackage 0 (placed_terminals text b.tokens) p b.deep
     (is_shallow text a.tokens b.tokens (one_list text a.tokens b.tokens a.lexed b.lexed) a.shallow)

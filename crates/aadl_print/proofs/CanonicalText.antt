@@ -1,8 +1,8 @@
 -- What the printer has written at its end is the canonical text of the tree.
 use Rattle.std.proofs.Common.{◌≡◌, ◌∙◌, ℕ, Bool, true, false, refl, ap, List, [], ◌∷◌, ◌++◌, append_assoc}
 use Rattle.std.specs.Prelude.{◌||◌, if◌then◌else◌}
-use Rattle.aadl_tree.specs.Terminals.{Kind}
-use Rattle.aadl_tree.specs.SpellingParts.{Part, token, may, kept}
+use Rattle.aadl_tree.specs.Terminals.{PlainTerminal}
+use Rattle.aadl_tree.specs.SpellingParts.{SpellingPart, token, may, kept}
 use Rattle.aadl_tree.specs.CanonicalText.{kind_text, holds_left, holds_right, ends_line, line_end, text_behind}
 use Rattle.aadl_tree.specs.CanonicalText.{canonical, canon}
 use Rattle.aadl_tree.specs.Declarations.{PackageTree, package_parts}
@@ -10,11 +10,11 @@ use Rattle.aadl_print.specs.declared.spacing.Spacing.TheVariants.{Nothing, Space
 use Rattle.aadl_print.specs.proof.PrintedText.{Printed, gap_text, gap_behind, blank, put, printed}
 
 -- terminals one behind the other
-abbrev written : Printed → List Kind → Printed
+abbrev written : Printed → List PlainTerminal → Printed
 written before [] = before
 written before (kind ∷ ks) = written (put before kind) ks
 
-printed_kept : {P : Type 0} (before : Printed) (ps : List (Part P)) → printed before ps ≡ written before (kept ps)
+printed_kept : {P : Type 0} (before : Printed) (ps : List (SpellingPart P)) → printed before ps ≡ written before (kept ps)
 printed_kept before [] = refl
 printed_kept before (token kind places ∷ ps) = printed_kept (put before kind) ps
 printed_kept before (may extra ∷ ps) = printed_kept before ps
@@ -29,7 +29,7 @@ gap_between false true ends = refl
 gap_between false false true = refl
 gap_between false false false = refl
 
-written_behind : (text : List ℕ) (last : Kind) (ks : List Kind)
+written_behind : (text : List ℕ) (last : PlainTerminal) (ks : List PlainTerminal)
     → (written (record { text = text; gap = gap_behind last }) ks).text ++ line_end ≡ text ++ text_behind last ks
 unfolding put
 written_behind text last [] = refl
@@ -43,7 +43,7 @@ front_gap : (holds : Bool) → (if holds then [] else gap_text Nothing) ≡ []
 front_gap true = refl
 front_gap false = refl
 
-written_canonical : (ks : List Kind) → (ks ≡ [] → ⊥) → (written blank ks).text ++ line_end ≡ canonical ks
+written_canonical : (ks : List PlainTerminal) → (ks ≡ [] → ⊥) → (written blank ks).text ++ line_end ≡ canonical ks
 unfolding put
 written_canonical [] some = absurd (some refl)
 written_canonical (kind ∷ ks) some =

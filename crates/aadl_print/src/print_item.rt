@@ -2,7 +2,7 @@
 #![tactic(auto, using(crate::proofs::PrintedParts::printed_append))]
 
 ghost use Rattle.std.specs.Prelude.{◌≡◌, ◌≢◌, List, [], map, flat_map, option_map, OnOk};
-ghost use Rattle.aadl_tree.specs.SpellingParts.{Part, marked_if, parts_if, behind, chained};
+ghost use Rattle.aadl_tree.specs.SpellingParts.{SpellingPart, marked_if, parts_if, behind, chained};
 ghost use Rattle.aadl_tree.specs.Annexes.{declared_parts};
 ghost use Rattle.aadl_print.specs.proof.PrintedText.{printed, under};
 
@@ -13,13 +13,13 @@ use std::alloc::AllocError;
 /// What can be written: it stands for a tree, which is spelled by parts.
 pub trait PrintItem {
     ghost use Rattle.std.specs.Prelude.{List};
-    ghost use Rattle.aadl_tree.specs.SpellingParts.{Part};
+    ghost use Rattle.aadl_tree.specs.SpellingParts.{SpellingPart};
 
     ghost Tree: { Type 0 };
 
     ghost tree: { Self → Tree };
 
-    ghost parts: { Tree → List (Part (Unit {0})) };
+    ghost parts: { Tree → List (SpellingPart (Unit {0})) };
 
     /// Writes it.
     fn print(&self, printer: &mut Printer) -> Result<(), AllocError>

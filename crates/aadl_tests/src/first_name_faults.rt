@@ -2,7 +2,7 @@
 use crate::cycles_and_uses::uses;
 use aadl_names::PackageFault;
 use aadl_tree::PackageTree;
-use aadl_uses::Wires;
+use aadl_uses::PackageConnections;
 use name_faults::first_name_fault;
 use std::alloc::{AllocError, Global};
 
@@ -24,7 +24,7 @@ fn told(alloc: Global, text: &str, fault: &PackageFault) -> Result<String, Alloc
 
 // The first fault of a package whose last declaration is the root.
 fn fault_of(alloc: Global, tree: &PackageTree) -> Result<Option<PackageFault>, AllocError> {
-    let wires = Wires::of(alloc, uses(alloc, tree)?)?;
+    let wires = PackageConnections::of(alloc, uses(alloc, tree)?)?;
     let root = tree.declarations.len().saturating_sub(1);
     first_name_fault(alloc, &wires, root)
 }

@@ -18,8 +18,8 @@ use Rattle.aadl_tree.specs.proof.ActionViews.{action_view}
 use Rattle.aadl_tree.specs.proof.PlaceMaps.{no_place}
 use Rattle.aadl_tree.proofs.ActionViews.{view-Assign, view-Send, view-If, view-For, view-out-choice, view-out-loop}
 
-abbrev Layer : Type 0
-Layer = Action-F Action Actions Block Choice Elsif Loop
+abbrev Level : Type 0
+Level = Action-F Action Actions Block Choice Elsif Loop
 
 abbrev view : Action → plain.Action (Unit {0})
 view x = action_view no_place x
@@ -27,7 +27,7 @@ view x = action_view no_place x
 abbrev IsAssign : Action → Type 0
 IsAssign a = (x : Identifier) × (e : Expression) × (a ≡ Assign x e)
 
-assign_layer : (a : Action) (layer : Layer) (name : _) (value : _) → a ≡ roll-Action layer → view a ≡ assign name value
+assign_layer : (a : Action) (layer : Level) (name : _) (value : _) → a ≡ roll-Action layer → view a ≡ assign name value
     → IsAssign a
 assign_layer a (Action-F.Assign x e) name value is same = (x, e, is ∙ rolls-Assign x e)
 assign_layer a (Action-F.Send x e) name value is same = let f = ap view (is ∙ rolls-Send x e)
@@ -43,7 +43,7 @@ only_assign a name value e = assign_layer a (out-Action a) name value (sym (roll
 abbrev IsSend : Action → Type 0
 IsSend a = (x : Identifier) × (e : Expression) × (a ≡ Send x e)
 
-send_layer : (a : Action) (layer : Layer) (name : _) (value : _) → a ≡ roll-Action layer
+send_layer : (a : Action) (layer : Level) (name : _) (value : _) → a ≡ roll-Action layer
     → view a ≡ send name value → IsSend a
 send_layer a (Action-F.Assign x e) name value is same = let f = ap view (is ∙ rolls-Assign x e)
     ∙ (view-Assign no_place x e) in absurd cc
@@ -59,7 +59,7 @@ only_send a name value e = send_layer a (out-Action a) name value (sym (roll-out
 abbrev IsIf : Action → Type 0
 IsIf a = (y : Box Choice Global) × (a ≡ If y)
 
-choose_layer : (a : Action) (layer : Layer) (test : _) (first : _) (es : _) (o : _) → a ≡ roll-Action layer
+choose_layer : (a : Action) (layer : Level) (test : _) (first : _) (es : _) (o : _) → a ≡ roll-Action layer
     → view a ≡ choose test first es o → IsIf a
 choose_layer a (Action-F.Assign x e) test first es o is same = let f = ap view (is ∙ rolls-Assign x e)
     ∙ (view-Assign no_place x e) in absurd cc
@@ -75,7 +75,7 @@ only_choose a test first es o e = choose_layer a (out-Action a) test first es o 
 abbrev IsFor : Action → Type 0
 IsFor a = (y : Box Loop Global) × (a ≡ For y)
 
-loop_layer : (a : Action) (layer : Layer) (at : _) (name : _) (type : _) (low high : _) (body : _)
+loop_layer : (a : Action) (layer : Level) (at : _) (name : _) (type : _) (low high : _) (body : _)
     → a ≡ roll-Action layer → view a ≡ loop at name type low high body → IsFor a
 loop_layer a (Action-F.Assign x e) at name type low high body is same = let f = ap view (is ∙ rolls-Assign x e)
     ∙ (view-Assign no_place x e) in absurd cc

@@ -10,7 +10,7 @@ use Rattle.aadl_lex.specs.declared.token.TokenKind.TheVariants.{Word, Symbol}
 use Rattle.aadl_lex.specs.declared.rules.Reading.TheVariants.{Outside}
 use Rattle.aadl_lex.specs.Rules.{first}
 use Rattle.aadl_lex.specs.Tokens.{Lexes, ended, skips, takes, AreTokensOf}
-use Rattle.aadl_tree.specs.Terminals.{Kind, spots, kinds_of}
+use Rattle.aadl_tree.specs.Terminals.{PlainTerminal, placed_terminals, kinds_of}
 use Rattle.aadl_tree.specs.SpellingParts.{Written}
 use Rattle.aadl_tree.specs.Declarations.{package_parts}
 use Rattle.aadl_tree.specs.LanguagesAndNesting.{opened, is_end, nesting_from, IsShallow}
@@ -37,7 +37,7 @@ lexes =
 pub lexed : AreTokensOf package_text package_tokens
 lexed = record { utf8 = IsUtf8-from_ascii package_text (low_ascii package_text refl); lexed = lexes }
 
-written : Written (package_parts small_package) (spots package_text package_tokens) []
+written : Written (package_parts small_package) (placed_terminals package_text package_tokens) []
 written = (
   _,
   _,
@@ -55,11 +55,11 @@ written = (
 )
 
 -- terminals that open nothing
-abbrev Flat : List Kind → Type 0
+abbrev Flat : List PlainTerminal → Type 0
 Flat [] = Unit {0}
 Flat (kind ∷ ks) = ((after : Bool) → opened 0 after kind ≡ 0) × Flat ks
 
-flat_front : (front back : List Kind) (after : Bool) → Flat (front ++ back) → nesting_from 0 after front ≡ 0
+flat_front : (front back : List PlainTerminal) (after : Bool) → Flat (front ++ back) → nesting_from 0 after front ≡ 0
 flat_front [] back after h = refl
 flat_front (kind ∷ front) back after (h, hs) =
     ap (λ n. nesting_from n (is_end kind) front) (h after) ∙ flat_front front back (is_end kind) hs
@@ -68,7 +68,7 @@ by_flag : (p : Bool → ℕ) → p true ≡ 0 → p false ≡ 0 → (b : Bool) �
 by_flag p e h true = e
 by_flag p e h false = h
 
-flat : Flat (kinds_of (spots package_text package_tokens))
+flat : Flat (kinds_of (placed_terminals package_text package_tokens))
 flat = (
   by_flag _ refl refl,
   (
@@ -77,7 +77,7 @@ flat = (
   ),
 )
 
-shallow : IsShallow 0 (kinds_of (spots package_text package_tokens))
+shallow : IsShallow 0 (kinds_of (placed_terminals package_text package_tokens))
 shallow front back e = let n = flat_front front back false (subst Flat e flat) in omega arith
 
 pub read : IsTreeOf package_text small_package

@@ -16,8 +16,8 @@ use Rattle.aadl_tree.specs.proof.ExpressionViews.{factor_view}
 use Rattle.aadl_tree.specs.proof.PlaceMaps.{no_place}
 use Rattle.aadl_tree.proofs.ExpressionViews.{view-Abs, view-Not, view-Plain}
 
-abbrev Layer : Type 0
-Layer = Factor-F Factor Primary Expression Relation Sum Term
+abbrev Level : Type 0
+Level = Factor-F Factor Primary Expression Relation Sum Term
 
 abbrev view : Factor → plain.Factor (Unit {0})
 view x = factor_view no_place x
@@ -25,7 +25,7 @@ view x = factor_view no_place x
 abbrev IsAbsolute : Factor → Type 0
 IsAbsolute x = (at : ℕ) × (y : Box Primary Global) × (x ≡ Abs at y)
 
-absolute_layer : (x : Factor) (layer : Layer) (operand : plain.Primary (Unit {0})) → x ≡ roll-Factor layer
+absolute_layer : (x : Factor) (layer : Level) (operand : plain.Primary (Unit {0})) → x ≡ roll-Factor layer
     → view x ≡ absolute tt operand → IsAbsolute x
 absolute_layer x (Factor-F.Abs at y) operand is e = (at, y, is ∙ rolls-Abs at y)
 absolute_layer x (Factor-F.Not at y) operand is e = let f = ap view (is ∙ rolls-Not at y)
@@ -39,7 +39,7 @@ only_absolute x operand e = absolute_layer x (out-Factor x) operand (sym (roll-o
 abbrev IsNegated : Factor → Type 0
 IsNegated x = (at : ℕ) × (y : Box Primary Global) × (x ≡ Not at y)
 
-negated_layer : (x : Factor) (layer : Layer) (operand : plain.Primary (Unit {0})) → x ≡ roll-Factor layer
+negated_layer : (x : Factor) (layer : Level) (operand : plain.Primary (Unit {0})) → x ≡ roll-Factor layer
     → view x ≡ negated tt operand → IsNegated x
 negated_layer x (Factor-F.Abs at y) operand is e = let f = ap view (is ∙ rolls-Abs at y)
     ∙ view-Abs no_place at y in absurd cc
@@ -53,7 +53,7 @@ only_negated x operand e = negated_layer x (out-Factor x) operand (sym (roll-out
 abbrev IsBare : Factor → Type 0
 IsBare x = (y : Primary) × (x ≡ Plain y)
 
-bare_layer : (x : Factor) (layer : Layer) (operand : plain.Primary (Unit {0})) → x ≡ roll-Factor layer
+bare_layer : (x : Factor) (layer : Level) (operand : plain.Primary (Unit {0})) → x ≡ roll-Factor layer
     → view x ≡ bare operand → IsBare x
 bare_layer x (Factor-F.Abs at y) operand is e = let f = ap view (is ∙ rolls-Abs at y)
     ∙ view-Abs no_place at y in absurd cc

@@ -18,8 +18,8 @@ use Rattle.aadl_tree.specs.proof.ExpressionViews.{primary_view}
 use Rattle.aadl_tree.specs.proof.PlaceMaps.{no_place}
 use Rattle.aadl_tree.proofs.ExpressionViews.{view-Whole, view-Truth, view-Named, view-Group}
 
-abbrev Layer : Type 0
-Layer = Primary-F Factor Primary Expression Relation Sum Term
+abbrev Level : Type 0
+Level = Primary-F Factor Primary Expression Relation Sum Term
 
 abbrev IsWhole : Primary → Type 0
 IsWhole x = (at : ℕ) × (m : ℤ) × (x ≡ Whole at m)
@@ -33,7 +33,7 @@ IsNamed x = (y : Identifier) × (fresh : Bool) × (x ≡ Named y fresh)
 abbrev view : Primary → plain_expressions.Primary (Unit {0})
 view x = primary_view no_place x
 
-whole_layer : (x : Primary) (layer : Layer) (n : ℤ) → x ≡ roll-Primary layer → view x ≡ number tt n → IsWhole x
+whole_layer : (x : Primary) (layer : Level) (n : ℤ) → x ≡ roll-Primary layer → view x ≡ number tt n → IsWhole x
 whole_layer x (Primary-F.Whole at m) n is e = (at, m, is ∙ rolls-Whole at m)
 whole_layer x (Primary-F.Truth at b) n is e = let f = ap view (is ∙ rolls-Truth at b)
     ∙ view-Truth no_place at b in absurd cc
@@ -45,7 +45,7 @@ whole_layer x (Primary-F.Group at y) n is e = let f = ap view (is ∙ rolls-Grou
 pub only_whole : (x : Primary) (n : ℤ) → view x ≡ number tt n → IsWhole x
 only_whole x n e = whole_layer x (out-Primary x) n (sym (roll-out-Primary x)) e
 
-truth_layer : (x : Primary) (layer : Layer) (b : Bool) → x ≡ roll-Primary layer → view x ≡ truth tt b → IsTruth x
+truth_layer : (x : Primary) (layer : Level) (b : Bool) → x ≡ roll-Primary layer → view x ≡ truth tt b → IsTruth x
 truth_layer x (Primary-F.Whole at m) b is e = let f = ap view (is ∙ rolls-Whole at m)
     ∙ view-Whole no_place at m in absurd cc
 truth_layer x (Primary-F.Truth at c) b is e = (at, c, is ∙ rolls-Truth at c)
@@ -57,7 +57,7 @@ truth_layer x (Primary-F.Group at y) b is e = let f = ap view (is ∙ rolls-Grou
 pub only_truth : (x : Primary) (b : Bool) → view x ≡ truth tt b → IsTruth x
 only_truth x b e = truth_layer x (out-Primary x) b (sym (roll-out-Primary x)) e
 
-named_layer : (x : Primary) (layer : Layer) (name : plain.Identifier (Unit {0})) (fresh : Bool) → x ≡ roll-Primary layer
+named_layer : (x : Primary) (layer : Level) (name : plain.Identifier (Unit {0})) (fresh : Bool) → x ≡ roll-Primary layer
     → view x ≡ named name fresh → IsNamed x
 named_layer x (Primary-F.Whole at m) name fresh is e = let f = ap view (is ∙ rolls-Whole at m)
     ∙ view-Whole no_place at m in absurd cc
@@ -74,7 +74,7 @@ only_named x name fresh e = named_layer x (out-Primary x) name fresh (sym (roll-
 abbrev IsGroup : Primary → Type 0
 IsGroup x = (at : ℕ) × (e : Box Expression Global) × (x ≡ Group at e)
 
-group_layer : (x : Primary) (layer : Layer) (inner : plain_expressions.Expression (Unit {0})) → x ≡ roll-Primary layer
+group_layer : (x : Primary) (layer : Level) (inner : plain_expressions.Expression (Unit {0})) → x ≡ roll-Primary layer
     → view x ≡ group tt inner → IsGroup x
 group_layer x (Primary-F.Whole at m) inner is e = let f = ap view (is ∙ rolls-Whole at m)
     ∙ view-Whole no_place at m in absurd cc

@@ -18,8 +18,8 @@ use Rattle.aadl_tree.specs.proof.PlaceMaps.{no_place}
 use Rattle.aadl_tree.proofs.ValueViews.{view-List, view-Record, view-Text, view-Reference, view-Classifier, view-Named}
 use Rattle.aadl_tree.proofs.ValueViews.{view-Number}
 
-abbrev Layer : Type 0
-Layer = Value-F Value Association
+abbrev Level : Type 0
+Level = Value-F Value Association
 
 abbrev view : Value → plain.Value (Unit {0})
 view x = value_view no_place x
@@ -27,7 +27,7 @@ view x = value_view no_place x
 abbrev IsList : Value → Type 0
 IsList x = (vs : Vec Value Global) × (x ≡ ListOf vs)
 
-list_layer : (x : Value) (layer : Layer) (y : plain.Values (Unit {0})) → x ≡ roll-Value layer
+list_layer : (x : Value) (layer : Level) (y : plain.Values (Unit {0})) → x ≡ roll-Value layer
     → view x ≡ list y → IsList x
 list_layer x (Value-F.List vs) y is e = (vs, is ∙ rolls-List vs)
 list_layer x (Value-F.Record xs) y is e = let f = ap view (is ∙ rolls-Record xs) ∙ view-Record no_place xs in absurd cc
@@ -47,7 +47,7 @@ only_list x y e = list_layer x (out-Value x) y (sym (roll-out-Value x)) e
 abbrev IsRecord : Value → Type 0
 IsRecord x = (xs : Vec Association Global) × (x ≡ Record xs)
 
-record_layer : (x : Value) (layer : Layer) (y : plain.Associations (Unit {0})) → x ≡ roll-Value layer
+record_layer : (x : Value) (layer : Level) (y : plain.Associations (Unit {0})) → x ≡ roll-Value layer
     → view x ≡ fields y → IsRecord x
 record_layer x (Value-F.List vs) y is e = let f = ap view (is ∙ rolls-List vs) ∙ view-List no_place vs in absurd cc
 record_layer x (Value-F.Record xs) y is e = (xs, is ∙ rolls-Record xs)
@@ -67,7 +67,7 @@ only_record x y e = record_layer x (out-Value x) y (sym (roll-out-Value x)) e
 abbrev IsText : Value → Type 0
 IsText x = (bytes : Vec ℕ Global) × (x ≡ Text bytes)
 
-text_layer : (x : Value) (layer : Layer) (y : List ℕ) → x ≡ roll-Value layer → view x ≡ text y → IsText x
+text_layer : (x : Value) (layer : Level) (y : List ℕ) → x ≡ roll-Value layer → view x ≡ text y → IsText x
 text_layer x (Value-F.List vs) y is e = let f = ap view (is ∙ rolls-List vs) ∙ view-List no_place vs in absurd cc
 text_layer x (Value-F.Record xs) y is e = let f = ap view (is ∙ rolls-Record xs) ∙ view-Record no_place xs in absurd cc
 text_layer x (Value-F.Text bytes) y is e = (bytes, is ∙ rolls-Text bytes)
@@ -85,7 +85,7 @@ only_text x y e = text_layer x (out-Value x) y (sym (roll-out-Value x)) e
 abbrev IsReference : Value → Type 0
 IsReference x = (z : Box Path Global) × (x ≡ ReferenceTo z)
 
-reference_layer : (x : Value) (layer : Layer) (y : plain_names.Path (Unit {0})) → x ≡ roll-Value layer
+reference_layer : (x : Value) (layer : Level) (y : plain_names.Path (Unit {0})) → x ≡ roll-Value layer
     → view x ≡ reference y → IsReference x
 reference_layer x (Value-F.List vs) y is e = let f = ap view (is ∙ rolls-List vs) ∙ view-List no_place vs in absurd cc
 reference_layer x (Value-F.Record xs) y is e = let f = ap view (is ∙ rolls-Record xs)
@@ -105,7 +105,7 @@ only_reference x y e = reference_layer x (out-Value x) y (sym (roll-out-Value x)
 abbrev IsClassifier : Value → Type 0
 IsClassifier x = (z : Box Reference Global) × (x ≡ Classifier z)
 
-classifier_layer : (x : Value) (layer : Layer) (y : plain_names.Reference (Unit {0})) → x ≡ roll-Value layer
+classifier_layer : (x : Value) (layer : Level) (y : plain_names.Reference (Unit {0})) → x ≡ roll-Value layer
     → view x ≡ classifier y → IsClassifier x
 classifier_layer x (Value-F.List vs) y is e = let f = ap view (is ∙ rolls-List vs) ∙ view-List no_place vs in absurd cc
 classifier_layer x (Value-F.Record xs) y is e = let f = ap view (is ∙ rolls-Record xs)
@@ -125,7 +125,7 @@ only_classifier x y e = classifier_layer x (out-Value x) y (sym (roll-out-Value 
 abbrev IsName : Value → Type 0
 IsName x = (z : Box Reference Global) × (x ≡ Named z)
 
-name_layer : (x : Value) (layer : Layer) (y : plain_names.Reference (Unit {0})) → x ≡ roll-Value layer
+name_layer : (x : Value) (layer : Level) (y : plain_names.Reference (Unit {0})) → x ≡ roll-Value layer
     → view x ≡ named y → IsName x
 name_layer x (Value-F.List vs) y is e = let f = ap view (is ∙ rolls-List vs) ∙ view-List no_place vs in absurd cc
 name_layer x (Value-F.Record xs) y is e = let f = ap view (is ∙ rolls-Record xs) ∙ view-Record no_place xs in absurd cc
@@ -145,7 +145,7 @@ only_name x y e = name_layer x (out-Value x) y (sym (roll-out-Value x)) e
 abbrev IsNumber : Value → Type 0
 IsNumber x = (low : Quantity) × (high : Option (Box Quantity Global)) × (x ≡ Number low high)
 
-number_layer : (x : Value) (layer : Layer) (y : plain.Quantity (Unit {0})) (w : Option (plain.Quantity (Unit {0})))
+number_layer : (x : Value) (layer : Level) (y : plain.Quantity (Unit {0})) (w : Option (plain.Quantity (Unit {0})))
     → x ≡ roll-Value layer → view x ≡ number y w → IsNumber x
 number_layer x (Value-F.List vs) y w is e = let f = ap view (is ∙ rolls-List vs) ∙ view-List no_place vs in absurd cc
 number_layer x (Value-F.Record xs) y w is e = let f = ap view (is ∙ rolls-Record xs)

@@ -2,7 +2,7 @@
 use Rattle.std.specs.Prelude.{List, [], ◌∷◌, ◌++◌}
 use Rattle.aadl_tree.specs.declared.actions.Bound.{Bound}
 use Rattle.aadl_tree.specs.Terminals.{whole, mark}
-use Rattle.aadl_tree.specs.SpellingParts.{Part, token, may, last_semicolon, plain, marked_if}
+use Rattle.aadl_tree.specs.SpellingParts.{SpellingPart, token, may, last_semicolon, plain, marked_if}
 use Rattle.aadl_tree.specs.Names.{Identifier, Reference, identifier_parts, reference_parts}
 use Rattle.aadl_tree.specs.Expressions.{Expression, expression_parts}
 use Rattle.aadl_tree.specs.declared.mark.Mark.TheVariants as k
@@ -35,15 +35,15 @@ mutual
     block : Actions P → Block P
 
 -- "(" expression ")"
-abbrev pub test_parts : {P : Type 0} → Expression P → List (Part P)
+abbrev pub test_parts : {P : Type 0} → Expression P → List (SpellingPart P)
 test_parts e = plain k.ParenOpen ∷ (expression_parts e ++ plain k.ParenClose ∷ [])
 
 -- [ "-" ] whole
-abbrev pub bound_parts : {P : Type 0} → Bound → List (Part P)
+abbrev pub bound_parts : {P : Type 0} → Bound → List (SpellingPart P)
 bound_parts x = marked_if k.Minus x.negative ++ token (whole x.value) [] ∷ []
 
 abbrev mutual
-  pub action_parts : {P : Type 0} → Action P → List (Part P)
+  pub action_parts : {P : Type 0} → Action P → List (SpellingPart P)
   action_parts (assign x e) = identifier_parts x ++ (plain k.Assign ∷ expression_parts e)
   action_parts (send x e) = identifier_parts x ++ (plain k.Bang ∷ test_parts e)
   action_parts (choose test a es o) =
@@ -55,21 +55,21 @@ abbrev mutual
       ∷ (bound_parts low ++ (plain k.Range ∷ (bound_parts high ++ (plain k.ParenClose ∷ block_parts body)))))))))
 
   -- A `;` behind the last action means nothing.
-  pub actions_parts : {P : Type 0} → Actions P → List (Part P)
+  pub actions_parts : {P : Type 0} → Actions P → List (SpellingPart P)
   actions_parts (actions first rest) = action_parts first ++ (mores_parts rest ++ may last_semicolon ∷ [])
 
-  pub mores_parts : {P : Type 0} → Mores P → List (Part P)
+  pub mores_parts : {P : Type 0} → Mores P → List (SpellingPart P)
   mores_parts no_mores = []
   mores_parts (more a rest) = plain k.Semicolon ∷ (action_parts a ++ mores_parts rest)
 
-  pub elsifs_parts : {P : Type 0} → Elsifs P → List (Part P)
+  pub elsifs_parts : {P : Type 0} → Elsifs P → List (SpellingPart P)
   elsifs_parts no_elsifs = []
   elsifs_parts (elsif test a rest) = plain k.Elsif ∷ (test_parts test ++ (actions_parts a ++ elsifs_parts rest))
 
-  pub otherwise_parts : {P : Type 0} → Otherwise P → List (Part P)
+  pub otherwise_parts : {P : Type 0} → Otherwise P → List (SpellingPart P)
   otherwise_parts no_otherwise = []
   otherwise_parts (otherwise a) = plain k.Else ∷ actions_parts a
 
-  pub block_parts : {P : Type 0} → Block P → List (Part P)
+  pub block_parts : {P : Type 0} → Block P → List (SpellingPart P)
   block_parts no_block = plain k.BraceOpen ∷ (plain k.BraceClose ∷ [])
   block_parts (block a) = plain k.BraceOpen ∷ (actions_parts a ++ plain k.BraceClose ∷ [])

@@ -2,13 +2,13 @@
 use Rattle.std.specs.Prelude.{ℕ, Bool, true, false, ◌||◌, codes, List, [], ◌∷◌, ◌++◌, if◌then◌else◌}
 use Rattle.std.specs.Fmt.{signed_decimal}
 use Rattle.aadl_tree.specs.KeywordsAndSymbols.{mark_text}
-use Rattle.aadl_tree.specs.Terminals.{Kind, word, whole, real, quoted, unread, mark, other}
+use Rattle.aadl_tree.specs.Terminals.{PlainTerminal, word, whole, real, quoted, unread, mark, other}
 use Rattle.aadl_tree.specs.SpellingParts.{kept}
 use Rattle.aadl_tree.specs.Declarations.{PackageTree, package_parts}
 use Rattle.aadl_tree.specs.declared.mark.Mark.TheVariants as k
 
 -- Keywords stand in lower case, whole numbers in decimal digits, all else as it is spelled.
-abbrev pub kind_text : Kind → List ℕ
+abbrev pub kind_text : PlainTerminal → List ℕ
 kind_text (word bytes) = bytes
 kind_text (whole n) = signed_decimal n
 kind_text (real bytes) = bytes
@@ -18,7 +18,7 @@ kind_text (mark m) = mark_text m
 kind_text (other bytes) = bytes
 
 -- No space stands before it.
-abbrev pub holds_left : Kind → Bool
+abbrev pub holds_left : PlainTerminal → Bool
 holds_left (mark k.Semicolon) = true
 holds_left (mark k.Comma) = true
 holds_left (mark k.ParenClose) = true
@@ -30,7 +30,7 @@ holds_left (mark k.Bang) = true
 holds_left _ = false
 
 -- No space stands behind it; so none stands between `!` and `(`.
-abbrev pub holds_right : Kind → Bool
+abbrev pub holds_right : PlainTerminal → Bool
 holds_right (mark k.ParenOpen) = true
 holds_right (mark k.Scope) = true
 holds_right (mark k.Dot) = true
@@ -39,7 +39,7 @@ holds_right (mark k.Bang) = true
 holds_right _ = false
 
 -- LF stands behind it in the place of a space: `;`, `public`, `{**`, and the words that open a section.
-abbrev pub ends_line : Kind → Bool
+abbrev pub ends_line : PlainTerminal → Bool
 ends_line (mark k.Semicolon) = true
 ends_line (mark k.Public) = true
 ends_line (mark k.AnnexOpen) = true
@@ -56,15 +56,15 @@ abbrev pub line_end : List ℕ
 line_end = 10 ∷ []
 
 -- what stands between two terminals
-abbrev pub between : Kind → Kind → List ℕ
+abbrev pub between : PlainTerminal → PlainTerminal → List ℕ
 between left right = if holds_right left || holds_left right then [] else if ends_line left then line_end else codes " "
 
 -- the text behind a terminal; it ends with LF
-abbrev pub text_behind : Kind → List Kind → List ℕ
+abbrev pub text_behind : PlainTerminal → List PlainTerminal → List ℕ
 text_behind left [] = line_end
 text_behind left (right ∷ ks) = between left right ++ (kind_text right ++ text_behind right ks)
 
-abbrev pub canonical : List Kind → List ℕ
+abbrev pub canonical : List PlainTerminal → List ℕ
 canonical [] = []
 canonical (kind ∷ ks) = kind_text kind ++ text_behind kind ks
 

@@ -6,7 +6,7 @@ use Rattle.aadl_tree.specs.declared.expressions.LogicOperator.{LogicOperator}
 use Rattle.aadl_tree.specs.declared.expressions.RelationOperator.{RelationOperator}
 use Rattle.aadl_tree.specs.declared.expressions.MultiplyOperator.{MultiplyOperator}
 use Rattle.aadl_tree.specs.Terminals.{whole, mark}
-use Rattle.aadl_tree.specs.SpellingParts.{Part, token, plain, parts_if}
+use Rattle.aadl_tree.specs.SpellingParts.{SpellingPart, token, plain, parts_if}
 use Rattle.aadl_tree.specs.Names.{Identifier, identifier_parts}
 use Rattle.aadl_tree.specs.Values.{sign_mark}
 use Rattle.aadl_tree.specs.declared.mark.Mark.TheVariants as k
@@ -74,54 +74,54 @@ relation_mark compare.LessOrEqual = k.LessOrEqual
 relation_mark compare.Greater = k.Greater
 relation_mark compare.GreaterOrEqual = k.GreaterOrEqual
 
-abbrev pub logic_parts : {P : Type 0} → LogicOperator → List (Part P)
+abbrev pub logic_parts : {P : Type 0} → LogicOperator → List (SpellingPart P)
 logic_parts logic.And = plain k.And ∷ []
 logic_parts logic.Or = plain k.Or ∷ []
 logic_parts logic.Xor = plain k.Xor ∷ []
 logic_parts logic.AndThen = plain k.And ∷ (plain k.Then ∷ [])
 logic_parts logic.OrElse = plain k.Or ∷ (plain k.Else ∷ [])
 
-abbrev pub leading_parts : {P : Type 0} → LeadingSign P → List (Part P)
+abbrev pub leading_parts : {P : Type 0} → LeadingSign P → List (SpellingPart P)
 leading_parts x = token (mark (sign_mark x.sign)) (x.at ∷ []) ∷ []
 
 -- [ "'" "fresh" ]
-abbrev pub fresh_parts : {P : Type 0} → Bool → List (Part P)
+abbrev pub fresh_parts : {P : Type 0} → Bool → List (SpellingPart P)
 fresh_parts true = plain k.Tick ∷ (plain k.Fresh ∷ [])
 fresh_parts false = []
 
 abbrev mutual
-  pub primary_parts : {P : Type 0} → Primary P → List (Part P)
+  pub primary_parts : {P : Type 0} → Primary P → List (SpellingPart P)
   primary_parts (number at n) = token (whole n) (at ∷ []) ∷ []
   primary_parts (truth at b) = token (mark (truth_mark b)) (at ∷ []) ∷ []
   primary_parts (named x fresh) = identifier_parts x ++ fresh_parts fresh
   primary_parts (group at e) = token (mark k.ParenOpen) (at ∷ []) ∷ (expression_parts e ++ plain k.ParenClose ∷ [])
 
-  pub factor_parts : {P : Type 0} → Factor P → List (Part P)
+  pub factor_parts : {P : Type 0} → Factor P → List (SpellingPart P)
   factor_parts (absolute at x) = token (mark k.Abs) (at ∷ []) ∷ primary_parts x
   factor_parts (negated at x) = token (mark k.Not) (at ∷ []) ∷ primary_parts x
   factor_parts (bare x) = primary_parts x
 
-  pub term_parts : {P : Type 0} → Term P → List (Part P)
+  pub term_parts : {P : Type 0} → Term P → List (SpellingPart P)
   term_parts (term first rest) = factor_parts first ++ factors_parts rest
 
-  pub factors_parts : {P : Type 0} → Factors P → List (Part P)
+  pub factors_parts : {P : Type 0} → Factors P → List (SpellingPart P)
   factors_parts no_factors = []
   factors_parts (factor operator x rest) = plain (multiply_mark operator) ∷ (factor_parts x ++ factors_parts rest)
 
-  pub sum_parts : {P : Type 0} → Sum P → List (Part P)
+  pub sum_parts : {P : Type 0} → Sum P → List (SpellingPart P)
   sum_parts (total sign first rest) = parts_if leading_parts sign ++ (term_parts first ++ terms_parts rest)
 
-  pub terms_parts : {P : Type 0} → Terms P → List (Part P)
+  pub terms_parts : {P : Type 0} → Terms P → List (SpellingPart P)
   terms_parts no_terms = []
   terms_parts (add sign x rest) = plain (sign_mark sign) ∷ (term_parts x ++ terms_parts rest)
 
-  pub relation_parts : {P : Type 0} → Relation P → List (Part P)
+  pub relation_parts : {P : Type 0} → Relation P → List (SpellingPart P)
   relation_parts (single x) = sum_parts x
   relation_parts (compared x operator y) = sum_parts x ++ (plain (relation_mark operator) ∷ sum_parts y)
 
-  pub expression_parts : {P : Type 0} → Expression P → List (Part P)
+  pub expression_parts : {P : Type 0} → Expression P → List (SpellingPart P)
   expression_parts (expression first rest) = relation_parts first ++ relations_parts rest
 
-  pub relations_parts : {P : Type 0} → Relations P → List (Part P)
+  pub relations_parts : {P : Type 0} → Relations P → List (SpellingPart P)
   relations_parts no_relations = []
   relations_parts (join operator x rest) = logic_parts operator ++ (relation_parts x ++ relations_parts rest)

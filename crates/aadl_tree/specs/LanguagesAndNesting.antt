@@ -1,25 +1,25 @@
 -- Which terminals are a package or a behaviour, how deep they nest, and where they stop being the beginning of one.
 use Rattle.std.specs.Prelude.{ℕ, ◌≡◌, ◌+◌, ◌-◌, ◌≤◌, Bool, true, false, List, [], ◌∷◌, ◌++◌}
 use Rattle.aadl_tree.specs.declared.nesting_limit.TheConstants.{GREATEST_NESTING}
-use Rattle.aadl_tree.specs.Terminals.{Kind, mark}
+use Rattle.aadl_tree.specs.Terminals.{PlainTerminal, mark}
 use Rattle.aadl_tree.specs.SpellingParts.{Spells}
 use Rattle.aadl_tree.specs.Annexes.{AnnexTree, annex_tree_parts}
 use Rattle.aadl_tree.specs.Declarations.{PackageTree, package_parts}
 use Rattle.aadl_tree.specs.declared.mark.Mark.TheVariants as k
 
 -- the terminals of some package, whatever its places
-pub record IsPackage (ks : List Kind) : Type 0 where
+pub record IsPackage (ks : List PlainTerminal) : Type 0 where
   pub tree : PackageTree ℕ
   pub spelled : Spells (package_parts tree) ks []
 
 -- the terminals of some behaviour, whatever its places
-pub record IsBehaviour (ks : List Kind) : Type 0 where
+pub record IsBehaviour (ks : List PlainTerminal) : Type 0 where
   pub tree : AnnexTree ℕ
   pub spelled : Spells (annex_tree_parts tree) ks []
 
 -- How many openers are open behind a terminal, where n are open before it. The flag says that `end` stands just
 -- before, whose `if` closes.
-abbrev pub opened : ℕ → Bool → Kind → ℕ
+abbrev pub opened : ℕ → Bool → PlainTerminal → ℕ
 opened n true (mark k.If) = n - 1
 opened n false (mark k.If) = n + 1
 opened n ended (mark k.ParenOpen) = n + 1
@@ -34,18 +34,18 @@ opened n ended (mark k.AnnexClose) = n - 1
 opened n ended (mark k.GuardClose) = n - 1
 opened n ended _ = n
 
-abbrev pub is_end : Kind → Bool
+abbrev pub is_end : PlainTerminal → Bool
 is_end (mark k.End) = true
 is_end _ = false
 
-abbrev pub nesting_from : ℕ → Bool → List Kind → ℕ
+abbrev pub nesting_from : ℕ → Bool → List PlainTerminal → ℕ
 nesting_from n ended [] = n
 nesting_from n ended (kind ∷ ks) = nesting_from (opened n ended kind) (is_end kind) ks
 
 -- how many openers are open behind the terminals, where `outer` are open before them
-abbrev pub nesting : ℕ → List Kind → ℕ
+abbrev pub nesting : ℕ → List PlainTerminal → ℕ
 nesting outer ks = nesting_from outer false ks
 
 -- nowhere in the terminals are more openers open than may be open
-abbrev pub IsShallow : ℕ → List Kind → Type 0
-IsShallow outer ks = (front back : List Kind) → ks ≡ front ++ back → nesting outer front ≤ GREATEST_NESTING
+abbrev pub IsShallow : ℕ → List PlainTerminal → Type 0
+IsShallow outer ks = (front back : List PlainTerminal) → ks ≡ front ++ back → nesting outer front ≤ GREATEST_NESTING

@@ -2,7 +2,7 @@
 use Rattle.std.specs.Prelude.{ℕ, Bool, List, [], ◌∷◌, ◌++◌, flat_map, Option, Some, None}
 use Rattle.std.specs.Str.{str_eq_ignore_ascii_case}
 use Rattle.aadl_tree.specs.Terminals.{word}
-use Rattle.aadl_tree.specs.SpellingParts.{Part, token, plain, parts_if, behind, chained}
+use Rattle.aadl_tree.specs.SpellingParts.{SpellingPart, token, plain, parts_if, behind, chained}
 use Rattle.aadl_tree.specs.declared.mark.Mark.TheVariants as k
 
 pub record Identifier (P : Type 0) : Type 0 where
@@ -26,27 +26,27 @@ pub record Reference (P : Type 0) : Type 0 where
   pub type_name : Identifier P
   pub implementation : Option (Identifier P)
 
-abbrev pub identifier_parts : {P : Type 0} → Identifier P → List (Part P)
+abbrev pub identifier_parts : {P : Type 0} → Identifier P → List (SpellingPart P)
 identifier_parts x = token (word x.spelling) (x.at ∷ []) ∷ []
 
 -- id { "::" id }
-abbrev pub name_parts : {P : Type 0} → Name P → List (Part P)
+abbrev pub name_parts : {P : Type 0} → Name P → List (SpellingPart P)
 name_parts x = chained k.Scope identifier_parts x.first x.rest
 
 -- id { "." id }
-abbrev pub path_parts : {P : Type 0} → Path P → List (Part P)
+abbrev pub path_parts : {P : Type 0} → Path P → List (SpellingPart P)
 path_parts x = chained k.Dot identifier_parts x.first x.rest
 
 -- id { "," id }
-abbrev pub identifiers_parts : {P : Type 0} → Identifiers P → List (Part P)
+abbrev pub identifiers_parts : {P : Type 0} → Identifiers P → List (SpellingPart P)
 identifiers_parts x = chained k.Comma identifier_parts x.first x.rest
 
 -- id "::"
-abbrev pub qualifier_parts : {P : Type 0} → Identifier P → List (Part P)
+abbrev pub qualifier_parts : {P : Type 0} → Identifier P → List (SpellingPart P)
 qualifier_parts x = identifier_parts x ++ plain k.Scope ∷ []
 
 -- { id "::" } id [ "." id ]
-abbrev pub reference_parts : {P : Type 0} → Reference P → List (Part P)
+abbrev pub reference_parts : {P : Type 0} → Reference P → List (SpellingPart P)
 reference_parts x =
     flat_map qualifier_parts x.qualifiers
     ++ (identifier_parts x.type_name ++ parts_if (behind k.Dot identifier_parts) x.implementation)

@@ -2,7 +2,7 @@
 use Rattle.std.specs.Prelude.{ℕ, true, List, [], length}
 use Rattle.aadl_lex.specs.declared.token.Token.{Token}
 use Rattle.aadl_lex.specs.Tokens.{AreTokensOf}
-use Rattle.aadl_tree.specs.Terminals.{spots_from, spots, kinds_of}
+use Rattle.aadl_tree.specs.Terminals.{spots_from, placed_terminals, kinds_of}
 use Rattle.aadl_tree.specs.SpellingParts.{Written}
 use Rattle.aadl_tree.specs.Annexes.{AnnexTree, annex_tree_parts}
 use Rattle.aadl_tree.specs.Declarations.{PackageTree, package_parts}
@@ -13,20 +13,20 @@ use Rattle.aadl_tree.specs.TerminalFaults.{FailsAt, DeepAt}
 pub record IsTreeOf (text : List ℕ) (tree : PackageTree ℕ) : Type 0 where
   pub tokens : List Token
   pub lexed : AreTokensOf text tokens
-  pub written : Written (package_parts tree) (spots text tokens) []
-  pub shallow : IsShallow 0 (kinds_of (spots text tokens))
+  pub written : Written (package_parts tree) (placed_terminals text tokens) []
+  pub shallow : IsShallow 0 (kinds_of (placed_terminals text tokens))
 
 -- The text is no text of the grammar from this place on.
 pub record StopsAt (text : List ℕ) (at : ℕ) : Type 0 where
   pub tokens : List Token
   pub lexed : AreTokensOf text tokens
-  pub fails : FailsAt IsPackage 0 (length text) (spots text tokens) at
+  pub fails : FailsAt IsPackage 0 (length text) (placed_terminals text tokens) at
 
 -- At this place of the text the nesting gets too deep.
 pub record NestsAt (text : List ℕ) (at : ℕ) : Type 0 where
   pub tokens : List Token
   pub lexed : AreTokensOf text tokens
-  pub deep : DeepAt IsPackage 0 (spots text tokens) at
+  pub deep : DeepAt IsPackage 0 (placed_terminals text tokens) at
 
 -- The tokens of a behaviour by itself stand in an opened annex, so one opener is open before them.
 abbrev pub outer_nesting : ℕ

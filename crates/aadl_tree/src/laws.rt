@@ -6,8 +6,8 @@ ghost use Rattle.aadl_lex.specs.Tokens.{AreTokensOf};
 ghost use Rattle.aadl_tree.specs.declared.mark.Mark.TheVariants as k;
 ghost use Rattle.aadl_tree.specs.KeywordsAndSymbols.{mark_text, keywords_inside, keywords_outside, symbols, keyword_of};
 ghost use Rattle.aadl_tree.specs.KeywordsAndSymbols.{symbol_of};
-ghost use Rattle.aadl_tree.specs.Terminals.{Kind, word, mark, Spot, spots, kinds_of};
-ghost use Rattle.aadl_tree.specs.SpellingParts.{Part, Spells, Written, kept};
+ghost use Rattle.aadl_tree.specs.Terminals.{PlainTerminal, word, mark, PlacedTerminal, placed_terminals, kinds_of};
+ghost use Rattle.aadl_tree.specs.SpellingParts.{SpellingPart, Spells, Written, kept};
 ghost use Rattle.aadl_tree.specs.Annexes.{transition_parts};
 ghost use Rattle.aadl_tree.specs.declared.package.PackageTree.{PackageTree as SourceTree};
 ghost use Rattle.aadl_tree.specs.proof.PlaceMaps.{package_to, no_place};
@@ -36,7 +36,7 @@ pub fn marks_are_read()
 /// A word can be a keyword inside a behaviour annex and none outside. An `if` is open up to the
 /// `if` of its end.
 pub fn terminals_depend_on_their_place()
-    ensures kinds { kinds_of (spots annex_text annex_tokens)
+    ensures kinds { kinds_of (placed_terminals annex_text annex_tokens)
         ≡ word (codes "on") ∷ word (codes "behavior_specification") ∷ mark k.AnnexOpen
         ∷ mark k.On ∷ word (codes "x") ∷ mark k.AnnexClose ∷ [] }
     ensures opened { nesting 0 (mark k.If ∷ mark k.ParenOpen ∷ []) ≡ 2 }
@@ -55,10 +55,10 @@ pub fn counting_is_spelled()
 
 /// Parts one behind the other are spelled, and written, one behind the other.
 pub fn parts_are_spelled_in_turn()
-    ensures spelled { (a b : List (Part ℕ)) (ks rest : List Kind)
-        → Spells (a ++ b) ks rest ↔ ((mid : List Kind) × Spells a ks mid × Spells b mid rest) }
-    ensures written { (a b : List (Part ℕ)) (ss rest : List Spot)
-        → Written (a ++ b) ss rest ↔ ((mid : List Spot) × Written a ss mid × Written b mid rest) }
+    ensures spelled { (a b : List (SpellingPart ℕ)) (ks rest : List PlainTerminal)
+        → Spells (a ++ b) ks rest ↔ ((mid : List PlainTerminal) × Spells a ks mid × Spells b mid rest) }
+    ensures written { (a b : List (SpellingPart ℕ)) (ss rest : List PlacedTerminal)
+        → Written (a ++ b) ss rest ↔ ((mid : List PlacedTerminal) × Written a ss mid × Written b mid rest) }
 {}
 
 /// A package of nothing, whose text has a keyword in capitals and a comment: its tokens, its tree
@@ -78,7 +78,7 @@ pub fn places_can_be_dropped()
 
 /// What the canonical text keeps of a tree spells it; and what is written in its places is spelled.
 pub fn kept_is_spelled()
-    ensures kept { (ps : List (Part ℕ)) (rest : List Kind) → Spells ps (kept ps ++ rest) rest }
-    ensures written { (ps : List (Part ℕ)) (ss rest : List Spot)
+    ensures kept { (ps : List (SpellingPart ℕ)) (rest : List PlainTerminal) → Spells ps (kept ps ++ rest) rest }
+    ensures written { (ps : List (SpellingPart ℕ)) (ss rest : List PlacedTerminal)
         → Written ps ss rest → Spells ps (kinds_of ss) (kinds_of rest) }
 {}

@@ -4,8 +4,8 @@ use Rattle.std.proofs.Common.{refl, sym, ap, ◌∙◌, arith}
 use Rattle.std.proofs.lemmas.Option.{same_Some, none-some}
 use Rattle.aadl_tree.specs.Declarations.{PackageTree}
 use Rattle.aadl_names.specs.ReferenceResolution.{implementation_in}
-use Rattle.aadl_uses.specs.declared.connections_by_target.Wire.{Wire}
-use Rattle.aadl_uses.specs.Wiring.{wires_of, wires_at}
+use Rattle.aadl_uses.specs.declared.connections_by_target.ConnectionPorts.{ConnectionPorts}
+use Rattle.aadl_uses.specs.Wiring.{wires_of, connection_ports_at}
 use Rattle.aadl_uses.specs.proof.ImplementationTypes.{type_number_by, type_in, type_number_at}
 use Rattle.aadl_uses.specs.proof.IncomingConnections.{wires_in}
 
@@ -31,15 +31,15 @@ module _ {D X : Type 0} (f : D → X) where
 
 module _ (tree : PackageTree ℕ) where
   -- the connections of a declaration that has some
-  pub wires_found : (n : ℕ) (o : Option (List Wire)) (wires : List Wire)
+  pub wires_found : (n : ℕ) (o : Option (List ConnectionPorts)) (wires : List ConnectionPorts)
       → o ≡ slice_get (map (wires_in tree) tree.declarations) n → o ≡ Some wires
-      → wires ≡ wires_at tree n
+      → wires ≡ connection_ports_at tree n
   wires_found n o wires e is =
       let d = listed (wires_in tree) tree.declarations n wires (sym e ∙ is) in
       sym d.2 ∙ sym (ap (λ o. wires_of tree (implementation_in o)) d.1)
 
-  pub wires_none : (n : ℕ) (o : Option (List Wire)) → o ≡ slice_get (map (wires_in tree) tree.declarations) n → o ≡ None
-      → [] ≡ wires_at tree n
+  pub wires_none : (n : ℕ) (o : Option (List ConnectionPorts)) → o ≡ slice_get (map (wires_in tree) tree.declarations) n → o ≡ None
+      → [] ≡ connection_ports_at tree n
   wires_none n o e is =
       sym (ap (λ o. wires_of tree (implementation_in o)) (unlisted (wires_in tree) tree.declarations n (sym e ∙ is)))
 

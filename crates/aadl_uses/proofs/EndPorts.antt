@@ -8,9 +8,9 @@ use Rattle.aadl_tree.specs.Names.{Identifier}
 use Rattle.aadl_tree.specs.Declarations.{Subcomponent, ConnectionEnd, Implementation, Declaration, type, implementation}
 use Rattle.aadl_tree.specs.Declarations.{PackageTree}
 use Rattle.aadl_names.specs.proof.MemberNumbers.{member_of}
-use Rattle.aadl_names.specs.declared.port_place.PortPlace.TheVariants.{Own, Inner}
+use Rattle.aadl_names.specs.declared.port_place.NumberedPort.TheVariants.{Own, Inner}
 use Rattle.aadl_names.specs.ReferenceResolution.{implementation_in, implementation_at, subcomponents_of, referred}
-use Rattle.aadl_names.specs.ReferenceResolution.{target_of, port_named, sub_named, ports_at, inner_site, site_by, site}
+use Rattle.aadl_names.specs.ReferenceResolution.{target_of, port_named, sub_named, ports_at, inner_end_port, end_port_by, end_port}
 use Rattle.aadl_uses.specs.Uses.{below}
 
 member_is : (name : List ℕ) (x : Implementation ℕ) (o : Option (Declaration ℕ)) → implementation_in o ≡ Some x
@@ -23,18 +23,18 @@ member_is name x (Some (implementation y)) e =
 module _ (tree : PackageTree ℕ) (n : ℕ) (x : Implementation ℕ) (end : ConnectionEnd ℕ)
     (is : implementation_at tree n ≡ Some x) where
   -- what an end with one word, and one with two, names
-  one : end.second ≡ None → site tree x end ≡ option_map Own (port_named (ports_at tree (Some x)) end.first.spelling)
-  unfolding site
-  one none = ap (site_by tree x end.first) none
+  one : end.second ≡ None → end_port tree x end ≡ option_map Own (port_named (ports_at tree (Some x)) end.first.spelling)
+  unfolding end_port
+  one none = ap (end_port_by tree x end.first) none
 
   two : (port : Identifier ℕ) → end.second ≡ Some port
-      → site tree x end ≡ option_and_then (inner_site tree x port.spelling)
+      → end_port tree x end ≡ option_and_then (inner_end_port tree x port.spelling)
       (sub_named x.subcomponents end.first.spelling)
-  unfolding site
-  two port some = ap (site_by tree x end.first) some
+  unfolding end_port
+  two port some = ap (end_port_by tree x end.first) some
 
   pub own_is : end.second ≡ None
-      → option_map Own (port_named (ports_at tree (implementation_at tree n)) end.first.spelling) ≡ site tree x end
+      → option_map Own (port_named (ports_at tree (implementation_at tree n)) end.first.spelling) ≡ end_port tree x end
   own_is none = ap (λ o. option_map Own (port_named (ports_at tree o) end.first.spelling)) is ∙ sym (one none)
 
   stands_below : (s : ℕ) → option_and_then (implementation_at tree) (below tree n s)
@@ -49,16 +49,16 @@ module _ (tree : PackageTree ℕ) (n : ℕ) (x : Implementation ℕ) (end : Conn
   pub inner_is : (port : Identifier ℕ) (s : ℕ) → end.second ≡ Some port
       → member_of (slice_get tree.declarations n) end.first.spelling ≡ Some s
       → option_map (Inner s) (port_named (ports_at tree (option_and_then (implementation_at tree) (below tree n s)))
-      port.spelling) ≡ site tree x end
+      port.spelling) ≡ end_port tree x end
   inner_is port s some found =
       ap (λ o. option_map (Inner s) (port_named (ports_at tree o) port.spelling)) (stands_below s)
       ∙ sym (two port some
-      ∙ ap (option_and_then (inner_site tree x port.spelling))
+      ∙ ap (option_and_then (inner_end_port tree x port.spelling))
       (sym (member_is end.first.spelling x (slice_get tree.declarations n) is) ∙ found))
 
   pub none_is : (port : Identifier ℕ) → end.second ≡ Some port
-      → member_of (slice_get tree.declarations n) end.first.spelling ≡ None → None ≡ site tree x end
+      → member_of (slice_get tree.declarations n) end.first.spelling ≡ None → None ≡ end_port tree x end
   none_is port some none =
       sym (two port some
-      ∙ ap (option_and_then (inner_site tree x port.spelling))
+      ∙ ap (option_and_then (inner_end_port tree x port.spelling))
       (sym (member_is end.first.spelling x (slice_get tree.declarations n) is) ∙ none))

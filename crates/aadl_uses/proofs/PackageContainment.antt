@@ -10,7 +10,7 @@ use Rattle.aadl_tree.specs.Names.{Identifier, Reference}
 use Rattle.aadl_tree.specs.Declarations.{Declaration, PackageTree}
 use Rattle.aadl_names.specs.ReferenceResolution.{implementation_in, implementation_at, subcomponents_of, referred}
 use Rattle.aadl_names.specs.ReferenceResolution.{named_by, is_of, first_number, is_implementation}
-use Rattle.aadl_uses.specs.Uses.{sub_at, below, standing, IsInUse}
+use Rattle.aadl_uses.specs.Uses.{sub_at, below, number_at_path, IsInUse}
 use Rattle.aadl_uses.specs.proof.PackageContainment.{targets_of, targets_in, containment}
 use Rattle.aadl_uses.specs.proof.ContainmentGraphs.{below_in, reached_by, IsReached, IsWithin}
 
@@ -39,12 +39,12 @@ below-same tree n s =
     ∙ joined (λ sub. referred tree sub.classifier) (sub_at tree n s))
 
 pub standing-same : (tree : PackageTree ℕ) (root : ℕ) (path : List ℕ)
-    → reached_by (containment tree) root path ≡ standing tree root path
+    → reached_by (containment tree) root path ≡ number_at_path tree root path
 standing-same tree root [] = refl
 standing-same tree root (s ∷ path) =
     ap (option_and_then (λ n. below_in (containment tree) n s)) (standing-same tree root path)
     ∙ and_then_same (λ n. below_in (containment tree) n s) (λ n. below tree n s) (λ n. below-same tree n s)
-    (standing tree root path)
+    (number_at_path tree root path)
 
 pub in_use_by : (tree : PackageTree ℕ) (root n : ℕ) (keys : List ℕ)
     → (Contains keys n ↔ IsReached (containment tree) root n)

@@ -8,7 +8,7 @@ use Rattle.std.proofs.lemmas.List.{take_more, take_all, take-append-drop, revers
 use Rattle.std.proofs.lemmas.Option.{none-some}
 use Rattle.aadl_tree.specs.Declarations.{Subcomponent, PackageTree}
 use Rattle.aadl_names.specs.ReferenceResolution.{referred}
-use Rattle.aadl_uses.specs.Uses.{sub_at, below, standing}
+use Rattle.aadl_uses.specs.Uses.{sub_at, below, number_at_path}
 use Rattle.aadl_uses.specs.declared.thread_locations.SubAt.{SubAt}
 use Rattle.aadl_uses.specs.ThreadLocations.{name_at, names_along, dotted_names, spelled_path, sub_in, subs_along}
 
@@ -24,38 +24,38 @@ reversed_parts : (path : List ℕ) (i : ℕ) → reverse (drop i path) ++ revers
 reversed_parts path i = sym (reverse-append (take i path) (drop i path)) ∙ ap reverse (take-append-drop i path)
 
 module _ (tree : PackageTree ℕ) (root : ℕ) where
-  none_stays : (xs ys : List ℕ) → standing tree root ys ≡ None → standing tree root (xs ++ ys) ≡ None
+  none_stays : (xs ys : List ℕ) → number_at_path tree root ys ≡ None → number_at_path tree root (xs ++ ys) ≡ None
   none_stays [] ys e = e
   none_stays (x ∷ xs) ys e = ap (option_and_then (λ n. below tree n x)) (none_stays xs ys e)
 
   -- where a part of a path leads nowhere, the whole does
-  pub none_all : (path : List ℕ) (i : ℕ) → standing tree root (reverse (take i path)) ≡ None
-      → standing tree root (reverse path) ≡ None
+  pub none_all : (path : List ℕ) (i : ℕ) → number_at_path tree root (reverse (take i path)) ≡ None
+      → number_at_path tree root (reverse path) ≡ None
   none_all path i e =
-      ap (standing tree root) (sym (reversed_parts path i))
+      ap (number_at_path tree root) (sym (reversed_parts path i))
       ∙ none_stays (reverse (drop i path)) (reverse (take i path)) e
 
   -- ---- the next step
   pub next_standing : (path : List ℕ) (i s here : ℕ) → i < length path → s ≡ get_or path i 0
-      → standing tree root (reverse (take i path)) ≡ Some here
-      → standing tree root (reverse (take (i + 1) path)) ≡ below tree here s
+      → number_at_path tree root (reverse (take i path)) ≡ Some here
+      → number_at_path tree root (reverse (take (i + 1) path)) ≡ below tree here s
   next_standing path i s here within is stands =
-      ap (standing tree root) (reversed_more path i s within is) ∙ ap (option_and_then (λ n. below tree n s)) stands
+      ap (number_at_path tree root) (reversed_more path i s within is) ∙ ap (option_and_then (λ n. below tree n s)) stands
 
   pub next_some : (path : List ℕ) (i s here next : ℕ) → i < length path → s ≡ get_or path i 0
-      → standing tree root (reverse (take i path)) ≡ Some here → Some next ≡ below tree here s
-      → standing tree root (reverse (take (i + 1) path)) ≡ Some next
+      → number_at_path tree root (reverse (take i path)) ≡ Some here → Some next ≡ below tree here s
+      → number_at_path tree root (reverse (take (i + 1) path)) ≡ Some next
   next_some path i s here next within is stands e = next_standing path i s here within is stands ∙ sym e
 
   pub next_none : (path : List ℕ) (i s here : ℕ) → i < length path → s ≡ get_or path i 0
-      → standing tree root (reverse (take i path)) ≡ Some here → None ≡ below tree here s
-      → standing tree root (reverse path) ≡ None
+      → number_at_path tree root (reverse (take i path)) ≡ Some here → None ≡ below tree here s
+      → number_at_path tree root (reverse path) ≡ None
   next_none path i s here within is stands e =
       none_all path (i + 1) (next_standing path i s here within is stands ∙ sym e)
 
   pub all_standing : (path : List ℕ) (i here : ℕ) → length path ≤ i
-      → standing tree root (reverse (take i path)) ≡ Some here → standing tree root (reverse path) ≡ Some here
-  all_standing path i here past stands = ap (λ p. standing tree root (reverse p)) (sym (take_all i path past)) ∙ stands
+      → number_at_path tree root (reverse (take i path)) ≡ Some here → number_at_path tree root (reverse path) ≡ Some here
+  all_standing path i here past stands = ap (λ p. number_at_path tree root (reverse p)) (sym (take_all i path past)) ∙ stands
 
 -- what has no subcomponent leads nowhere
 pub none_below : (tree : PackageTree ℕ) (n s : ℕ) → sub_at tree n s ≡ None → below tree n s ≡ None
@@ -87,7 +87,7 @@ dotted_more (n ∷ ns) y e = behind n ns y
 -- ---- a thread, by the first subcomponents of its path
 pub record Along (tree : PackageTree ℕ) (root : ℕ) (path : List ℕ) (i here : ℕ) (names : List ℕ)
     (subs : List SubAt) : Type 0 where
-  pub stands : standing tree root (reverse (take i path)) ≡ Some here
+  pub stands : number_at_path tree root (reverse (take i path)) ≡ Some here
   pub size : length (names_along tree root (reverse (take i path))) ≡ i
   pub names_are : names ≡ spelled_path tree root (reverse (take i path))
   pub subs_are : subs ≡ reverse (subs_along tree root (reverse (take i path)))
@@ -101,7 +101,7 @@ module _ (tree : PackageTree ℕ) (root : ℕ) (path : List ℕ) (i s here : ℕ
   reversed : reverse (take (i + 1) path) ≡ s ∷ reverse (take i path)
   reversed = reversed_more path i s within is
 
-  here_sub : option_and_then (λ n. sub_at tree n s) (standing tree root (reverse (take i path))) ≡ Some sub
+  here_sub : option_and_then (λ n. sub_at tree n s) (number_at_path tree root (reverse (take i path))) ≡ Some sub
   here_sub = ap (option_and_then (λ n. sub_at tree n s)) along.stands ∙ declared
 
   names_more : names_along tree root (reverse (take (i + 1) path))

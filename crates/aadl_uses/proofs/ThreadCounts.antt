@@ -15,7 +15,7 @@ use Rattle.list_lemmas.proofs.Elements.{Contains-nil, Contains-cons_cases}
 use Rattle.list_lemmas.proofs.Options.{option_and_then_assoc}
 use Rattle.aadl_tree.specs.Declarations.{Implementation, Declaration, PackageTree}
 use Rattle.aadl_names.specs.ReferenceResolution.{implementation_in, implementation_at, is_thread}
-use Rattle.aadl_uses.specs.Uses.{standing}
+use Rattle.aadl_uses.specs.Uses.{number_at_path}
 use Rattle.aadl_uses.specs.proof.PackageContainment.{targets_in, containment}
 use Rattle.aadl_uses.specs.ThreadsBelow.{Lists, MoreThan, IsThreadAt, PathBefore, path_before}
 use Rattle.aadl_uses.specs.proof.ThreadCounts.{is_thread_in, is_thread_declaration, thread_marks, AreCounted}
@@ -44,7 +44,7 @@ stands_reversed g n (s ∷ path) =
 
 -- what stands at a path, the outermost first, stands at its reverse
 stands_at-same : (tree : PackageTree ℕ) (n : ℕ) (p : List ℕ)
-    → stands_at (containment tree) n p ≡ standing tree n (reverse p)
+    → stands_at (containment tree) n p ≡ number_at_path tree n (reverse p)
 stands_at-same tree n p =
     sym (ap (stands_at (containment tree) n) (reverse-reverse p))
     ∙ (stands_reversed (containment tree) n (reverse p) ∙ standing-same tree n (reverse p))
@@ -71,10 +71,10 @@ thread_from tree n p m =
 pub marked_from : (tree : PackageTree ℕ) (n : ℕ) (path : List ℕ) → IsThreadAt tree n path
     → IsMarkedAt (containment tree) (thread_marks tree) n (reverse path)
 marked_from tree n path t =
-    option_and_then_some (implementation_at tree) (standing tree n path) t.0 t.1.0
+    option_and_then_some (implementation_at tree) (number_at_path tree n path) t.0 t.1.0
     (λ k h f. record {
       number = k;
-      stands = stands_at-same tree n (reverse path) ∙ (ap (standing tree n) (reverse-reverse path) ∙ h);
+      stands = stands_at-same tree n (reverse path) ∙ (ap (number_at_path tree n) (reverse-reverse path) ∙ h);
       is_marked = mark_at tree.declarations k ∙ (ap is_thread_in f ∙ t.1.1);
     })
 

@@ -1,17 +1,17 @@
 -- Connections into a port into which one that stands before them goes.
 use Rattle.std.specs.Prelude.{◌≡◌, ℕ, ◌<◌, List, Option, Some, slice_get}
 use Rattle.std.specs.Option.{option_and_then}
-use Rattle.aadl_names.specs.declared.port_place.PortPlace.{PortPlace}
-use Rattle.aadl_uses.specs.declared.connections_by_target.Wire.{Wire}
+use Rattle.aadl_names.specs.declared.port_place.NumberedPort.{NumberedPort}
+use Rattle.aadl_uses.specs.declared.connections_by_target.ConnectionPorts.{ConnectionPorts}
 
 -- the port into which a connection goes, if it is declared
-abbrev pub target_in : List Wire → ℕ → Option PortPlace
+abbrev pub target_in : List ConnectionPorts → ℕ → Option NumberedPort
 target_in wires n = option_and_then (λ wire. wire.target) (slice_get wires n)
 
 -- a connection goes into a port into which one goes that stands before it
-pub record IsDuplicate (wires : List Wire) (second : ℕ) : Type 0 where
+pub record IsDuplicate (wires : List ConnectionPorts) (second : ℕ) : Type 0 where
   pub first : ℕ
-  pub target : PortPlace
+  pub target : NumberedPort
   pub in_order : first < second
   pub earlier : target_in wires first ≡ Some target
   pub here : target_in wires second ≡ Some target

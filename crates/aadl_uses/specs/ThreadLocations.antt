@@ -2,7 +2,7 @@
 use Rattle.std.specs.Prelude.{ℕ, List, [], ◌∷◌, ◌++◌, codes, reverse, Option, Some, None}
 use Rattle.std.specs.Option.{option_and_then}
 use Rattle.aadl_tree.specs.Declarations.{Subcomponent, Implementation, PackageTree}
-use Rattle.aadl_uses.specs.Uses.{sub_at, standing}
+use Rattle.aadl_uses.specs.Uses.{sub_at, number_at_path}
 use Rattle.aadl_uses.specs.ThreadsBelow.{IsThreadOf}
 use Rattle.aadl_uses.specs.declared.thread_locations.SubAt.{SubAt}
 use Rattle.aadl_uses.specs.declared.thread_locations.ThreadAt.{ThreadAt}
@@ -19,7 +19,7 @@ name_at (Some sub) = sub.name.spelling ∷ []
 abbrev pub names_along : PackageTree ℕ → ℕ → List ℕ → List (List ℕ)
 names_along tree root [] = []
 names_along tree root (s ∷ path) =
-    name_at (option_and_then (λ n. sub_at tree n s) (standing tree root path)) ++ names_along tree root path
+    name_at (option_and_then (λ n. sub_at tree n s) (number_at_path tree root path)) ++ names_along tree root path
 
 abbrev pub dotted_names : List (List ℕ) → List ℕ
 dotted_names [] = []
@@ -36,7 +36,7 @@ sub_in (Some n) s = record { declaration = n; sub = s } ∷ []
 
 abbrev pub subs_along : PackageTree ℕ → ℕ → List ℕ → List SubAt
 subs_along tree root [] = []
-subs_along tree root (s ∷ path) = sub_in (standing tree root path) s ++ subs_along tree root path
+subs_along tree root (s ∷ path) = sub_in (number_at_path tree root path) s ++ subs_along tree root path
 
 abbrev pub thread_at : PackageTree ℕ → ℕ → List ℕ → ThreadAt
 thread_at tree root path = record { path = spelled_path tree root path; subs = reverse (subs_along tree root path) }

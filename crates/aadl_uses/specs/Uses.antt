@@ -12,12 +12,12 @@ abbrev pub below : PackageTree ℕ → ℕ → ℕ → Option ℕ
 below tree n s = option_and_then (λ sub. referred tree sub.classifier) (sub_at tree n s)
 
 -- The implementation at the end of a path of subcomponents, by their numbers, the innermost first.
-abbrev pub standing : PackageTree ℕ → ℕ → List ℕ → Option ℕ
-standing tree root [] = Some root
-standing tree root (s ∷ path) = option_and_then (λ n. below tree n s) (standing tree root path)
+abbrev pub number_at_path : PackageTree ℕ → ℕ → List ℕ → Option ℕ
+number_at_path tree root [] = Some root
+number_at_path tree root (s ∷ path) = option_and_then (λ n. below tree n s) (number_at_path tree root path)
 
 abbrev pub component_at : PackageTree ℕ → ℕ → List ℕ → Option (Implementation ℕ)
-component_at tree root path = option_and_then (implementation_at tree) (standing tree root path)
+component_at tree root path = option_and_then (implementation_at tree) (number_at_path tree root path)
 
 abbrev pub IsInUse : PackageTree ℕ → ℕ → ℕ → Type 0
-IsInUse tree root n = (path : List ℕ) × (standing tree root path ≡ Some n)
+IsInUse tree root n = (path : List ℕ) × (number_at_path tree root path ≡ Some n)

@@ -1,12 +1,12 @@
 //! The connections of one declaration, found by the ports into which they go.
 ghost use Rattle.std.specs.Prelude.{◌≡◌, ◌↔◌, None, Some, IfOk, OnOk, IsTrue, if◌then◌else◌};
 ghost use Rattle.std.specs.Option.{option_or};
-ghost use Rattle.aadl_names.specs.declared.port_place.PortPlace.{PortPlace};
-ghost use Rattle.aadl_uses.specs.proof.NumbersByPort.{is_site, number_of};
+ghost use Rattle.aadl_names.specs.declared.port_place.NumberedPort.{NumberedPort};
+ghost use Rattle.aadl_uses.specs.proof.NumbersByPort.{is_port, number_of};
 ghost use Rattle.aadl_uses.specs.SecondConnections as spec;
 ghost use Rattle.aadl_uses.specs.proof.FirstConnections as inner;
 
-use aadl_names::PortPlace;
+use aadl_names::NumberedPort;
 use indexmap::IndexMap;
 use pals_base::Items;
 use std::alloc::{AllocError, Global};
@@ -14,16 +14,16 @@ use std::marker::Model;
 
 /// A connection, by the ports that it joins, where they are declared.
 #[derive(Clone, Copy)]
-pub struct Wire {
-    pub source: Option<PortPlace>,
-    pub target: Option<PortPlace>,
+pub struct ConnectionPorts {
+    pub source: Option<NumberedPort>,
+    pub target: Option<NumberedPort>,
 }
 
 /// The connections of a declaration. Contracts see their list.
 pub struct Connections {
-    wires: Items<Wire>,
+    wires: Items<ConnectionPorts>,
     // of those that go into one port, the first
-    firsts: IndexMap<PortPlace, usize>,
+    firsts: IndexMap<NumberedPort, usize>,
 }
 
 impl Drop for Connections {
@@ -37,22 +37,22 @@ impl Drop for Connections {
 
 impl Model for Connections {
     ghost use Rattle.std.specs.Prelude.{◌≡◌, List};
-    ghost use Rattle.aadl_names.specs.declared.port_place.PortPlace.{PortPlace};
-    ghost use Rattle.aadl_uses.specs.declared.connections_by_target.Wire.{Wire};
+    ghost use Rattle.aadl_names.specs.declared.port_place.NumberedPort.{NumberedPort};
+    ghost use Rattle.aadl_uses.specs.declared.connections_by_target.ConnectionPorts.{ConnectionPorts};
     ghost use Rattle.aadl_uses.specs.proof.NumbersByPort.{number_of};
     ghost use Rattle.aadl_uses.specs.SecondConnections as spec;
     ghost use Rattle.aadl_uses.specs.proof.FirstConnections as inner;
 
-    ghost Value = { List Wire };
+    ghost Value = { List ConnectionPorts };
 
     ghost view = { λ c. c.wires };
 
-    ghost invariant = { λ c. (target : PortPlace) → number_of c.firsts.entries target ≡ inner.first_into c.wires target };
+    ghost invariant = { λ c. (target : NumberedPort) → number_of c.firsts.entries target ≡ inner.first_into c.wires target };
 }
 
 impl Connections {
     /// Connections in their order.
-    pub fn of(alloc: Global, wires: Items<Wire>) -> Result<Connections, AllocError>
+    pub fn of(alloc: Global, wires: Items<ConnectionPorts>) -> Result<Connections, AllocError>
         ensures { IfOk result (λ connections. connections ≡ wires) }
     {
         let firsts = firsts_of(alloc, wires.as_slice())?;
@@ -60,14 +60,14 @@ impl Connections {
     }
 
     /// The connections in their order.
-    pub fn as_slice(&self) -> &[Wire]
+    pub fn as_slice(&self) -> &[ConnectionPorts]
         ensures { result.now ≡ self.now }
     {
         self.wires.as_slice()
     }
 
     /// The number of the first one that goes into a port.
-    pub fn first_into(&self, target: PortPlace) -> Option<usize>
+    pub fn first_into(&self, target: NumberedPort) -> Option<usize>
         ensures { result ≡ inner.first_into self.now target }
     {
         self.firsts.get(&target).copied()
@@ -85,7 +85,7 @@ impl Connections {
 }
 
 // The port into which a connection goes.
-fn target_at(wires: &[Wire], number: usize) -> Option<PortPlace>
+fn target_at(wires: &[ConnectionPorts], number: usize) -> Option<NumberedPort>
     ensures { result ≡ spec.target_in wires.now number }
 {
     match wires.get(number) {
@@ -105,8 +105,8 @@ fn is_before(first: Option<usize>, number: usize) -> bool
 }
 
 // The number of the first connection into each port.
-fn firsts_of(alloc: Global, wires: &[Wire]) -> Result<IndexMap<PortPlace, usize>, AllocError>
-    ensures { IfOk result (λ firsts. (target : PortPlace) → number_of firsts.entries target ≡ inner.first_into wires.now target) }
+fn firsts_of(alloc: Global, wires: &[ConnectionPorts]) -> Result<IndexMap<NumberedPort, usize>, AllocError>
+    ensures { IfOk result (λ firsts. (target : NumberedPort) → number_of firsts.entries target ≡ inner.first_into wires.now target) }
 {
     let mut firsts = IndexMap::new(alloc);
     for (number, wire) in wires.iter().enumerate() {
@@ -117,12 +117,12 @@ fn firsts_of(alloc: Global, wires: &[Wire]) -> Result<IndexMap<PortPlace, usize>
 
 // Adds the number of a connection into a port, unless one goes into it.
 fn add_first(
-    firsts: &mut IndexMap<PortPlace, usize>,
-    target: Option<PortPlace>,
+    firsts: &mut IndexMap<NumberedPort, usize>,
+    target: Option<NumberedPort>,
     number: usize,
 ) -> Result<(), AllocError>
-    ensures { OnOk result ((other : PortPlace)
-        → number_of firsts.new.entries other ≡ option_or (number_of firsts.old.entries other) (if is_site other target then Some number else None)) }
+    ensures { OnOk result ((other : NumberedPort)
+        → number_of firsts.new.entries other ≡ option_or (number_of firsts.old.entries other) (if is_port other target then Some number else None)) }
 {
     match target {
         None => Ok(()),
@@ -131,12 +131,12 @@ fn add_first(
 }
 
 fn add_number(
-    firsts: &mut IndexMap<PortPlace, usize>,
-    target: PortPlace,
+    firsts: &mut IndexMap<NumberedPort, usize>,
+    target: NumberedPort,
     number: usize,
 ) -> Result<(), AllocError>
-    ensures { OnOk result ((other : PortPlace)
-        → number_of firsts.new.entries other ≡ option_or (number_of firsts.old.entries other) (if is_site other (Some target) then Some number else None)) }
+    ensures { OnOk result ((other : NumberedPort)
+        → number_of firsts.new.entries other ≡ option_or (number_of firsts.old.entries other) (if is_port other (Some target) then Some number else None)) }
 {
     if firsts.get(&target).is_none() {
         firsts.insert(target, number)?;

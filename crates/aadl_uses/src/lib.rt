@@ -21,12 +21,12 @@ mod resolved_connections;
 mod thread_locations;
 pub mod uses;
 
-pub use connections_by_target::{Connections, Wire};
+pub use connections_by_target::{Connections, ConnectionPorts};
 pub use containment::Containment;
 pub use containment_order::order;
 pub use cycle_suspects::{leads_back, suspects};
 pub use marked_counts::counts_below;
-pub use package_wires::Wires;
+pub use package_wires::PackageConnections;
 pub use path_weights::{SubcomponentWeights, heaviest_below};
 pub use paths_to_marked::{Paths, paths_below};
 pub use paths_to_threads::thread_paths;

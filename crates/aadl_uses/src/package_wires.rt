@@ -8,47 +8,47 @@ ghost use Rattle.aadl_names.specs.ReferenceResolution.{implementation_at, connec
 ghost use Rattle.aadl_names.specs.PackageFaults as faults;
 ghost use Rattle.aadl_uses.specs.SecondConnections.{IsDuplicate};
 ghost use Rattle.aadl_uses.specs.proof.IncomingConnections.{wires_in};
-ghost use Rattle.aadl_uses.specs.Wiring.{wires_at};
+ghost use Rattle.aadl_uses.specs.Wiring.{connection_ports_at};
 ghost use Rattle.aadl_uses.specs.proof.IncomingConnections as spec;
 
-use crate::connections_by_target::{Connections, Wire};
+use crate::connections_by_target::{Connections, ConnectionPorts};
 use crate::resolved_connections::wiring_of;
 use crate::uses::Uses;
-use aadl_names::PortPlace;
+use aadl_names::NumberedPort;
 use aadl_tree::{Connection, Direction};
 use pals_base::Items;
 use std::alloc::{AllocError, Global};
 
 /// A package with the ports of its implementations, and its connections.
-pub struct Wires<'t> {
+pub struct PackageConnections<'t> {
     /// What the subcomponents of the package name.
     pub uses: Uses<'t>,
     connections: Items<Connections>,
     ghost of_connections: { connections ≡ map (wires_in (placed uses.names.tree.now)) (placed uses.names.tree.now).declarations } by { Prim.hlevel props },
 }
 
-impl Drop for Wires<'_> {
+impl Drop for PackageConnections<'_> {
     fn drop(self) {
-        let Wires {
+        let PackageConnections {
             uses: _,
             connections: _,
         } = self;
     }
 }
 
-impl<'t> Wires<'t> {
+impl<'t> PackageConnections<'t> {
     /// The connections of a package.
-    pub fn of(alloc: Global, uses: Uses<'t>) -> Result<Wires<'t>, AllocError>
+    pub fn of(alloc: Global, uses: Uses<'t>) -> Result<PackageConnections<'t>, AllocError>
         ensures { IfOk result (λ wires. wires.uses.names.tree.now ≡ uses.entry.names.tree.now) }
     {
         let declarations = uses.names.tree.declarations.as_slice();
         let connections = wiring_of(alloc, &uses, declarations)?;
-        Ok(Wires { uses, connections })
+        Ok(PackageConnections { uses, connections })
     }
 
     /// The connections of a declaration, in order.
-    pub fn wires(&self, number: usize) -> &[Wire]
-        ensures { result.now ≡ wires_at (placed self.now.uses.names.tree.now) number }
+    pub fn wires(&self, number: usize) -> &[ConnectionPorts]
+        ensures { result.now ≡ connection_ports_at (placed self.now.uses.names.tree.now) number }
     {
         match self.connections.get(number) {
             Some(connections) => connections.as_slice(),
@@ -68,7 +68,7 @@ impl<'t> Wires<'t> {
     }
 
     /// The first connection of a declaration into a port, and where it comes from.
-    pub fn connection_into(&self, number: usize, target: PortPlace) -> Option<(usize, PortPlace)>
+    pub fn connection_into(&self, number: usize, target: NumberedPort) -> Option<(usize, NumberedPort)>
         ensures { result ≡ spec.connection_into (placed self.now.uses.names.tree.now) number target }
     {
         let wire = self.first_into(number, target)?;
@@ -80,7 +80,7 @@ impl<'t> Wires<'t> {
 
     /// Whether a connection of a declaration goes into a port into which one before it goes.
     pub fn is_second(&self, number: usize, wire: usize) -> bool
-        ensures { IsTrue result ↔ IsDuplicate (wires_at (placed self.now.uses.names.tree.now) number) wire }
+        ensures { IsTrue result ↔ IsDuplicate (connection_ports_at (placed self.now.uses.names.tree.now) number) wire }
     {
         match self.connections.get(number) {
             Some(connections) => connections.is_second(wire),
@@ -89,7 +89,7 @@ impl<'t> Wires<'t> {
     }
 
     // The number of the first connection of a declaration into a port.
-    fn first_into(&self, number: usize, target: PortPlace) -> Option<usize>
+    fn first_into(&self, number: usize, target: NumberedPort) -> Option<usize>
         ensures { result ≡ spec.first_into_at (placed self.now.uses.names.tree.now) number target }
     {
         match self.connections.get(number) {
@@ -120,7 +120,7 @@ pub fn goes_in(direction: Direction) -> bool
     }
 }
 
-fn with_source(number: usize, wire: Wire) -> Option<(usize, PortPlace)>
+fn with_source(number: usize, wire: ConnectionPorts) -> Option<(usize, NumberedPort)>
     ensures { result ≡ spec.with_source number wire }
 {
     match wire.source {

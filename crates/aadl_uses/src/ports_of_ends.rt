@@ -5,12 +5,12 @@ ghost use Rattle.aadl_tree.specs.proof.DeclarationViews.{end_view};
 ghost use Rattle.aadl_tree.specs.proof.PlaceMaps.{kept_place};
 ghost use Rattle.aadl_tree.specs.proof.PackageViews.{placed};
 ghost use Rattle.aadl_tree.specs.Declarations.{Implementation};
-ghost use Rattle.aadl_names.specs.declared.port_place.PortPlace.TheVariants.{Own, Inner};
-ghost use Rattle.aadl_names.specs.ReferenceResolution.{implementation_at, port_named, ports_at, site};
+ghost use Rattle.aadl_names.specs.declared.port_place.NumberedPort.TheVariants.{Own, Inner};
+ghost use Rattle.aadl_names.specs.ReferenceResolution.{implementation_at, port_named, ports_at, end_port};
 ghost use Rattle.aadl_uses.specs.Uses.{below};
 
 use crate::uses::Uses;
-use aadl_names::PortPlace;
+use aadl_names::NumberedPort;
 use aadl_names::type_ports::port_number;
 use aadl_tree::{ConnectionEnd, Identifier};
 use std::alloc::{AllocError, Global};
@@ -21,9 +21,9 @@ pub fn site_of(
     uses: &Uses<'_>,
     number: usize,
     end: &ConnectionEnd,
-) -> Result<Option<PortPlace>, AllocError>
+) -> Result<Option<NumberedPort>, AllocError>
     ensures { IfOk result (λ port. (x : Implementation ℕ) → implementation_at (placed uses.now.names.tree.now) number ≡ Some x
-        → port ≡ site (placed uses.now.names.tree.now) x (end_view kept_place end.now)) }
+        → port ≡ end_port (placed uses.now.names.tree.now) x (end_view kept_place end.now)) }
 {
     let Some(port) = &end.second else {
         return own_port(alloc, uses, number, &end.first);
@@ -43,13 +43,13 @@ fn own_port(
     uses: &Uses<'_>,
     number: usize,
     name: &Identifier,
-) -> Result<Option<PortPlace>, AllocError>
+) -> Result<Option<NumberedPort>, AllocError>
     ensures { IfOk result (λ port. port ≡ option_map Own
         (port_named (ports_at (placed uses.now.names.tree.now) (implementation_at (placed uses.now.names.tree.now) number)) (string_bytes name.now.spelling))) }
 {
     let of_type = uses.type_number(number);
     match port_number(alloc, &uses.names, of_type, name.spelling.as_str())? {
-        Some(port) => Ok(Some(PortPlace::Own(port))),
+        Some(port) => Ok(Some(NumberedPort::Own(port))),
         None => Ok(None),
     }
 }
@@ -61,7 +61,7 @@ fn inner_site(
     number: usize,
     sub: usize,
     name: &Identifier,
-) -> Result<Option<PortPlace>, AllocError>
+) -> Result<Option<NumberedPort>, AllocError>
     ensures { IfOk result (λ port. port ≡ option_map (Inner sub)
         (port_named
         (ports_at (placed uses.now.names.tree.now)
@@ -70,7 +70,7 @@ fn inner_site(
 {
     let of_type = uses.type_below(number, sub);
     match port_number(alloc, &uses.names, of_type, name.spelling.as_str())? {
-        Some(port) => Ok(Some(PortPlace::Inner(sub, port))),
+        Some(port) => Ok(Some(NumberedPort::Inner(sub, port))),
         None => Ok(None),
     }
 }

@@ -8,7 +8,7 @@ ghost use Rattle.aadl_names.specs.ReferenceResolution.{implementation_at};
 ghost use Rattle.aadl_uses.specs.Wiring as spec;
 ghost use Rattle.aadl_uses.specs.proof.IncomingConnections.{wires_in};
 
-use crate::connections_by_target::{Connections, Wire};
+use crate::connections_by_target::{Connections, ConnectionPorts};
 use crate::ports_of_ends::site_of;
 use crate::uses::Uses;
 use aadl_tree::{Connection, Declaration};
@@ -38,7 +38,7 @@ fn wires_of(
     uses: &Uses<'_>,
     number: usize,
     declaration: &Declaration,
-) -> Result<Items<Wire>, AllocError>
+) -> Result<Items<ConnectionPorts>, AllocError>
     requires stands { slice_get (placed uses.now.names.tree.now).declarations number ≡ Some (declaration_view kept_place declaration.now) }
     ensures { IfOk result (λ wires. wires ≡ wires_in (placed uses.now.names.tree.now) (declaration_view kept_place declaration.now)) }
 {
@@ -56,28 +56,28 @@ fn wires_of_each(
     uses: &Uses<'_>,
     number: usize,
     connections: &[Connection],
-) -> Result<Items<Wire>, AllocError>
+) -> Result<Items<ConnectionPorts>, AllocError>
     ensures { IfOk result (λ wires. (x : Implementation ℕ) → implementation_at (placed uses.now.names.tree.now) number ≡ Some x
-        → wires ≡ map (spec.wire_of (placed uses.now.names.tree.now) x) (map (connection_view kept_place) connections.now)) }
+        → wires ≡ map (spec.ports_of_connection (placed uses.now.names.tree.now) x) (map (connection_view kept_place) connections.now)) }
 {
     let mut wires = Items::new(alloc);
     for connection in connections {
-        wires.push(wire_of(alloc, uses, number, connection)?)?;
+        wires.push(ports_of_connection(alloc, uses, number, connection)?)?;
     }
     Ok(wires)
 }
 
 // What a connection joins.
-fn wire_of(
+fn ports_of_connection(
     alloc: Global,
     uses: &Uses<'_>,
     number: usize,
     connection: &Connection,
-) -> Result<Wire, AllocError>
+) -> Result<ConnectionPorts, AllocError>
     ensures { IfOk result (λ wire. (x : Implementation ℕ) → implementation_at (placed uses.now.names.tree.now) number ≡ Some x
-        → wire ≡ spec.wire_of (placed uses.now.names.tree.now) x (connection_view kept_place connection.now)) }
+        → wire ≡ spec.ports_of_connection (placed uses.now.names.tree.now) x (connection_view kept_place connection.now)) }
 {
     let source = site_of(alloc, uses, number, &connection.source)?;
     let target = site_of(alloc, uses, number, &connection.target)?;
-    Ok(Wire { source, target })
+    Ok(ConnectionPorts { source, target })
 }

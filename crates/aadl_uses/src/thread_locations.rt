@@ -31,7 +31,7 @@ pub struct SubAt {
 
 /// The number of the implementation at the end of a path, the outermost subcomponent first.
 pub fn standing(uses: &Uses<'_>, root: usize, path: &[usize]) -> Option<usize>
-    ensures { result ≡ ways.standing (placed uses.now.names.tree.now) root (reverse path.now) }
+    ensures { result ≡ ways.number_at_path (placed uses.now.names.tree.now) root (reverse path.now) }
 {
     let mut here = root;
     for sub in path {
@@ -47,7 +47,7 @@ pub fn thread_at(
     root: usize,
     path: &[usize],
 ) -> Result<ThreadAt, NoMemory>
-    requires { IsSome (ways.standing (placed uses.now.names.tree.now) root (reverse path.now)) }
+    requires { IsSome (ways.number_at_path (placed uses.now.names.tree.now) root (reverse path.now)) }
     ensures { IfOk result (λ thread. thread ≡ spec.thread_at (placed uses.now.names.tree.now) root (reverse path.now)) }
 {
     let mut names = String::new(alloc);
@@ -83,7 +83,7 @@ pub fn threads_at(
     root: usize,
     paths: &[Vec<usize>],
 ) -> Result<Items<ThreadAt>, NoMemory>
-    requires { All (λ path. IsSome (ways.standing (placed uses.now.names.tree.now) root (reverse path.items))) paths.now }
+    requires { All (λ path. IsSome (ways.number_at_path (placed uses.now.names.tree.now) root (reverse path.items))) paths.now }
     ensures { IfOk result (λ threads. threads ≡ map (λ path. spec.thread_at (placed uses.now.names.tree.now) root (reverse path.items)) paths.now) }
 {
     let mut threads = Items::new(alloc);

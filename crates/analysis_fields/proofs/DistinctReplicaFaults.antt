@@ -11,25 +11,25 @@ use Rattle.scenario_values.specs.declared.fault.ScenarioFault.TheVariants.{OutOf
 use Rattle.scenario_values.specs.ResultCombinators.{◌>>=◌, only_if}
 use Rattle.scenario_values.specs.FaultPlaces.{inside}
 use Rattle.analysis_fields.specs.contracts.replica_faults.FaultPlacePartialEq.TheImpl.{ghosts}
-use Rattle.analysis_fields.specs.declared.replica_faults.FaultPlace.{FaultPlace}
+use Rattle.analysis_fields.specs.declared.replica_faults.FaultKey.{FaultKey}
 use Rattle.analysis_fields.specs.declared.replica_faults.RoundFault.{RoundFault}
-use Rattle.analysis_fields.specs.ReplicasAndFaults.{place_of, is_same_place, fault_in, with_fault}
+use Rattle.analysis_fields.specs.ReplicasAndFaults.{key_of, has_same_key, fault_in, with_fault}
 
 -- a place is among those of faults where one of them stands there
-seen : (same : FaultPlace → FaultPlace → Bool)
-    → ((f g : RoundFault) → same (place_of f) (place_of g) ≡ is_same_place f g)
+seen : (same : FaultKey → FaultKey → Bool)
+    → ((f g : RoundFault) → same (key_of f) (key_of g) ≡ has_same_key f g)
     → (f : RoundFault) (fs : List RoundFault)
-    → list_any (same (place_of f)) (map place_of fs) ≡ list_any (is_same_place f) fs
+    → list_any (same (key_of f)) (map key_of fs) ≡ list_any (has_same_key f) fs
 seen same are f [] = refl
 seen same are f (g ∷ gs) = ap₂ (λ a b. a || b) (are f g) (seen same are f gs)
 
-pub is_first : (same : FaultPlace → FaultPlace → Bool)
-    → ((f g : RoundFault) → same (place_of f) (place_of g) ≡ is_same_place f g)
-    → (f : RoundFault) (fs : List RoundFault) (place : FaultPlace) (places : List FaultPlace) (first : Bool)
-    → place ≡ place_of f → places ≡ map place_of fs → first ≡ not (list_any (same place) places)
-    → first ≡ not (list_any (is_same_place f) fs)
+pub is_first : (same : FaultKey → FaultKey → Bool)
+    → ((f g : RoundFault) → same (key_of f) (key_of g) ≡ has_same_key f g)
+    → (f : RoundFault) (fs : List RoundFault) (place : FaultKey) (places : List FaultKey) (first : Bool)
+    → place ≡ key_of f → places ≡ map key_of fs → first ≡ not (list_any (same place) places)
+    → first ≡ not (list_any (has_same_key f) fs)
 is_first same are f fs place places first at keys is =
-    is ∙ ap (λ ks. not (list_any (same place) ks)) keys ∙ ap (λ p. not (list_any (same p) (map place_of fs))) at
+    is ∙ ap (λ ks. not (list_any (same place) ks)) keys ∙ ap (λ p. not (list_any (same p) (map key_of fs))) at
     ∙ ap not (seen same are f fs)
 
 -- ---- equal places
@@ -38,7 +38,7 @@ regroup false b c d = refl
 regroup true false c d = refl
 regroup true true c d = refl
 
-pub same_place : (f g : RoundFault) → ghosts.eq (place_of f) (place_of g) ≡ is_same_place f g
+pub same_place : (f g : RoundFault) → ghosts.eq (key_of f) (key_of g) ≡ has_same_key f g
 same_place f g =
     regroup (nat_eq f.round g.round) (nat_eq f.fault.replica g.fault.replica) (nat_eq f.fault.link.0 g.fault.link.0)
     (nat_eq f.fault.target_replica g.fault.target_replica)
@@ -48,19 +48,19 @@ abbrev fault_place : List RoundFault → List ℕ
 fault_place faults = inside (codes "faults") (decimal (length faults))
 
 pub one_more : (design : DesignParts) (replicas : List NodeNo) (faults : List RoundFault) (d : Data) (f : RoundFault)
-    → fault_in design replicas (fault_place faults) d ≡ Ok f → true ≡ not (list_any (is_same_place f) faults)
+    → fault_in design replicas (fault_place faults) d ≡ Ok f → true ≡ not (list_any (has_same_key f) faults)
     → with_fault design replicas faults d ≡ Ok (faults ++ f ∷ [])
 unfolding with_fault
 one_more design replicas faults d f read first =
-    ap (λ r. r >>= λ g. only_if (not (list_any (is_same_place g) faults)) (OutOfRange (fault_place faults))
+    ap (λ r. r >>= λ g. only_if (not (list_any (has_same_key g) faults)) (OutOfRange (fault_place faults))
     (Ok (faults ++ g ∷ []))) read
     ∙ ap (λ b. only_if b (OutOfRange (fault_place faults)) (Ok (faults ++ f ∷ []))) (sym first)
 
 pub no_more : (design : DesignParts) (replicas : List NodeNo) (faults : List RoundFault) (d : Data) (f : RoundFault)
-    → fault_in design replicas (fault_place faults) d ≡ Ok f → false ≡ not (list_any (is_same_place f) faults)
+    → fault_in design replicas (fault_place faults) d ≡ Ok f → false ≡ not (list_any (has_same_key f) faults)
     → with_fault design replicas faults d ≡ Err (OutOfRange (fault_place faults))
 unfolding with_fault
 no_more design replicas faults d f read seen_before =
-    ap (λ r. r >>= λ g. only_if (not (list_any (is_same_place g) faults)) (OutOfRange (fault_place faults))
+    ap (λ r. r >>= λ g. only_if (not (list_any (has_same_key g) faults)) (OutOfRange (fault_place faults))
     (Ok (faults ++ g ∷ []))) read
     ∙ ap (λ b. only_if b (OutOfRange (fault_place faults)) (Ok (faults ++ f ∷ []))) (sym seen_before)

@@ -31,7 +31,7 @@ use Rattle.analysis_fields.specs.proof.FaultAndProcessorFacts.{IsProcessorOf}
 use Rattle.analysis_fields.specs.declared.limits.TheConstants.{PROCESSORS}
 use Rattle.analysis_fields.specs.declared.processors.Processor.{Processor}
 use Rattle.analysis_fields.specs.Processors.{with_member, with_members, nodes_of, processor_parts, processor_in}
-use Rattle.analysis_fields.specs.Processors.{with_processor, all_placed, nowhere, processors_in}
+use Rattle.analysis_fields.specs.Processors.{with_processor, all_placed, first_unplaced, processors_in}
 
 -- ---- the components of a number, by their places among the owners
 rising_places : (n : ℕ) (owners : List ℕ) → AllPairs (λ (a b : ℕ × ℕ). a.0 < b.0) (enumerate_from n owners)
@@ -218,7 +218,7 @@ unfolding processors_in
 processors_are_valid design d processors e =
     let first : List ℕ × List Processor = (replicate (length design.components) 0, []) in
     let tail : List (List ℕ × Data) → Result (List Processor) ScenarioFault =
-    λ es. through (with_processor design) first es >>= λ placing. all_placed design placing.1 (nowhere placing.0) in
+    λ es. through (with_processor design) first es >>= λ placing. all_placed design placing.1 (first_unplaced placing.0) in
     let es =
     ok_bind (entries (codes "processors") d)
     (λ es. only_if (nat_le 1 (length es) && nat_le (length es) PROCESSORS) (OutOfRange (codes "processors"))
@@ -228,11 +228,11 @@ processors_are_valid design d processors e =
     (tail es.0) processors es.2 in
     let placing =
     ok_bind (through (with_processor design) first es.0)
-    (λ placing. all_placed design placing.1 (nowhere placing.0)) processors passed.1 in
+    (λ placing. all_placed design placing.1 (first_unplaced placing.0)) processors passed.1 in
     let none : ArePlaced design first =
     record { long = grind (arith, common_steps); each = All-nil (IsProcessorOf design) } in
     let kept =
     through_keeps (ArePlaced design) (with_processor design) (placing_keeps design) first es.0 placing.0 none
     placing.1 in
     let P : List Processor → Type 0 = λ ps. All (IsProcessorOf design) ps in
-    subst P (all_placed_keeps design placing.0.1 (nowhere placing.0.0) processors placing.2) kept.each
+    subst P (all_placed_keeps design placing.0.1 (first_unplaced placing.0.0) processors placing.2) kept.each

@@ -26,7 +26,7 @@ use Rattle.analysis_fields.specs.declared.replica_faults.RoundFault.{RoundFault}
 use Rattle.analysis_fields.specs.declared.limits.TheConstants.{REPLICAS}
 use Rattle.analysis_fields.specs.ReplicasAndFaults.{is_among, source_in, copies_at, kind_at, with_fault_value}
 use Rattle.analysis_fields.specs.ReplicasAndFaults.{fault_values, replica_at, link_from, ends_of, fault_behind}
-use Rattle.analysis_fields.specs.ReplicasAndFaults.{fault_of, fault_from, fault_in, is_same_place, with_fault}
+use Rattle.analysis_fields.specs.ReplicasAndFaults.{fault_of, fault_from, fault_in, has_same_key, with_fault}
 use Rattle.analysis_fields.specs.ReplicasAndFaults.{faults_in}
 
 -- ---- values: one for each element
@@ -184,9 +184,9 @@ more_keeps design replicas faults d more keeps e =
     let place = inside (codes "faults") (decimal (length faults)) in
     let read =
     ok_bind (fault_in design replicas place d)
-    (λ f. only_if (not (list_any (is_same_place f) faults)) (OutOfRange place) (Ok (faults ++ f ∷ []))) more e in
+    (λ f. only_if (not (list_any (has_same_key f) faults)) (OutOfRange place) (Ok (faults ++ f ∷ []))) more e in
     let passed =
-    ok_only_if (not (list_any (is_same_place read.0) faults)) (OutOfRange place) (Ok (faults ++ read.0 ∷ []))
+    ok_only_if (not (list_any (has_same_key read.0) faults)) (OutOfRange place) (Ok (faults ++ read.0 ∷ []))
     more read.2 in
     let P : List RoundFault → Type 0 = λ fs. All (IsFaultOf design replicas) fs in
     subst P (ok_same (faults ++ read.0 ∷ []) more passed.1)

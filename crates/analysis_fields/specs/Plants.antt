@@ -54,15 +54,15 @@ abbrev pub is_alone : List NamedPair → Pair → Bool
 is_alone all p = nat_eq (count_by (shares p) all) 1
 
 -- such components, whose plant is linked to the controller alone
-unfoldable pub is_sound : DesignParts → List NamedPair → Pair → Bool
-is_sound design all p = are_equals design p && is_alone all p && list_all (is_between p) design.links
+unfoldable pub is_fusible : DesignParts → List NamedPair → Pair → Bool
+is_fusible design all p = are_equals design p && is_alone all p && list_all (is_between p) design.links
 
 -- one pair; what all entries name is given
 unfoldable pub pair_in : DesignParts → List NamedPair → List ℕ × Data → Result Pair ScenarioFault
 pair_in design all entry =
     let place = inside (codes "plants") entry.0 in
     node_at place design entry.0 >>= λ plant. text place entry.1 >>= λ path. node_at place design path >>= λ controller.
-    only_if (is_sound design all (pair plant controller)) (OutOfRange place) (Ok (pair plant controller))
+    only_if (is_fusible design all (pair plant controller)) (OutOfRange place) (Ok (pair plant controller))
 
 abbrev pub with_pair : DesignParts → List NamedPair → List Pair → List ℕ × Data → Result (List Pair) ScenarioFault
 with_pair design all before entry = pair_in design all entry >>= λ p. Ok (before ++ p ∷ [])

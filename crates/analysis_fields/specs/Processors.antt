@@ -67,12 +67,12 @@ abbrev pub all_placed : DesignParts → List Processor → Option ℕ → Result
 all_placed design processors None = Ok processors
 all_placed design processors (Some node) = Err (Field (inside (codes "processors") (node_word design node)))
 
-abbrev pub nowhere : List ℕ → Option ℕ
-nowhere owners = position (λ owner. nat_eq owner 0) owners
+abbrev pub first_unplaced : List ℕ → Option ℕ
+first_unplaced owners = position (λ owner. nat_eq owner 0) owners
 
 unfoldable pub processors_in : DesignParts → Data → Result (List Processor) ScenarioFault
 processors_in design d =
     entries (codes "processors") d >>= λ es.
     only_if (nat_le 1 (length es) && nat_le (length es) PROCESSORS) (OutOfRange (codes "processors"))
     (through (with_processor design) (replicate (length design.components) 0, []) es >>= λ placing.
-    all_placed design placing.1 (nowhere placing.0))
+    all_placed design placing.1 (first_unplaced placing.0))

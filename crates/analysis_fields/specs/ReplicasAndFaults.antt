@@ -15,7 +15,7 @@ use Rattle.pals_model.specs.PortKinds.{rate_of, out_kind}
 use Rattle.scenario_values.specs.declared.fault.ScenarioFault.{ScenarioFault}
 use Rattle.scenario_values.specs.declared.fault.ScenarioFault.TheVariants.{WrongKind, Unknown, OutOfRange}
 use Rattle.analysis_fields.specs.declared.replica_faults.FaultEnds.{FaultEnds}
-use Rattle.analysis_fields.specs.declared.replica_faults.FaultPlace.{FaultPlace}
+use Rattle.analysis_fields.specs.declared.replica_faults.FaultKey.{FaultKey}
 use Rattle.analysis_fields.specs.declared.replica_faults.RoundFault.{RoundFault}
 use Rattle.analysis_fields.specs.declared.limits.TheConstants.{REPLICAS}
 use Rattle.scenario_values.specs.ResultCombinators.{◌>>=◌, only_if, through}
@@ -125,8 +125,8 @@ unfoldable pub fault_in : DesignParts → List NodeNo → List ℕ → Data → 
 fault_in design replicas place d = elements place d >>= λ ds. fault_from design replicas place ds
 
 -- where a fault stands
-abbrev pub place_of : RoundFault → FaultPlace
-place_of f =
+abbrev pub key_of : RoundFault → FaultKey
+key_of f =
     record {
       round = f.round;
       replica = f.fault.replica;
@@ -135,8 +135,8 @@ place_of f =
     }
 
 -- the same replica, link, replica of the target, and round
-abbrev pub is_same_place : RoundFault → RoundFault → Bool
-is_same_place a b =
+abbrev pub has_same_key : RoundFault → RoundFault → Bool
+has_same_key a b =
     nat_eq a.round b.round && nat_eq a.fault.replica b.fault.replica && nat_eq a.fault.link.0 b.fault.link.0
     && nat_eq a.fault.target_replica b.fault.target_replica
 
@@ -145,7 +145,7 @@ unfoldable pub with_fault : DesignParts → List NodeNo → List RoundFault → 
 with_fault design replicas faults d =
     let place = inside (codes "faults") (decimal (length faults)) in
     fault_in design replicas place d >>= λ f.
-    only_if (not (list_any (is_same_place f) faults)) (OutOfRange place) (Ok (faults ++ f ∷ []))
+    only_if (not (list_any (has_same_key f) faults)) (OutOfRange place) (Ok (faults ++ f ∷ []))
 
 unfoldable pub faults_in : DesignParts → List NodeNo → Data → Result (List RoundFault) ScenarioFault
 faults_in design replicas d = elements (codes "faults") d >>= λ ds. through (with_fault design replicas) [] ds

@@ -6,7 +6,7 @@ ghost use Rattle.scenario_values.specs.ResultCombinators.{Answers};
 ghost use Rattle.scenario_values.specs.FieldValues.{entry_of};
 ghost use Rattle.pals_model.specs.NamesInTexts.{node_named};
 ghost use Rattle.analysis_fields.specs.Plants.{controller_in, named_in, is_number, names_node, shares, is_between};
-ghost use Rattle.analysis_fields.specs.Plants.{are_equals, is_alone, is_sound, pair_in, plants_in};
+ghost use Rattle.analysis_fields.specs.Plants.{are_equals, is_alone, is_fusible, pair_in, plants_in};
 
 use pals_base::{Items, NodeNo};
 use pals_model::{DesignParts, Link};
@@ -122,9 +122,9 @@ fn is_alone(all: &[NamedPair], pair: &Pair) -> bool
 
 // Whether no entry but their own names one of two components of one rate, and the plant is linked
 // to the controller alone.
-#[tactic(auto, unfolding(crate::specs::Plants::is_sound))]
-fn is_sound(design: &DesignParts, all: &[NamedPair], pair: &Pair) -> bool
-    ensures { result ≡ is_sound design.now all.now pair.now }
+#[tactic(auto, unfolding(crate::specs::Plants::is_fusible))]
+fn is_fusible(design: &DesignParts, all: &[NamedPair], pair: &Pair) -> bool
+    ensures { result ≡ is_fusible design.now all.now pair.now }
 {
     are_equals(design, pair)
         && is_alone(all, pair)
@@ -147,7 +147,7 @@ fn read_pair(
     let path = text(alloc, place, value)?;
     let controller = names.node(alloc, place, path)?;
     let pair = Pair { plant, controller };
-    if !is_sound(names.design().parts(), all, &pair) {
+    if !is_fusible(names.design().parts(), all, &pair) {
         return Err(out_of_range(alloc, place));
     }
     Ok(pair)

@@ -7,7 +7,7 @@ ghost use Rattle.scenario_values.specs.ResultCombinators.{Answers, Makes, Shows,
 ghost use Rattle.scenario_values.specs.FaultPlaces.{place_text};
 ghost use Rattle.scenario_values.specs.FieldValues.{entry_of};
 ghost use Rattle.analysis_fields.specs.Processors.{with_member, with_members, nodes_of, is_text, processor_parts};
-ghost use Rattle.analysis_fields.specs.Processors.{processor_in, with_processor, nowhere, processors_in};
+ghost use Rattle.analysis_fields.specs.Processors.{processor_in, with_processor, first_unplaced, processors_in};
 
 use crate::limits::PROCESSORS;
 use pals_base::limits::HOUR;
@@ -183,8 +183,8 @@ fn place_all(
 }
 
 // The first component that stands on no processor.
-fn nowhere(owners: &[usize]) -> Option<usize>
-    ensures { result ≡ nowhere owners.now }
+fn first_unplaced(owners: &[usize]) -> Option<usize>
+    ensures { result ≡ first_unplaced owners.now }
 {
     owners.iter().position(|owner| *owner == 0)
 }
@@ -205,7 +205,7 @@ pub fn read_processors(
     }
     let mut owners = vec![in alloc; 0usize; names.design().components().len()]?;
     let processors = place_all(alloc, names, owners.as_mut_slice(), members)?;
-    match nowhere(owners.as_slice()) {
+    match first_unplaced(owners.as_slice()) {
         None => Ok(processors),
         Some(node) => {
             let path = names.path(node);

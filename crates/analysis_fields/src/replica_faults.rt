@@ -5,7 +5,7 @@ ghost use Rattle.scenario_values.specs.ResultCombinators.{Answers, Shows};
 ghost use Rattle.scenario_values.specs.FaultPlaces.{place_text};
 ghost use Rattle.analysis_fields.specs.ReplicasAndFaults.{source_in, target_in, kind_in, replicas_of, fault_values};
 ghost use Rattle.analysis_fields.specs.ReplicasAndFaults.{replica_at, link_from, ends_of, fault_behind, fault_of};
-ghost use Rattle.analysis_fields.specs.ReplicasAndFaults.{copies_at, kind_at, place_of, fault_in, with_fault};
+ghost use Rattle.analysis_fields.specs.ReplicasAndFaults.{copies_at, kind_at, key_of, fault_in, with_fault};
 ghost use Rattle.analysis_fields.specs.ReplicasAndFaults.{faults_in};
 
 use crate::limits::REPLICAS;
@@ -23,7 +23,7 @@ use std::alloc::Global;
 
 /// Where a replica's fault stands: a round, and whose replica sends to whose on which link.
 #[derive(Clone, Copy, PartialEq, Eq, Hash)]
-pub struct FaultPlace {
+pub struct FaultKey {
     round: u32,
     replica: u32,
     link: u32,
@@ -37,10 +37,10 @@ pub struct RoundFault {
     pub fault: VoteFault,
 }
 
-fn place_of(fault: &RoundFault) -> FaultPlace
-    ensures { result ≡ place_of fault.now }
+fn key_of(fault: &RoundFault) -> FaultKey
+    ensures { result ≡ key_of fault.now }
 {
-    FaultPlace {
+    FaultKey {
         round: fault.round,
         replica: fault.fault.replica,
         link: fault.fault.link.0,
@@ -290,16 +290,16 @@ fn next_fault(
     names: &DesignNames<'_>,
     replicas: &[NodeNo],
     faults: &[RoundFault],
-    places: &mut IndexSet<FaultPlace>,
+    places: &mut IndexSet<FaultKey>,
     value: &Value,
 ) -> Result<RoundFault, ScenarioFault>
-    requires { places.old.keys ≡ map place_of faults.now }
+    requires { places.old.keys ≡ map key_of faults.now }
     ensures value { Shows (λ fault. faults.now ++ fault ∷ []) (with_fault names.now replicas.now faults.now (view value.now)) result }
-    ensures places { IfOk result (λ fault. places.new.keys ≡ map place_of (faults.now ++ fault ∷ [])) }
+    ensures places { IfOk result (λ fault. places.new.keys ≡ map key_of (faults.now ++ fault ∷ [])) }
 {
     let place = Place::Index("faults", faults.len());
     let fault = read_fault(alloc, names, replicas, place, value)?;
-    let first = places.insert(place_of(&fault))?;
+    let first = places.insert(key_of(&fault))?;
     if !first {
         return Err(out_of_range(alloc, place));
     }

@@ -16,7 +16,7 @@ use Rattle.analysis_fields.specs.proof.FaultAndProcessorFacts.{IsFaultOf}
 use Rattle.analysis_fields.specs.ReplicasAndFaults.{is_among}
 use Rattle.triple_vote.specs.OutvotedFaults.{AreOutvoted}
 use Rattle.triple_vote.specs.Replicas.{is_replicated}
-use Rattle.triple_vote.specs.VotedText.{voted_report, thrice}
+use Rattle.triple_vote.specs.VotedText.{voted_report, tripled_report}
 use Rattle.triple_vote.proofs.OutvotedFaultReports.{report_is_thrice, thrice_without_replicas}
 use Rattle.analysis_texts.specs.ReplicasAndRoundFaults.{replicated_in, faults_of}
 use Rattle.analysis_texts.proofs.WellFormedVoteFaults.{faults_keep}
@@ -39,7 +39,7 @@ module _ (design : DesignParts) (env : Env) (replicas : List NodeNo) (faults : L
     (rules : IsDesign design) (keep : All (IsFaultOf design replicas) faults) where
   pub rows_outvoted : AreOutvoted (faults_of faults)
       → voted_report design env (replicated_in design replicas) (faults_of faults) rounds
-      ≡ thrice design env (replicated_in design replicas) rounds
+      ≡ tripled_report design env (replicated_in design replicas) rounds
   rows_outvoted outvoted =
       report_is_thrice design env (replicated_in design replicas) (faults_of faults) rounds rules
       (λ round. faults_keep design replicas faults round keep) outvoted

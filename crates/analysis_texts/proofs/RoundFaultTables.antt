@@ -8,13 +8,13 @@ use Rattle.pals_base.proofs.UpwardNumbers.{get_or-map_upwards}
 use Rattle.pals_runs.specs.declared.vote_faults.VoteFault.{VoteFault}
 use Rattle.analysis_fields.specs.declared.replica_faults.RoundFault.{RoundFault}
 use Rattle.analysis_texts.specs.ReplicasAndRoundFaults.{faults_of}
-use Rattle.analysis_texts.specs.proof.RoundFaultTables.{filed}
+use Rattle.analysis_texts.specs.proof.RoundFaultTables.{with_round_fault}
 use Rattle.analysis_texts.proofs.FaultAndReplicaTables.{faults-more, set_table}
 
 -- one more fault
 pub filed_more : (faults : List RoundFault) (f : RoundFault) (n : ℕ) (table : List (List VoteFault))
     → table ≡ map (faults_of faults) (upwards 0 n)
-    → filed table f ≡ map (faults_of (faults ++ f ∷ [])) (upwards 0 n)
+    → with_round_fault table f ≡ map (faults_of (faults ++ f ∷ [])) (upwards 0 n)
 filed_more faults f n table is =
     let item = slice_index_or table f.round [] ++ f.fault ∷ [] in
     ap (λ (t : List (List VoteFault)). slice_set t f.round item) is

@@ -11,7 +11,7 @@ use Rattle.pals_model.specs.ComponentInputs.{values_at}
 use Rattle.pals_model.specs.RoundTexts.{line_end, text_of, round_line, component_line}
 use Rattle.pals_model.proofs.LineLaws.{text_of-append}
 use Rattle.pals_runs.specs.declared.vote_faults.VoteFault.{VoteFault}
-use Rattle.triple_vote.specs.Replicas.{Voted, is_replicated, copies_of, frame_at, voted_composition, vshown}
+use Rattle.triple_vote.specs.Replicas.{VotedConfiguration, is_replicated, copies_of, frame_at, voted_composition, voted_tap}
 use Rattle.triple_vote.specs.proof.VotedStates.{VotedState, voted_advanced}
 use Rattle.triple_vote.specs.VotedText.{replica_name, shown_line, voted_row, voted_lines, voted_report}
 use Rattle.analysis_texts.specs.proof.ReplicaNamesAndLines.{all_lines}
@@ -47,7 +47,7 @@ row_of_parts design replicated frame shown round t0 t1 t2 t3 first second third 
 
 -- ---- one round further
 pub record HasVoted (design : DesignParts) (env : Env) (replicated : List Bool) (faults : ℕ → List VoteFault)
-    (round : ℕ) (voted : Voted) (text : List ℕ) : Type 0 where
+    (round : ℕ) (voted : VotedConfiguration) (text : List ℕ) : Type 0 where
   pub stands : voted ≡ voted_composition design env replicated faults round
   pub rows : text ≡ voted_report design env replicated faults round
 
@@ -70,7 +70,7 @@ made_from : (design : DesignParts) (env : Env) (replicated : List Bool) (faults 
       shown = old.shown;
     }) (values_at env round) (faults round)
 made_from design env replicated faults round old new h =
-    let state = λ (d : DesignParts) (r : List Bool) (v : Voted).
+    let state = λ (d : DesignParts) (r : List Bool) (v : VotedConfiguration).
     voted_advanced (record { design = d; replicated = r; voted = v; shown = old.shown }) (values_at env round)
     (faults round) in
     h.made ∙ ap (λ d. state d old.replicated old.voted) h.design_is ∙ ap (λ r. state design r old.voted) h.replicated_is
@@ -87,12 +87,12 @@ stands_next design env replicated faults round old new h =
 pub shows_next : (design : DesignParts) (env : Env) (replicated : List Bool) (faults : ℕ → List VoteFault) (round : ℕ)
     (old new : VotedState)
     → MakesRound design env replicated faults round old new
-    → new.shown ≡ map (λ tap. vshown design env replicated faults tap round) new.design.taps
-unfolding vshown
+    → new.shown ≡ map (λ tap. voted_tap design env replicated faults tap round) new.design.taps
+unfolding voted_tap
 shows_next design env replicated faults round old new h =
     let made = made_from design env replicated faults round old new h in
     ap (λ (s : VotedState). s.shown) made
-    ∙ ap (λ (s : VotedState). map (λ tap. vshown design env replicated faults tap round) s.design.taps) (sym made)
+    ∙ ap (λ (s : VotedState). map (λ tap. voted_tap design env replicated faults tap round) s.design.taps) (sym made)
 
 -- and the row of the round behind the text
 pub voted_more : (design : DesignParts) (env : Env) (replicated : List Bool) (faults : ℕ → List VoteFault) (round : ℕ)
@@ -102,10 +102,10 @@ pub voted_more : (design : DesignParts) (env : Env) (replicated : List Bool) (fa
     → longer ≡ text ++ text_of (voted_row new.design new.replicated (frame_at new.voted) shown round))
     → HasVoted design env replicated faults (round + 1) new.voted longer
 voted_more design env replicated faults round old new text longer h rows row =
-    let shown = λ (tap : Tap). vshown design env replicated faults tap round in
+    let shown = λ (tap : Tap). voted_tap design env replicated faults tap round in
     let made = made_from design env replicated faults round old new h in
     let line =
-    λ (d : DesignParts) (r : List Bool) (v : Voted). text ++ text_of (voted_row d r (frame_at v) shown round) in
+    λ (d : DesignParts) (r : List Bool) (v : VotedConfiguration). text ++ text_of (voted_row d r (frame_at v) shown round) in
     record {
       stands =
           stands_next design env replicated faults round old new h

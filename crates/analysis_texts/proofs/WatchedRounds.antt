@@ -13,10 +13,10 @@ use Rattle.pals_model.specs.RoundTexts.{line_end, text_of, round_line}
 use Rattle.pals_runs.specs.Formula.{Formula}
 use Rattle.pals_runs.specs.JournalLines.{spaced}
 use Rattle.analysis_fields.specs.NamedFormulas.{PropertyValue}
-use Rattle.run_monitor.specs.FormulaSemantics.{holds, history}
-use Rattle.run_monitor.specs.WatchText.{names_of, formulas_of, verdict_line, watched_lines, violation_text, last_line}
+use Rattle.run_monitor.specs.FormulaSemantics.{holds, frame_rows}
+use Rattle.run_monitor.specs.WatchText.{names_of, formulas_of, verdict_line, watched_lines, first_false_text, last_line}
 use Rattle.run_monitor.specs.WatchText.{watched_rows, watch_text}
-use Rattle.run_monitor.specs.FalseProperties.{verdicts, violation, is_violated}
+use Rattle.run_monitor.specs.FalseProperties.{formula_values, first_false, is_some_false}
 use Rattle.run_monitor.specs.proof.SeveralMonitors.{MonitorsState, HasWatched}
 use Rattle.run_monitor.specs.declared.false_property.FalseProperty.{FalseProperty}
 use Rattle.run_monitor.proofs.FirstFalseProperty.{violated_is_first, others_hold}
@@ -50,7 +50,7 @@ name_at properties i p within is =
 pub verdict_at : (properties : List PropertyValue) (h : List (List Frame)) (round i : ℕ) (p : PropertyValue) (d : Bool)
     → i < length properties
     → p ≡ slice_index_or properties i p
-    → slice_index_or (verdicts (formulas properties) h round) i d ≡ holds p.form h round
+    → slice_index_or (formula_values (formulas properties) h round) i d ≡ holds p.form h round
 verdict_at properties h round i p d within is =
     ap (λ bits. slice_index_or bits i d) (map-map (λ f. holds f h round) (λ (q : PropertyValue). q.form) properties)
     ∙ get_or-map (λ (q : PropertyValue). holds q.form h round) properties i p d within
@@ -81,7 +81,7 @@ last_words rounds round name =
 -- ---- the violation that is named
 none_or_first : (design : DesignParts) (env : Env) (rounds : ℕ) (fs : List Formula) (found : Option FalseProperty)
     (violated : Bool)
-    → is_violated design env rounds fs ≡ violated → found ≡ violation fs (history design env rounds) rounds
+    → is_some_false design env rounds fs ≡ violated → found ≡ first_false fs (frame_rows design env rounds) rounds
     → (is_some found ≡ violated) × IfSome found (λ v. v.property < length fs)
 none_or_first design env rounds fs found true violated is =
     let first = violated_is_first design env rounds fs violated in
@@ -96,39 +96,39 @@ none_or_first design env rounds fs found false violated is =
 
 -- what monitors found is what the design's rounds have
 pub found_is : (design : DesignParts) (env : Env) (rounds : ℕ) (fs : List Formula) (m : MonitorsState)
-    → HasWatched m fs (history design env rounds)
-    → m.violation ≡ violation fs (history design env rounds) rounds
+    → HasWatched m fs (frame_rows design env rounds)
+    → m.violation ≡ first_false fs (frame_rows design env rounds) rounds
 found_is design env rounds fs m watched =
-    watched.first ∙ ap (violation fs (history design env rounds)) (history_has_rounds design env rounds)
+    watched.first ∙ ap (first_false fs (frame_rows design env rounds)) (history_has_rounds design env rounds)
 
 -- it tells whether some formula is violated
 pub found_tells : (design : DesignParts) (env : Env) (rounds : ℕ) (fs : List Formula) (m : MonitorsState)
-    → HasWatched m fs (history design env rounds)
-    → is_some m.violation ≡ is_violated design env rounds fs
+    → HasWatched m fs (frame_rows design env rounds)
+    → is_some m.violation ≡ is_some_false design env rounds fs
 found_tells design env rounds fs m watched =
-    (none_or_first design env rounds fs m.violation (is_violated design env rounds fs) refl
+    (none_or_first design env rounds fs m.violation (is_some_false design env rounds fs) refl
     (found_is design env rounds fs m watched)).0
 
 -- and names one of these properties
 pub found_within : (design : DesignParts) (env : Env) (rounds : ℕ) (properties : List PropertyValue) (m : MonitorsState)
-    → HasWatched m (formulas properties) (history design env rounds)
+    → HasWatched m (formulas properties) (frame_rows design env rounds)
     → IfSome m.violation (λ v. v.property < length properties)
 found_within design env rounds properties m watched =
     let fs = formulas properties in
     subst (λ n. IfSome m.violation (λ v. v.property < n)) (length-map properties (λ (p : PropertyValue). p.form))
-    (none_or_first design env rounds fs m.violation (is_violated design env rounds fs) refl
+    (none_or_first design env rounds fs m.violation (is_some_false design env rounds fs) refl
     (found_is design env rounds fs m watched)).1
 
 -- ---- all of it
 -- the row of one more round
 pub rows_more : (design : DesignParts) (env : Env) (round : ℕ) (properties : List PropertyValue) (rows : List ℕ)
     → rows ≡ watched_rows design env round (named properties)
-    → rows ++ text_of (watched_lines (named properties) (history design env (round + 1)) round)
+    → rows ++ text_of (watched_lines (named properties) (frame_rows design env (round + 1)) round)
     ≡ watched_rows design env (round + 1) (named properties)
 rows_more design env round properties rows are =
     let all = named properties in
-    ap (λ t. t ++ text_of (watched_lines all (history design env (round + 1)) round)) are
-    ∙ subst (λ n. watched_rows design env round all ++ text_of (watched_lines all (history design env n) round)
+    ap (λ t. t ++ text_of (watched_lines all (frame_rows design env (round + 1)) round)) are
+    ∙ subst (λ n. watched_rows design env round all ++ text_of (watched_lines all (frame_rows design env n) round)
     ≡ watched_rows design env n all)
     (sym (add-one round)) (sym (rows_go_on design env round all))
 
@@ -136,12 +136,12 @@ rows_more design env round properties rows are =
 pub watched_whole : (design : DesignParts) (env : Env) (rounds : ℕ) (properties : List PropertyValue)
     (found : Option FalseProperty) (rows new : List ℕ)
     → rows ≡ watched_rows design env rounds (named properties)
-    → found ≡ violation (formulas properties) (history design env rounds) rounds
-    → new ≡ rows ++ last_line rounds (violation_text (names_of (named properties)) found) ++ line_end
+    → found ≡ first_false (formulas properties) (frame_rows design env rounds) rounds
+    → new ≡ rows ++ last_line rounds (first_false_text (names_of (named properties)) found) ++ line_end
     → new ≡ watch_text design env rounds (named properties)
 watched_whole design env rounds properties found rows new are is added =
     let names = names_of (named properties) in
-    let named_first : found ≡ violation (formulas_of (named properties)) (history design env rounds) rounds =
-    is ∙ ap (λ fs. violation fs (history design env rounds) rounds) (sym (formulas_of-named properties)) in
-    line_behind rows (last_line rounds (violation_text names found)) new added
-    ∙ ap₂ (λ t v. t ++ text_of (last_line rounds (violation_text names v) ∷ [])) are named_first
+    let named_first : found ≡ first_false (formulas_of (named properties)) (frame_rows design env rounds) rounds =
+    is ∙ ap (λ fs. first_false fs (frame_rows design env rounds) rounds) (sym (formulas_of-named properties)) in
+    line_behind rows (last_line rounds (first_false_text names found)) new added
+    ∙ ap₂ (λ t v. t ++ text_of (last_line rounds (first_false_text names v) ∷ [])) are named_first

@@ -2,7 +2,7 @@
 ghost use Rattle.std.specs.Prelude.{◌≡◌, [], map, IfOk, OnOk};
 ghost use Rattle.pals_base.specs.UpwardNumbers.{upwards};
 ghost use Rattle.analysis_texts.specs.ReplicasAndRoundFaults.{faults_of};
-ghost use Rattle.analysis_texts.specs.proof.RoundFaultTables.{filed};
+ghost use Rattle.analysis_texts.specs.proof.RoundFaultTables.{with_round_fault};
 
 use analysis_fields::RoundFault;
 use pals_base::{Items, NoMemory};
@@ -19,7 +19,7 @@ pub fn by_round(
 {
     let mut table = no_faults(alloc, rounds)?;
     for fault in faults.into_vec() {
-        file(&mut table, fault)?;
+        add_round_fault(&mut table, fault)?;
     }
     Ok(table)
 }
@@ -36,8 +36,8 @@ fn no_faults(alloc: Global, rounds: u32) -> Result<Vec<Items<VoteFault>>, NoMemo
 }
 
 // Puts a fault behind those of its round, if there is such a round.
-fn file(table: &mut Vec<Items<VoteFault>>, fault: RoundFault) -> Result<(), NoMemory>
-    ensures { OnOk result (table.new.items ≡ filed table.old.items fault) }
+fn add_round_fault(table: &mut Vec<Items<VoteFault>>, fault: RoundFault) -> Result<(), NoMemory>
+    ensures { OnOk result (table.new.items ≡ with_round_fault table.old.items fault) }
 {
     let RoundFault { round, fault } = fault;
     let at = round as usize;

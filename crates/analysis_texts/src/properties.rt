@@ -5,9 +5,9 @@ ghost use Rattle.pals_model.specs.declared.environment.Env.{Env};
 ghost use Rattle.pals_model.specs.Composition.{comp};
 ghost use Rattle.pals_model.specs.ComponentInputs.{values_at};
 ghost use Rattle.pals_model.specs.RoundTexts.{text_of, line_end};
-ghost use Rattle.run_monitor.specs.FalseProperties.{verdicts, is_violated};
-ghost use Rattle.run_monitor.specs.FormulaSemantics.{history};
-ghost use Rattle.run_monitor.specs.WatchText.{names_of, verdict_line, watched_lines, violation_text, last_line};
+ghost use Rattle.run_monitor.specs.FalseProperties.{formula_values, is_some_false};
+ghost use Rattle.run_monitor.specs.FormulaSemantics.{frame_rows};
+ghost use Rattle.run_monitor.specs.WatchText.{names_of, verdict_line, watched_lines, first_false_text, last_line};
 ghost use Rattle.run_monitor.specs.WatchText.{watch_text};
 ghost use Rattle.pals_runs.specs.Formula.{Formula};
 ghost use Rattle.run_monitor.specs.proof.SeveralMonitors.{said_by, HasWatched, WatchesRound};
@@ -38,7 +38,7 @@ pub fn watch(
     properties: &[Property],
 ) -> Result<Watched, NoMemory>
     ensures text { IfOk result (λ w. w.text.items ≡ watch_text design env.now rounds (named properties.now)) }
-    ensures violated { IfOk result (λ w. w.violated ≡ is_violated design env.now rounds (formulas properties.now)) }
+    ensures violated { IfOk result (λ w. w.violated ≡ is_some_false design env.now rounds (formulas properties.now)) }
 {
     let mut monitors = monitors(alloc, properties)?;
     let mut product = Product::new(alloc, Arc::new(alloc, design)?)?;
@@ -57,7 +57,7 @@ fn watch_rounds(
     requires opening { product.old.configuration ≡ comp product.old.design env.now 0 }
     requires monitors { HasWatched monitors.old (formulas properties.now) [] }
     ensures text { IfOk result (λ w. w.text.items ≡ watch_text product.old.design env.now rounds (named properties.now)) }
-    ensures violated { IfOk result (λ w. w.violated ≡ is_violated product.old.design env.now rounds (formulas properties.now)) }
+    ensures violated { IfOk result (λ w. w.violated ≡ is_some_false product.old.design env.now rounds (formulas properties.now)) }
 {
     let mut values = vec![in alloc; PortValue::Absent; env.lists.len()]?;
     let mut text = Vec::new(alloc);
@@ -95,7 +95,7 @@ fn go_on(
         → OnOk result (product.new.configuration ≡ comp product.old.design env (round + 1)) }
     ensures watches { (env : Env) (fs : List Formula) → values.now ≡ values_at env round
         → product.old.configuration ≡ comp product.old.design env round
-        → HasWatched monitors.old fs (history product.old.design env round)
+        → HasWatched monitors.old fs (frame_rows product.old.design env round)
         → OnOk result (WatchesRound monitors.new product.old.design env fs round) }
 {
     product.advance(values)?;
@@ -110,7 +110,7 @@ fn add_verdicts(
     properties: &[Property],
     monitors: &Monitors,
 ) -> Result<(), NoMemory>
-    ensures { (h : List (List Frame)) → said_by monitors.now ≡ verdicts (formulas properties.now) h round
+    ensures { (h : List (List Frame)) → said_by monitors.now ≡ formula_values (formulas properties.now) h round
         → OnOk result (text.new.items ≡ text.old.items ++ text_of (watched_lines (named properties.now) h round)) }
 {
     add_round(text, round)?;
@@ -140,7 +140,7 @@ fn add_end(
     violation: Option<FalseProperty>,
 ) -> Result<(), NoMemory>
     requires { IfSome violation (λ v. v.property < length properties.now) }
-    ensures { OnOk result (text.new.items ≡ text.old.items ++ last_line rounds (violation_text (names_of (named properties.now)) violation) ++ line_end) }
+    ensures { OnOk result (text.new.items ≡ text.old.items ++ last_line rounds (first_false_text (names_of (named properties.now)) violation) ++ line_end) }
 {
     let watch = LineWord::Bytes(b"watch");
     let of_rounds = LineWord::Bytes(b"rounds");

@@ -10,7 +10,7 @@ ghost use Rattle.analysis_fields.specs.proof.FaultAndProcessorFacts.{IsFaultOf};
 ghost use Rattle.triple_vote.specs.proof.VoteLaws.{IsFault};
 ghost use Rattle.triple_vote.specs.Replicas.{is_replicated, frame_at, voted_opening};
 ghost use Rattle.triple_vote.specs.proof.VotedStates.{voted_begun};
-ghost use Rattle.triple_vote.specs.VotedText.{replica_lines, shown_line, voted_row, voted_report, thrice};
+ghost use Rattle.triple_vote.specs.VotedText.{replica_lines, shown_line, voted_row, voted_report, tripled_report};
 ghost use Rattle.triple_vote.specs.OutvotedFaults.{AreOutvoted};
 ghost use Rattle.analysis_texts.specs.ReplicasAndRoundFaults.{replicated_in, faults_of};
 ghost use Rattle.analysis_texts.specs.proof.ReplicaNamesAndLines.{names_of, all_names, all_lines};
@@ -20,7 +20,7 @@ use crate::replica_names::{replica_names, replicated};
 use analysis_fields::RoundFault;
 use pals_base::{Items, NoMemory, NodeNo, PortValue, Text, Tuple};
 use pals_model::{Component, Design, DesignParts, Env};
-use pals_report::{add_frame, add_round, add_shown};
+use pals_report::{add_frame, add_round, add_tap_tuple};
 use pals_runs::VoteFault;
 use std::alloc::Global;
 use std::sync::Arc;
@@ -43,7 +43,7 @@ pub fn vote(
     ensures rows { IfOk result (λ text. text.items
         ≡ voted_report design env.now (replicated_in design replicas.now) (faults_of faults) rounds) }
     ensures outvoted { IfOk result (λ text. AreOutvoted (faults_of faults)
-        → text.items ≡ thrice design env.now (replicated_in design replicas.now) rounds) }
+        → text.items ≡ tripled_report design env.now (replicated_in design replicas.now) rounds) }
     ensures alone { IfOk result (λ text. replicas.now ≡ [] → text.items ≡ report design env.now rounds) }
 {
     let mut product = product_of(alloc, design, replicas)?;
@@ -169,7 +169,7 @@ fn add_taps(text: &mut Vec<u8>, design: &DesignParts, shown: &[Tuple]) -> Result
 {
     for (number, tap) in design.taps.as_slice().iter().enumerate() {
         let kind = design.out_kind(tap.source, tap.out_port);
-        add_shown(text, kind, tap, shown[number].as_slice())?;
+        add_tap_tuple(text, kind, tap, shown[number].as_slice())?;
     }
     Ok(())
 }

@@ -28,20 +28,20 @@ use Rattle.annex_resolve.specs.declared.violation.TheConstants.{BAD_TYPE, LOOP_T
 use Rattle.annex_resolve.specs.NamesAndFindings.{entry_named, kind_of, may_set, may_send, given_to, with_loop}
 use Rattle.annex_resolve.specs.FindingRecords.{found_if}
 use Rattle.annex_resolve.specs.ExpressionTypesAndFindings.{whole_types, kind_named}
-use Rattle.annex_resolve.specs.ResolvedTrees.{signed, expression_of, action_of, actions_of, mores_of, elsifs_of}
+use Rattle.annex_resolve.specs.ResolvedTrees.{bound_value, expression_of, action_of, actions_of, mores_of, elsifs_of}
 use Rattle.annex_resolve.specs.ResolvedTrees.{otherwise_of, block_of}
-use Rattle.annex_resolve.specs.ActionFindings.{turns, together, is_too_long, is_integer, action_findings}
+use Rattle.annex_resolve.specs.ActionFindings.{turns, turns_with_outer, is_too_long, is_integer, action_findings}
 use Rattle.annex_resolve.specs.ActionFindings.{actions_findings, mores_findings, branch_findings, elsifs_findings}
 use Rattle.annex_resolve.specs.ActionFindings.{otherwise_findings, block_findings}
-use Rattle.annex_resolve.specs.proof.ResolutionResults.{ReadsAction, ReadsActions, ReadsBranch, ReadsBranches}
+use Rattle.annex_resolve.specs.proof.ResolutionResults.{ResolvesAction, ResolvesActions, ResolvesBranch, ResolvesBranches}
 use Rattle.annex_resolve.proofs.ResolvedTermsAndSums.{take_next}
 
 -- ---- a name that is set or sent
 given_by : (scope : Scope) (x : Identifier ℕ) (value : Expression ℕ) (test : Option DeclaredName → Bool)
     (entry : Option DeclaredName) (may : Bool) (act : Act) (b m a : List Violation)
     → entry ≡ entry_named scope x.spelling → may ≡ test entry → m ≡ b ++ found_if (not may) x.at BAD_TYPE []
-    → ReadsAction (given_to (expression_of scope value) entry) (whole_types scope (kind_of entry) value) act m a
-    → ReadsAction (given_to (expression_of scope value) (entry_named scope x.spelling))
+    → ResolvesAction (given_to (expression_of scope value) entry) (whole_types scope (kind_of entry) value) act m a
+    → ResolvesAction (given_to (expression_of scope value) (entry_named scope x.spelling))
     (found_if (not (test (entry_named scope x.spelling))) x.at BAD_TYPE []
     ++ whole_types scope (kind_of (entry_named scope x.spelling)) value) act b a
 given_by scope x value test entry may act b m a known is added reads = record {
@@ -58,9 +58,9 @@ given_by scope x value test entry may act b m a known is added reads = record {
 pub assigned : (scope : Scope) (around : ℕ) (y : Action ℕ) (x : Identifier ℕ) (value : Expression ℕ)
     (entry : Option DeclaredName) (may : Bool) (r : Result Act AllocError) (b m a : List Violation) → y ≡ assign x value
     → entry ≡ entry_named scope x.spelling → may ≡ may_set entry → m ≡ b ++ found_if (not may) x.at BAD_TYPE []
-    → IfOk r (λ act. ReadsAction (given_to (expression_of scope value) entry)
+    → IfOk r (λ act. ResolvesAction (given_to (expression_of scope value) entry)
     (whole_types scope (kind_of entry) value) act m a)
-    → IfOk r (λ act. ReadsAction (action_of scope y) (action_findings scope around y) act b a)
+    → IfOk r (λ act. ResolvesAction (action_of scope y) (action_findings scope around y) act b a)
 unfolding action_of action_findings
 assigned scope around y x value entry may (Ok act) b m a view known is added reads =
     rw view (given_by scope x value may_set entry may act b m a known is added reads)
@@ -69,9 +69,9 @@ assigned scope around y x value entry may (Err e) b m a view known is added read
 pub sent : (scope : Scope) (around : ℕ) (y : Action ℕ) (x : Identifier ℕ) (value : Expression ℕ)
     (entry : Option DeclaredName) (may : Bool) (r : Result Act AllocError) (b m a : List Violation) → y ≡ send x value
     → entry ≡ entry_named scope x.spelling → may ≡ may_send entry → m ≡ b ++ found_if (not may) x.at BAD_TYPE []
-    → IfOk r (λ act. ReadsAction (given_to (expression_of scope value) entry)
+    → IfOk r (λ act. ResolvesAction (given_to (expression_of scope value) entry)
     (whole_types scope (kind_of entry) value) act m a)
-    → IfOk r (λ act. ReadsAction (action_of scope y) (action_findings scope around y) act b a)
+    → IfOk r (λ act. ResolvesAction (action_of scope y) (action_findings scope around y) act b a)
 unfolding action_of action_findings
 sent scope around y x value entry may (Ok act) b m a view known is added reads =
     rw view (given_by scope x value may_send entry may act b m a known is added reads)
@@ -80,8 +80,8 @@ sent scope around y x value entry may (Err e) b m a view known is added reads = 
 -- what stands for the same text
 pub same_action : (scope : Scope) (around : ℕ) (x y : Action ℕ) (r : Result Act AllocError)
     (b a : List Violation) → x ≡ y
-    → IfOk r (λ act. ReadsAction (action_of scope y) (action_findings scope around y) act b a)
-    → IfOk r (λ act. ReadsAction (action_of scope x) (action_findings scope around x) act b a)
+    → IfOk r (λ act. ResolvesAction (action_of scope y) (action_findings scope around y) act b a)
+    → IfOk r (λ act. ResolvesAction (action_of scope x) (action_findings scope around x) act b a)
 same_action scope around x y r b a is reads = rw is reads
 
 -- ---- actions behind each other
@@ -114,9 +114,9 @@ mores_findings-push scope around (y ∷ ys) x =
 
 pub one_action : (scope : Scope) (around : ℕ) (first : Action ℕ) (act : Act) (acts news : List Act)
     (b a : List Violation)
-    → ReadsAction (action_of scope first) (action_findings scope around first) act b a → acts ≡ []
+    → ResolvesAction (action_of scope first) (action_findings scope around first) act b a → acts ≡ []
     → news ≡ acts ++ act ∷ []
-    → ReadsActions (plain.Do (action_of scope first) (mores_of scope (mores_view kept_place [])))
+    → ResolvesActions (plain.Do (action_of scope first) (mores_of scope (mores_view kept_place [])))
     (action_findings scope around first ++ mores_findings scope around (mores_view kept_place [])) news b a
 unfolding mores_of mores_findings
 one_action scope around first act acts news b a reads none pushed = record {
@@ -127,11 +127,11 @@ one_action scope around first act acts news b a reads none pushed = record {
 pub next_action : (scope : Scope) (around : ℕ) (first : Action ℕ) (xs : List source_action.Action) (i : ℕ)
     (x : source_action.Action) (act : Act) (acts news : List Act) (b m a : List Violation)
     → i < length xs → x ≡ get_or xs i x
-    → ReadsActions (plain.Do (action_of scope first) (mores_of scope (mores_view kept_place (take i xs))))
+    → ResolvesActions (plain.Do (action_of scope first) (mores_of scope (mores_view kept_place (take i xs))))
     (action_findings scope around first ++ mores_findings scope around (mores_view kept_place (take i xs))) acts b m
-    → ReadsAction (action_of scope (action_view kept_place x)) (action_findings scope around (action_view kept_place x))
+    → ResolvesAction (action_of scope (action_view kept_place x)) (action_findings scope around (action_view kept_place x))
     act m a → news ≡ acts ++ act ∷ []
-    → ReadsActions (plain.Do (action_of scope first) (mores_of scope (mores_view kept_place (take (i + 1) xs))))
+    → ResolvesActions (plain.Do (action_of scope first) (mores_of scope (mores_view kept_place (take (i + 1) xs))))
     (action_findings scope around first
     ++ mores_findings scope around (mores_view kept_place (take (i + 1) xs))) news b a
 next_action scope around first xs i x act acts news b m a within is before reads pushed =
@@ -156,9 +156,9 @@ next_action scope around first xs i x act acts news b m a within is before reads
 
 pub all_actions : (scope : Scope) (around : ℕ) (y : Actions ℕ) (first : Action ℕ) (xs : List source_action.Action)
     (acts : List Act) (b a : List Violation) → y ≡ actions first (mores_view kept_place xs)
-    → ReadsActions (plain.Do (action_of scope first) (mores_of scope (mores_view kept_place xs)))
+    → ResolvesActions (plain.Do (action_of scope first) (mores_of scope (mores_view kept_place xs)))
     (action_findings scope around first ++ mores_findings scope around (mores_view kept_place xs)) acts b a
-    → ReadsActions (actions_of scope y) (actions_findings scope around y) acts b a
+    → ResolvesActions (actions_of scope y) (actions_findings scope around y) acts b a
 unfolding actions_of actions_findings
 all_actions scope around y first xs acts b a view reads = rw view reads
 
@@ -166,30 +166,30 @@ all_actions scope around y first xs acts b a view reads = rw view reads
 pub no_actions : (scope : Scope) (around : ℕ) (o : Option (Box source_actions.Actions Global)) (acts : List Act)
     (b : List Violation) → o ≡ None → acts ≡ []
     → let x = listed_block (option_map (λ b. actions_view kept_place b.value) o) in
-    ReadsActions (block_of scope x) (block_findings scope around x) acts b b
+    ResolvesActions (block_of scope x) (block_findings scope around x) acts b b
 unfolding block_of block_findings
 no_actions scope around None acts b is none = record { tree_is = ap actions_along none; found = sym (append-nil b) }
 no_actions scope around (Some y) acts b is none = absurd (cc is)
 
 pub some_actions : (scope : Scope) (around : ℕ) (o : Option (Box source_actions.Actions Global))
     (y : Box source_actions.Actions Global) (r : Result (Vec Act Global) AllocError) (b a : List Violation) → o ≡ Some y
-    → IfOk r (λ acts. ReadsActions (actions_of scope (actions_view kept_place y.value))
+    → IfOk r (λ acts. ResolvesActions (actions_of scope (actions_view kept_place y.value))
     (actions_findings scope around (actions_view kept_place y.value)) acts.items b a)
     → let x = listed_block (option_map (λ b. actions_view kept_place b.value) o) in
-    IfOk r (λ acts. ReadsActions (block_of scope x) (block_findings scope around x) acts.items b a)
+    IfOk r (λ acts. ResolvesActions (block_of scope x) (block_findings scope around x) acts.items b a)
 unfolding block_of block_findings
 some_actions scope around o y (Ok acts) b a is reads = rw is reads
 some_actions scope around o y (Err e) b a is reads = tt
 
 pub same_block : (scope : Scope) (around : ℕ) (x y : Block ℕ) (r : Result (Vec Act Global) AllocError)
     (b a : List Violation) → x ≡ y
-    → IfOk r (λ acts. ReadsActions (block_of scope y) (block_findings scope around y) acts.items b a)
-    → IfOk r (λ acts. ReadsActions (block_of scope x) (block_findings scope around x) acts.items b a)
+    → IfOk r (λ acts. ResolvesActions (block_of scope y) (block_findings scope around y) acts.items b a)
+    → IfOk r (λ acts. ResolvesActions (block_of scope x) (block_findings scope around x) acts.items b a)
 same_block scope around x y r b a is reads = rw is reads
 
 as_otherwise : (scope : Scope) (around : ℕ) (o : Option (Actions ℕ)) (acts : List Act) (b a : List Violation)
-    → ReadsActions (block_of scope (listed_block o)) (block_findings scope around (listed_block o)) acts b a
-    → ReadsActions (otherwise_of scope (listed_otherwise o))
+    → ResolvesActions (block_of scope (listed_block o)) (block_findings scope around (listed_block o)) acts b a
+    → ResolvesActions (otherwise_of scope (listed_otherwise o))
     (otherwise_findings scope around (listed_otherwise o)) acts b a
 unfolding block_of otherwise_of block_findings otherwise_findings
 as_otherwise scope around None acts b a reads = reads
@@ -233,8 +233,8 @@ elsifs_findings-push scope around (y ∷ ys) x =
 pub branch_read : (scope : Scope) (around : ℕ) (e : Expression ℕ) (xs : Actions ℕ) (branch : Branch)
     (types : List Violation) (b m a : List Violation)
     → tree_of branch.guard ≡ expression_of scope e → m ≡ b ++ types
-    → ReadsActions (actions_of scope xs) (actions_findings scope around xs) branch.acts.items m a
-    → ReadsBranch (expression_of scope e) (actions_of scope xs) (types ++ actions_findings scope around xs) branch b a
+    → ResolvesActions (actions_of scope xs) (actions_findings scope around xs) branch.acts.items m a
+    → ResolvesBranch (expression_of scope e) (actions_of scope xs) (types ++ actions_findings scope around xs) branch b a
 branch_read scope around e xs branch types b m a guard typed reads = record {
   guard_is = guard;
   actions_are = reads.tree_is;
@@ -245,9 +245,9 @@ branch_read scope around e xs branch types b m a guard typed reads = record {
 
 pub one_branch : (scope : Scope) (around : ℕ) (e : Expression ℕ) (xs : Actions ℕ) (branch : Branch)
     (branches news : List Branch) (b a : List Violation)
-    → ReadsBranch (expression_of scope e) (actions_of scope xs) (branch_findings scope around e xs) branch b a
+    → ResolvesBranch (expression_of scope e) (actions_of scope xs) (branch_findings scope around e xs) branch b a
     → branches ≡ [] → news ≡ branches ++ branch ∷ []
-    → ReadsBranches (plain.Where (expression_of scope e) (actions_of scope xs)
+    → ResolvesBranches (plain.Where (expression_of scope e) (actions_of scope xs)
     (elsifs_of scope (elsifs_view kept_place [])))
     (branch_findings scope around e xs ++ elsifs_findings scope around (elsifs_view kept_place [])) news b a
 unfolding elsifs_of elsifs_findings
@@ -262,14 +262,14 @@ one_branch scope around e xs branch branches news b a reads none pushed = record
 pub next_branch : (scope : Scope) (around : ℕ) (e : Expression ℕ) (xs : Actions ℕ) (es : List source_elsif.Elsif)
     (i : ℕ) (x : source_elsif.Elsif) (branch : Branch) (branches news : List Branch) (b m a : List Violation)
     → i < length es → x ≡ get_or es i x
-    → ReadsBranches (plain.Where (expression_of scope e) (actions_of scope xs)
+    → ResolvesBranches (plain.Where (expression_of scope e) (actions_of scope xs)
     (elsifs_of scope (elsifs_view kept_place (take i es))))
     (branch_findings scope around e xs ++ elsifs_findings scope around (elsifs_view kept_place (take i es)))
     branches b m
-    → ReadsBranch (expression_of scope (expression_view kept_place x.test))
+    → ResolvesBranch (expression_of scope (expression_view kept_place x.test))
     (actions_of scope (actions_view kept_place x.actions)) (elsif_findings scope around x) branch m a
     → news ≡ branches ++ branch ∷ []
-    → ReadsBranches (plain.Where (expression_of scope e) (actions_of scope xs)
+    → ResolvesBranches (plain.Where (expression_of scope e) (actions_of scope xs)
     (elsifs_of scope (elsifs_view kept_place (take (i + 1) es))))
     (branch_findings scope around e xs
     ++ elsifs_findings scope around (elsifs_view kept_place (take (i + 1) es))) news b a
@@ -303,13 +303,13 @@ pub chosen : (scope : Scope) (around : ℕ) (y : Action ℕ) (e : Expression ℕ
     (acts : List Act) (b m a : List Violation)
     → y ≡ choose e xs (elsifs_view kept_place es)
     (listed_otherwise (option_map (λ b. actions_view kept_place b.value) o))
-    → ReadsBranches (plain.Where (expression_of scope e) (actions_of scope xs)
+    → ResolvesBranches (plain.Where (expression_of scope e) (actions_of scope xs)
     (elsifs_of scope (elsifs_view kept_place es)))
     (branch_findings scope around e xs ++ elsifs_findings scope around (elsifs_view kept_place es)) branches b m
     → (let x = listed_block (option_map (λ b. actions_view kept_place b.value) o) in
-    ReadsActions (block_of scope x) (block_findings scope around x) acts m a)
+    ResolvesActions (block_of scope x) (block_findings scope around x) acts m a)
     → act_tree act ≡ plain.If (branches_along branches) (actions_along acts)
-    → ReadsAction (action_of scope y) (action_findings scope around y) act b a
+    → ResolvesAction (action_of scope y) (action_findings scope around y) act b a
 unfolding action_of action_findings
 chosen scope around y e xs es o act branches acts b m a view reads others is =
     let rest = as_otherwise scope around (option_map (λ b. actions_view kept_place b.value) o) acts m a others in
@@ -327,21 +327,21 @@ chosen scope around y e xs es o act branches acts b m a view reads others is =
 pub looped : (scope : Scope) (around : ℕ) (y : Action ℕ) (at : ℕ) (x : Identifier ℕ) (type : Reference ℕ)
     (low high : Bound) (body : Block ℕ) (l h : ℤ) (kind : Option Kind) (right long : Bool) (count all : ℕ)
     (inner : Scope) (act : Act) (acts : List Act) (b m1 m2 a : List Violation)
-    → y ≡ loop at x type low high body → l ≡ signed low → h ≡ signed high → count ≡ base.turns l h
+    → y ≡ loop at x type low high body → l ≡ bound_value low → h ≡ bound_value high → count ≡ base.turns l h
     → kind ≡ kind_named type → right ≡ is_integer kind → m1 ≡ b ++ found_if (not right) at BAD_TYPE []
     → long ≡ is_too_long around count → m2 ≡ m1 ++ found_if long at LOOP_TOO_LONG [] → inner ≡ with_loop scope x
-    → all ≡ together around count
-    → ReadsActions (block_of inner body) (block_findings inner all body) acts m2 a
+    → all ≡ turns_with_outer around count
+    → ResolvesActions (block_of inner body) (block_findings inner all body) acts m2 a
     → act_tree act ≡ plain.For l h (actions_along acts)
-    → ReadsAction (action_of scope y) (action_findings scope around y) act b a
+    → ResolvesAction (action_of scope y) (action_findings scope around y) act b a
 unfolding action_of action_findings
 looped scope around y at x type low high body l h kind right long count all inner act acts b m1 m2 a view low_is high_is
     count_is kind_is right_is typed long_is limited inner_is all_is reads is =
     let turns_are : count ≡ turns low high = count_is ∙ ap (λ z. base.turns z h) low_is
-    ∙ ap (base.turns (signed low)) high_is in
+    ∙ ap (base.turns (bound_value low)) high_is in
     let fs = found_if (not (is_integer (kind_named type))) at BAD_TYPE [] in
     let gs = found_if (is_too_long around (turns low high)) at LOOP_TOO_LONG [] in
-    let hs = block_findings (with_loop scope x) (together around (turns low high)) body in
+    let hs = block_findings (with_loop scope x) (turns_with_outer around (turns low high)) body in
     let first : m1 ≡ b ++ fs = typed
     ∙ ap (λ k. b ++ found_if (not k) at BAD_TYPE []) (right_is ∙ ap is_integer kind_is) in
     let second : m2 ≡ (b ++ fs) ++ gs = limited ∙ ap (λ z. z ++ found_if long at LOOP_TOO_LONG []) first
@@ -349,12 +349,12 @@ looped scope around y at x type low high body l h kind right long count all inne
     rw view (record {
       tree_is =
           is ∙ ap (λ z. plain.For z h (actions_along acts)) low_is
-          ∙ ap (λ z. plain.For (signed low) z (actions_along acts)) high_is
-          ∙ ap (plain.For (signed low) (signed high)) (reads.tree_is ∙ ap (λ s. block_of s body) inner_is);
+          ∙ ap (λ z. plain.For (bound_value low) z (actions_along acts)) high_is
+          ∙ ap (plain.For (bound_value low) (bound_value high)) (reads.tree_is ∙ ap (λ s. block_of s body) inner_is);
       found =
           reads.found ∙ ap (λ z. z ++ block_findings inner all body) second
           ∙ ap (λ s. ((b ++ fs) ++ gs) ++ block_findings s all body) inner_is
           ∙ ap (λ n. ((b ++ fs) ++ gs) ++ block_findings (with_loop scope x) n body)
-          (all_is ∙ ap (together around) turns_are)
+          (all_is ∙ ap (turns_with_outer around) turns_are)
           ∙ ap (λ z. z ++ hs) (append_assoc b fs gs) ∙ append_assoc b (fs ++ gs) hs;
     })

@@ -43,7 +43,7 @@ use Rattle.annex_resolve.specs.ResolvedTrees.{relations_of, expression_of}
 use Rattle.annex_resolve.specs.NamesAndFindings.{entry_named, read_of, or_zero}
 use Rattle.annex_resolve.specs.FindingRecords.{finding, found_if}
 use Rattle.annex_resolve.specs.declared.violation.TheConstants.{BAD_TYPE}
-use Rattle.annex_resolve.specs.proof.ResolutionResults.{Reads, ReadsOperands}
+use Rattle.annex_resolve.specs.proof.ResolutionResults.{Resolves, ResolvesOperands}
 use Rattle.annex_resolve.proofs.ResolvedTermsAndSums.{put_last, take_next, one_more, several, factors-push}
 use Rattle.annex_resolve.proofs.ResolvedTermsAndSums.{factors_types-push, terms-push, terms_types-push, three}
 
@@ -83,9 +83,9 @@ relations_types-push scope (y ∷ ys) x =
 
 pub expression_alone : (scope : Scope) (first : Relation ℕ) (rest : List (LogicOperator × source_relation.Relation))
     (t : Typed) (b a : List Violation) → length rest ≡ 0
-    → Reads (relation_of scope first) (relation_kind scope first) (relation_types scope first) t b a
+    → Resolves (relation_of scope first) (relation_kind scope first) (relation_types scope first) t b a
     → let x = expression first (relations_view kept_place rest) in
-    Reads (expression_of scope x) (expression_kind scope x) (expression_types scope x) t b a
+    Resolves (expression_of scope x) (expression_kind scope x) (expression_types scope x) t b a
 unfolding expression_of expression_kind expression_types
 expression_alone scope first [] t b a none reads =
     record { tree_is = reads.tree_is; kind_is = reads.kind_is; found = reads.found }
@@ -93,13 +93,13 @@ expression_alone scope first (x ∷ xs) t b a none reads = absurd (omega (arith,
 
 pub expression_several : (scope : Scope) (first : Relation ℕ) (rest : List (LogicOperator × source_relation.Relation))
     (at : ℕ) (t : Typed) (ops : List Operand) (e : Expr) (b m1 m2 a : List Violation) → (length rest ≡ 0 → ⊥)
-    → Reads (relation_of scope first) (relation_kind scope first) (relation_types scope first) t b m1
+    → Resolves (relation_of scope first) (relation_kind scope first) (relation_types scope first) t b m1
     → at ≡ relation_at first → m2 ≡ m1 ++ misfit at (Some Boolean) t.kind
-    → ReadsOperands (relations_of scope (relations_view kept_place rest))
+    → ResolvesOperands (relations_of scope (relations_view kept_place rest))
     (relations_types scope (relations_view kept_place rest)) ops m2 a
     → tree_of e ≡ chained (tree_of t.expr) (operands_along ops)
     → let x = expression first (relations_view kept_place rest) in
-    Reads (expression_of scope x) (expression_kind scope x) (expression_types scope x)
+    Resolves (expression_of scope x) (expression_kind scope x) (expression_types scope x)
     (record { expr = e; kind = Some Boolean }) b a
 unfolding expression_of expression_kind expression_types
 expression_several scope first [] at t ops e b m1 m2 a some reads here found behind is = absurd (some refl)
@@ -111,21 +111,21 @@ expression_several scope first (x ∷ xs) at t ops e b m1 m2 a some reads here f
 
 pub relation_compared : (scope : Scope) (x y : Sum ℕ) (o : RelationOperator) (at to : ℕ) (l r : Typed)
     (e : Result Typed AllocError) (b m1 m2 a : List Violation)
-    → Reads (sum_of scope x) (total_kind scope x) (sum_types scope x) l b m1
-    → Reads (sum_of scope y) (total_kind scope y) (sum_types scope y) r m1 m2
+    → Resolves (sum_of scope x) (total_kind scope x) (sum_types scope x) l b m1
+    → Resolves (sum_of scope y) (total_kind scope y) (sum_types scope y) r m1 m2
     → at ≡ sum_at x → to ≡ sum_at y → a ≡ m2 ++ sides_misfit o at to l.kind r.kind
     → IfOk e (λ t. tree_of t.expr
     ≡ plain.Chain (tree_of l.expr) (plain.Then (relation_op o) (tree_of r.expr) plain.NoMore))
     → IfOk e (λ t. t.kind ≡ Some Boolean)
     → let z = compared x o y in
-    IfOk e (λ t. Reads (relation_of scope z) (relation_kind scope z) (relation_types scope z) t b a)
+    IfOk e (λ t. Resolves (relation_of scope z) (relation_kind scope z) (relation_types scope z) t b a)
 relation_compared scope x y o at to l r (Ok e) b m1 m2 a left right here there found is kind =
     relation_both scope x y o at to l r e b m1 m2 a left right here there found is kind
 relation_compared scope x y o at to l r (Err e) b m1 m2 a left right here there found is kind = tt
 
 -- ---- lists of operands, one after the other
 pub factors_none : (scope : Scope) (ops : List Operand) (b : List Violation) → ops ≡ []
-    → ReadsOperands (factors_of scope (factors_view kept_place []))
+    → ResolvesOperands (factors_of scope (factors_view kept_place []))
     (factors_types scope (factors_view kept_place [])) ops b b
 unfolding factors_of factors_types
 factors_none scope ops b none = record { tree_is = ap operands_along none; found = sym (append-nil b) }
@@ -134,13 +134,13 @@ pub factors_next : (scope : Scope) (xs : List (MultiplyOperator × source_factor
     (x : MultiplyOperator × source_factor.Factor) (op : Op) (at : ℕ) (t : Typed) (ops news : List Operand)
     (b m0 m1 m2 : List Violation)
     → i < length xs → x ≡ get_or xs i x
-    → ReadsOperands (factors_of scope (factors_view kept_place (take i xs)))
+    → ResolvesOperands (factors_of scope (factors_view kept_place (take i xs)))
     (factors_types scope (factors_view kept_place (take i xs))) ops b m0
-    → Reads (factor_of scope (factor_view kept_place x.1)) (factor_kind scope (factor_view kept_place x.1))
+    → Resolves (factor_of scope (factor_view kept_place x.1)) (factor_kind scope (factor_view kept_place x.1))
     (factor_types scope (factor_view kept_place x.1)) t m0 m1
     → at ≡ factor_at (factor_view kept_place x.1) → m2 ≡ m1 ++ misfit at (Some Integer) t.kind → op ≡ multiply_op x.0
     → news ≡ ops ++ record { op = op; right = t.expr } ∷ []
-    → ReadsOperands (factors_of scope (factors_view kept_place (take (i + 1) xs)))
+    → ResolvesOperands (factors_of scope (factors_view kept_place (take (i + 1) xs)))
     (factors_types scope (factors_view kept_place (take (i + 1) xs))) news b m2
 factors_next scope xs i x op at t ops news b m0 m1 m2 within is before reads here found same pushed =
     one_more (factors_of scope (factors_view kept_place (take i xs)))
@@ -160,8 +160,8 @@ factors_next scope xs i x op at t ops news b m0 m1 m2 within is before reads her
 
 pub of_factors : (scope : Scope) (xs ys : List (MultiplyOperator × source_factor.Factor)) (ops : List Operand)
     (b a : List Violation) → xs ≡ ys
-    → ReadsOperands (factors_of scope (factors_view kept_place xs)) (factors_types scope (factors_view kept_place xs))
-    ops b a → ReadsOperands (factors_of scope (factors_view kept_place ys))
+    → ResolvesOperands (factors_of scope (factors_view kept_place xs)) (factors_types scope (factors_view kept_place xs))
+    ops b a → ResolvesOperands (factors_of scope (factors_view kept_place ys))
     (factors_types scope (factors_view kept_place ys)) ops b a
 of_factors scope xs ys ops b a same reads =
     record {
@@ -170,20 +170,20 @@ of_factors scope xs ys ops b a same reads =
     }
 
 pub terms_none : (scope : Scope) (ops : List Operand) (b : List Violation) → ops ≡ []
-    → ReadsOperands (terms_of scope (terms_view kept_place [])) (terms_types scope (terms_view kept_place [])) ops b b
+    → ResolvesOperands (terms_of scope (terms_view kept_place [])) (terms_types scope (terms_view kept_place [])) ops b b
 unfolding terms_of terms_types
 terms_none scope ops b none = record { tree_is = ap operands_along none; found = sym (append-nil b) }
 
 pub terms_next : (scope : Scope) (xs : List (Sign × source_term.Term)) (i : ℕ) (x : Sign × source_term.Term) (op : Op)
     (at : ℕ) (t : Typed) (ops news : List Operand) (b m0 m1 m2 : List Violation)
     → i < length xs → x ≡ get_or xs i x
-    → ReadsOperands (terms_of scope (terms_view kept_place (take i xs)))
+    → ResolvesOperands (terms_of scope (terms_view kept_place (take i xs)))
     (terms_types scope (terms_view kept_place (take i xs))) ops b m0
-    → Reads (term_of scope (term_view kept_place x.1)) (term_kind scope (term_view kept_place x.1))
+    → Resolves (term_of scope (term_view kept_place x.1)) (term_kind scope (term_view kept_place x.1))
     (term_types scope (term_view kept_place x.1)) t m0 m1
     → at ≡ term_at (term_view kept_place x.1) → m2 ≡ m1 ++ misfit at (Some Integer) t.kind → op ≡ sign_op x.0
     → news ≡ ops ++ record { op = op; right = t.expr } ∷ []
-    → ReadsOperands (terms_of scope (terms_view kept_place (take (i + 1) xs)))
+    → ResolvesOperands (terms_of scope (terms_view kept_place (take (i + 1) xs)))
     (terms_types scope (terms_view kept_place (take (i + 1) xs))) news b m2
 terms_next scope xs i x op at t ops news b m0 m1 m2 within is before reads here found same pushed =
     one_more (terms_of scope (terms_view kept_place (take i xs)))
@@ -202,8 +202,8 @@ terms_next scope xs i x op at t ops news b m0 m1 m2 within is before reads here 
 
 pub of_terms : (scope : Scope) (xs ys : List (Sign × source_term.Term)) (ops : List Operand)
     (b a : List Violation) → xs ≡ ys
-    → ReadsOperands (terms_of scope (terms_view kept_place xs)) (terms_types scope (terms_view kept_place xs)) ops b a
-    → ReadsOperands (terms_of scope (terms_view kept_place ys))
+    → ResolvesOperands (terms_of scope (terms_view kept_place xs)) (terms_types scope (terms_view kept_place xs)) ops b a
+    → ResolvesOperands (terms_of scope (terms_view kept_place ys))
     (terms_types scope (terms_view kept_place ys)) ops b a
 of_terms scope xs ys ops b a same reads =
     record {
@@ -212,7 +212,7 @@ of_terms scope xs ys ops b a same reads =
     }
 
 pub relations_none : (scope : Scope) (ops : List Operand) (b : List Violation) → ops ≡ []
-    → ReadsOperands (relations_of scope (relations_view kept_place []))
+    → ResolvesOperands (relations_of scope (relations_view kept_place []))
     (relations_types scope (relations_view kept_place [])) ops b b
 unfolding relations_of relations_types
 relations_none scope ops b none = record { tree_is = ap operands_along none; found = sym (append-nil b) }
@@ -221,13 +221,13 @@ pub relations_next : (scope : Scope) (xs : List (LogicOperator × source_relatio
     (x : LogicOperator × source_relation.Relation) (op : Op) (at : ℕ) (t : Typed) (ops news : List Operand)
     (b m0 m1 m2 : List Violation)
     → i < length xs → x ≡ get_or xs i x
-    → ReadsOperands (relations_of scope (relations_view kept_place (take i xs)))
+    → ResolvesOperands (relations_of scope (relations_view kept_place (take i xs)))
     (relations_types scope (relations_view kept_place (take i xs))) ops b m0
-    → Reads (relation_of scope (relation_view kept_place x.1)) (relation_kind scope (relation_view kept_place x.1))
+    → Resolves (relation_of scope (relation_view kept_place x.1)) (relation_kind scope (relation_view kept_place x.1))
     (relation_types scope (relation_view kept_place x.1)) t m0 m1
     → at ≡ relation_at (relation_view kept_place x.1) → m2 ≡ m1 ++ misfit at (Some Boolean) t.kind → op ≡ logic_op x.0
     → news ≡ ops ++ record { op = op; right = t.expr } ∷ []
-    → ReadsOperands (relations_of scope (relations_view kept_place (take (i + 1) xs)))
+    → ResolvesOperands (relations_of scope (relations_view kept_place (take (i + 1) xs)))
     (relations_types scope (relations_view kept_place (take (i + 1) xs))) news b m2
 relations_next scope xs i x op at t ops news b m0 m1 m2 within is before reads here found same pushed =
     one_more (relations_of scope (relations_view kept_place (take i xs)))
@@ -247,9 +247,9 @@ relations_next scope xs i x op at t ops news b m0 m1 m2 within is before reads h
 
 pub of_relations : (scope : Scope) (xs ys : List (LogicOperator × source_relation.Relation)) (ops : List Operand)
     (b a : List Violation) → xs ≡ ys
-    → ReadsOperands (relations_of scope (relations_view kept_place xs))
+    → ResolvesOperands (relations_of scope (relations_view kept_place xs))
     (relations_types scope (relations_view kept_place xs)) ops b a
-    → ReadsOperands (relations_of scope (relations_view kept_place ys))
+    → ResolvesOperands (relations_of scope (relations_view kept_place ys))
     (relations_types scope (relations_view kept_place ys)) ops b a
 of_relations scope xs ys ops b a same reads =
     record {
@@ -260,10 +260,10 @@ of_relations scope xs ys ops b a same reads =
 -- ---- a factor
 pub factor_absolute : (scope : Scope) (at : ℕ) (x : Primary ℕ) (place : ℕ) (t : Typed) (boxed : Box Expr Global)
     (b m a : List Violation)
-    → Reads (primary_of scope x) (primary_kind scope x) (primary_types scope x) t b m → place ≡ primary_at x
+    → Resolves (primary_of scope x) (primary_kind scope x) (primary_types scope x) t b m → place ≡ primary_at x
     → a ≡ m ++ misfit place (Some Integer) t.kind → boxed.value ≡ t.expr
     → let f = absolute at x in
-    Reads (factor_of scope f) (factor_kind scope f) (factor_types scope f)
+    Resolves (factor_of scope f) (factor_kind scope f) (factor_types scope f)
     (record { expr = expr.Abs boxed; kind = Some Integer }) b a
 unfolding factor_of factor_kind factor_types
 factor_absolute scope at x place t boxed b m a reads here found same = record {
@@ -278,10 +278,10 @@ factor_absolute scope at x place t boxed b m a reads here found same = record {
 
 pub factor_negated : (scope : Scope) (at : ℕ) (x : Primary ℕ) (place : ℕ) (t : Typed) (boxed : Box Expr Global)
     (b m a : List Violation)
-    → Reads (primary_of scope x) (primary_kind scope x) (primary_types scope x) t b m → place ≡ primary_at x
+    → Resolves (primary_of scope x) (primary_kind scope x) (primary_types scope x) t b m → place ≡ primary_at x
     → a ≡ m ++ misfit place (Some Boolean) t.kind → boxed.value ≡ t.expr
     → let f = negated at x in
-    Reads (factor_of scope f) (factor_kind scope f) (factor_types scope f)
+    Resolves (factor_of scope f) (factor_kind scope f) (factor_types scope f)
     (record { expr = expr.Not boxed; kind = Some Boolean }) b a
 unfolding factor_of factor_kind factor_types
 factor_negated scope at x place t boxed b m a reads here found same = record {
@@ -296,8 +296,8 @@ factor_negated scope at x place t boxed b m a reads here found same = record {
 
 pub factor_plain : (scope : Scope) (f : Factor ℕ) (x : Primary ℕ) (r : Result Typed AllocError) (b a : List Violation)
     → f ≡ bare x
-    → IfOk r (λ t. Reads (primary_of scope x) (primary_kind scope x) (primary_types scope x) t b a)
-    → IfOk r (λ t. Reads (factor_of scope f) (factor_kind scope f) (factor_types scope f) t b a)
+    → IfOk r (λ t. Resolves (primary_of scope x) (primary_kind scope x) (primary_types scope x) t b a)
+    → IfOk r (λ t. Resolves (factor_of scope f) (factor_kind scope f) (factor_types scope f) t b a)
 unfolding factor_of factor_kind factor_types
 factor_plain scope f x (Ok t) b a is reads = rw is reads
 factor_plain scope f x (Err e) b a is reads = tt
@@ -305,20 +305,20 @@ factor_plain scope f x (Err e) b a is reads = tt
 -- ---- an operand
 pub primary_number : (scope : Scope) (at : ℕ) (n : ℤ) (t : Typed) (b : List Violation)
     → tree_of t.expr ≡ plain.Literal n → t.kind ≡ Some Integer
-    → let x = number at n in Reads (primary_of scope x) (primary_kind scope x) (primary_types scope x) t b b
+    → let x = number at n in Resolves (primary_of scope x) (primary_kind scope x) (primary_types scope x) t b b
 unfolding primary_of primary_kind primary_types
 primary_number scope at n t b tree kind = record { tree_is = tree; kind_is = kind; found = sym (append-nil b) }
 
 pub primary_truth : (scope : Scope) (at : ℕ) (v : Bool) (t : Typed) (b : List Violation)
     → tree_of t.expr ≡ plain.Literal (truth_of v) → t.kind ≡ Some Boolean
-    → let x = truth at v in Reads (primary_of scope x) (primary_kind scope x) (primary_types scope x) t b b
+    → let x = truth at v in Resolves (primary_of scope x) (primary_kind scope x) (primary_types scope x) t b b
 unfolding primary_of primary_kind primary_types
 primary_truth scope at v t b tree kind = record { tree_is = tree; kind_is = kind; found = sym (append-nil b) }
 
 pub primary_group : (scope : Scope) (p : Primary ℕ) (at : ℕ) (e : Expression ℕ) (r : Result Typed AllocError)
     (b a : List Violation) → p ≡ group at e
-    → IfOk r (λ t. Reads (expression_of scope e) (expression_kind scope e) (expression_types scope e) t b a)
-    → IfOk r (λ t. Reads (primary_of scope p) (primary_kind scope p) (primary_types scope p) t b a)
+    → IfOk r (λ t. Resolves (expression_of scope e) (expression_kind scope e) (expression_types scope e) t b a)
+    → IfOk r (λ t. Resolves (primary_of scope p) (primary_kind scope p) (primary_types scope p) t b a)
 unfolding primary_of primary_kind primary_types
 primary_group scope p at e (Ok t) b a is reads = rw is reads
 primary_group scope p at e (Err e') b a is reads = tt
@@ -328,7 +328,7 @@ pub name_read : (scope : Scope) (x : Identifier ℕ) (fresh : Bool) (entry : Opt
     → entry ≡ entry_named scope x.spelling → option_map tree_of r ≡ read_of fresh entry → r ≡ Some e
     → k ≡ read_kind fresh entry
     → let p = named x fresh in
-    Reads (primary_of scope p) (primary_kind scope p) (primary_types scope p) (record { expr = e; kind = k }) b b
+    Resolves (primary_of scope p) (primary_kind scope p) (primary_types scope p) (record { expr = e; kind = k }) b b
 unfolding primary_of primary_kind primary_types
 name_read scope x fresh entry r e k b known read some kind =
     let is : read_of fresh (entry_named scope x.spelling) ≡ Some (tree_of e) = ap (read_of fresh) (sym known) ∙ sym read
@@ -345,7 +345,7 @@ pub name_unread : (scope : Scope) (x : Identifier ℕ) (fresh : Bool) (entry : O
     → k ≡ read_kind fresh entry
     → tree_of e ≡ plain.Literal (pos 0) → a ≡ b ++ finding x.at BAD_TYPE [] ∷ []
     → let p = named x fresh in
-    Reads (primary_of scope p) (primary_kind scope p) (primary_types scope p) (record { expr = e; kind = k }) b a
+    Resolves (primary_of scope p) (primary_kind scope p) (primary_types scope p) (record { expr = e; kind = k }) b a
 unfolding primary_of primary_kind primary_types
 name_unread scope x fresh entry r e k b a known read none kind zero found =
     let is : read_of fresh (entry_named scope x.spelling) ≡ None = ap (read_of fresh) (sym known) ∙ sym read
@@ -357,8 +357,8 @@ name_unread scope x fresh entry r e k b a known read none kind zero found =
     }
 
 pub relation_alone : (scope : Scope) (left : Sum ℕ) (t : Typed) (b a : List Violation)
-    → Reads (sum_of scope left) (total_kind scope left) (sum_types scope left) t b a
-    → Reads (relation_of scope (single left)) (relation_kind scope (single left))
+    → Resolves (sum_of scope left) (total_kind scope left) (sum_types scope left) t b a
+    → Resolves (relation_of scope (single left)) (relation_kind scope (single left))
     (relation_types scope (single left)) t b a
 unfolding relation_of relation_kind relation_types
 relation_alone scope left t b a reads = reads
@@ -366,12 +366,12 @@ relation_alone scope left t b a reads = reads
 
 pub relation_both : (scope : Scope) (x y : Sum ℕ) (o : RelationOperator) (at to : ℕ) (l r e : Typed)
     (b m1 m2 a : List Violation)
-    → Reads (sum_of scope x) (total_kind scope x) (sum_types scope x) l b m1
-    → Reads (sum_of scope y) (total_kind scope y) (sum_types scope y) r m1 m2
+    → Resolves (sum_of scope x) (total_kind scope x) (sum_types scope x) l b m1
+    → Resolves (sum_of scope y) (total_kind scope y) (sum_types scope y) r m1 m2
     → at ≡ sum_at x → to ≡ sum_at y → a ≡ m2 ++ sides_misfit o at to l.kind r.kind
     → tree_of e.expr ≡ plain.Chain (tree_of l.expr) (plain.Then (relation_op o) (tree_of r.expr) plain.NoMore)
     → e.kind ≡ Some Boolean
-    → let z = compared x o y in Reads (relation_of scope z) (relation_kind scope z) (relation_types scope z) e b a
+    → let z = compared x o y in Resolves (relation_of scope z) (relation_kind scope z) (relation_types scope z) e b a
 unfolding relation_of relation_kind relation_types
 relation_both scope x y o at to l r e b m1 m2 a left right here there found is kind = record {
   tree_is =

@@ -27,7 +27,7 @@ use Rattle.annex_resolve.specs.ExpressionTypesAndFindings.{misfit, factor_kind, 
 use Rattle.annex_resolve.specs.ExpressionTypesAndFindings.{term_types, terms_types, total_kind, sum_types}
 use Rattle.annex_resolve.specs.ResolvedTrees.{chained, signed_by, multiply_op, sign_op, factor_of, factors_of, term_of}
 use Rattle.annex_resolve.specs.ResolvedTrees.{terms_of, sum_of}
-use Rattle.annex_resolve.specs.proof.ResolutionResults.{Reads, ReadsOperands}
+use Rattle.annex_resolve.specs.proof.ResolutionResults.{Resolves, ResolvesOperands}
 
 -- ---- lists of findings
 pub three : (b f m r : List Violation) → ((b ++ f) ++ m) ++ r ≡ b ++ ((f ++ m) ++ r)
@@ -50,10 +50,10 @@ take_next xs i x within is = take_more xs i x within ∙ ap (λ y. take i xs ++ 
 -- one more operand has been read
 pub one_more : (tree next : plain.Operands) (fs gs its : List Violation) (op : Op) (item : plain.Expression)
     (kind : Option Kind) (k : Kind) (at place : ℕ) (t : Typed) (ops news : List Operand) (b m0 m1 m2 : List Violation)
-    → ReadsOperands tree fs ops b m0 → Reads item kind its t m0 m1 → at ≡ place → m2 ≡ m1 ++ misfit at (Some k) t.kind
+    → ResolvesOperands tree fs ops b m0 → Resolves item kind its t m0 m1 → at ≡ place → m2 ≡ m1 ++ misfit at (Some k) t.kind
     → news ≡ ops ++ record { op = op; right = t.expr } ∷ [] → next ≡ put_last tree op item
     → gs ≡ fs ++ (its ++ misfit place (Some k) kind)
-    → ReadsOperands next gs news b m2
+    → ResolvesOperands next gs news b m2
 one_more tree next fs gs its op item kind k at place t ops news b m0 m1 m2 before reads here found pushed next_is
     gs_is = record {
       tree_is = ap operands_along pushed ∙ operands-push ops (record { op = op; right = t.expr })
@@ -71,9 +71,9 @@ one_more tree next fs gs its op item kind k at place t ops news b m0 m1 m2 befor
 -- several operands have been read
 pub several : (tree : plain.Expression) (kind : Option Kind) (fs rs : List Violation) (rest : plain.Operands) (k : Kind)
     (at place : ℕ) (t : Typed) (ops : List Operand) (e : Expr) (b m1 m2 a : List Violation)
-    → Reads tree kind fs t b m1 → at ≡ place → m2 ≡ m1 ++ misfit at (Some k) t.kind → ReadsOperands rest rs ops m2 a
+    → Resolves tree kind fs t b m1 → at ≡ place → m2 ≡ m1 ++ misfit at (Some k) t.kind → ResolvesOperands rest rs ops m2 a
     → tree_of e ≡ chained (tree_of t.expr) (operands_along ops)
-    → Reads (chained tree rest) (Some k) ((fs ++ misfit place (Some k) kind) ++ rs)
+    → Resolves (chained tree rest) (Some k) ((fs ++ misfit place (Some k) kind) ++ rs)
     (record { expr = e; kind = Some k }) b a
 several tree kind fs rs rest k at place t ops e b m1 m2 a reads here found behind is = record {
   tree_is = is ∙ ap (λ x. chained x (operands_along ops)) reads.tree_is ∙ ap (chained tree) behind.tree_is;
@@ -122,9 +122,9 @@ factors_types-push scope (y ∷ ys) x =
 
 pub term_alone : (scope : Scope) (first : Factor ℕ) (rest : List (MultiplyOperator × source_factor.Factor)) (t : Typed)
     (b a : List Violation) → length rest ≡ 0
-    → Reads (factor_of scope first) (factor_kind scope first) (factor_types scope first) t b a
+    → Resolves (factor_of scope first) (factor_kind scope first) (factor_types scope first) t b a
     → let x = term first (factors_view kept_place rest) in
-    Reads (term_of scope x) (term_kind scope x) (term_types scope x) t b a
+    Resolves (term_of scope x) (term_kind scope x) (term_types scope x) t b a
 unfolding term_of term_kind term_types
 term_alone scope first [] t b a none reads =
     record { tree_is = reads.tree_is; kind_is = reads.kind_is; found = reads.found }
@@ -132,13 +132,13 @@ term_alone scope first (x ∷ xs) t b a none reads = absurd (omega (arith, none)
 
 pub term_several : (scope : Scope) (first : Factor ℕ) (rest : List (MultiplyOperator × source_factor.Factor)) (at : ℕ)
     (t : Typed) (ops : List Operand) (e : Expr) (b m1 m2 a : List Violation) → (length rest ≡ 0 → ⊥)
-    → Reads (factor_of scope first) (factor_kind scope first) (factor_types scope first) t b m1 → at ≡ factor_at first
+    → Resolves (factor_of scope first) (factor_kind scope first) (factor_types scope first) t b m1 → at ≡ factor_at first
     → m2 ≡ m1 ++ misfit at (Some Integer) t.kind
-    → ReadsOperands (factors_of scope (factors_view kept_place rest))
+    → ResolvesOperands (factors_of scope (factors_view kept_place rest))
     (factors_types scope (factors_view kept_place rest)) ops m2 a
     → tree_of e ≡ chained (tree_of t.expr) (operands_along ops)
     → let x = term first (factors_view kept_place rest) in
-    Reads (term_of scope x) (term_kind scope x) (term_types scope x) (record { expr = e; kind = Some Integer }) b a
+    Resolves (term_of scope x) (term_kind scope x) (term_types scope x) (record { expr = e; kind = Some Integer }) b a
 unfolding term_of term_kind term_types
 term_several scope first [] at t ops e b m1 m2 a some reads here found behind is = absurd (some refl)
 term_several scope first (x ∷ xs) at t ops e b m1 m2 a some reads here found behind is =
@@ -177,9 +177,9 @@ terms_types-push scope (y ∷ ys) x =
 -- ---- a sum
 pub sum_alone : (scope : Scope) (sign : Option source_leading.LeadingSign) (first : Term ℕ)
     (rest : List (Sign × source_term.Term)) (t : Typed) (b a : List Violation) → sign ≡ None → length rest ≡ 0
-    → Reads (term_of scope first) (term_kind scope first) (term_types scope first) t b a
+    → Resolves (term_of scope first) (term_kind scope first) (term_types scope first) t b a
     → let x = total (option_map (leading_view kept_place) sign) first (terms_view kept_place rest) in
-    Reads (sum_of scope x) (total_kind scope x) (sum_types scope x) t b a
+    Resolves (sum_of scope x) (total_kind scope x) (sum_types scope x) t b a
 unfolding sum_of total_kind sum_types
 sum_alone scope None first [] t b a unsigned none reads =
     record {
@@ -196,14 +196,14 @@ pub sum_several : (scope : Scope) (sign : Option source_leading.LeadingSign) (fi
     (rest : List (Sign × source_term.Term)) (at : ℕ) (t : Typed) (s : Expr) (ops : List Operand) (e : Expr)
     (b m1 m2 a : List Violation)
     → (sign ≡ None → length rest ≡ 0 → ⊥)
-    → Reads (term_of scope first) (term_kind scope first) (term_types scope first) t b m1 → at ≡ term_at first
+    → Resolves (term_of scope first) (term_kind scope first) (term_types scope first) t b m1 → at ≡ term_at first
     → m2 ≡ m1 ++ misfit at (Some Integer) t.kind
     → tree_of s ≡ signed_by (option_map (leading_view kept_place) sign) (tree_of t.expr)
-    → ReadsOperands (terms_of scope (terms_view kept_place rest))
+    → ResolvesOperands (terms_of scope (terms_view kept_place rest))
     (terms_types scope (terms_view kept_place rest)) ops m2 a
     → tree_of e ≡ chained (tree_of s) (operands_along ops)
     → let x = total (option_map (leading_view kept_place) sign) first (terms_view kept_place rest) in
-    Reads (sum_of scope x) (total_kind scope x) (sum_types scope x) (record { expr = e; kind = Some Integer }) b a
+    Resolves (sum_of scope x) (total_kind scope x) (sum_types scope x) (record { expr = e; kind = Some Integer }) b a
 unfolding sum_of total_kind sum_types
 sum_several scope None first [] at t s ops e b m1 m2 a some reads here found signed behind is = absurd (some refl refl)
 sum_several scope None first (x ∷ xs) at t s ops e b m1 m2 a some reads here found signed behind is =

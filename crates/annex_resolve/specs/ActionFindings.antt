@@ -15,19 +15,19 @@ use Rattle.annex_resolve.specs.declared.violation.TheConstants.{BAD_TYPE, LOOP_T
 use Rattle.annex_resolve.specs.NamesAndFindings.{entry_named, kind_of, may_set, may_send, with_loop}
 use Rattle.annex_resolve.specs.FindingRecords.{found_if}
 use Rattle.annex_resolve.specs.ExpressionTypesAndFindings.{whole_types, is_boolean, kind_named}
-use Rattle.annex_resolve.specs.ResolvedTrees.{signed}
+use Rattle.annex_resolve.specs.ResolvedTrees.{bound_value}
 use Rattle.pals_base.specs.TypingRules as base
 
 -- ---- loops
 abbrev pub turns : Bound → Bound → ℕ
-turns low high = base.turns (signed low) (signed high)
+turns low high = base.turns (bound_value low) (bound_value high)
 
 -- the turns of a loop with those of the loops round it, counted no further than one past what is allowed
-abbrev pub together : ℕ → ℕ → ℕ
-together around count = min (around * count) (NESTED_TURNS + 1)
+abbrev pub turns_with_outer : ℕ → ℕ → ℕ
+turns_with_outer around count = min (around * count) (NESTED_TURNS + 1)
 
 abbrev pub is_too_long : ℕ → ℕ → Bool
-is_too_long around count = not (nat_le count TURNS && nat_le (together around count) NESTED_TURNS)
+is_too_long around count = not (nat_le count TURNS && nat_le (turns_with_outer around count) NESTED_TURNS)
 
 -- a loop counts in Integers
 abbrev pub is_integer : Option Kind → Bool
@@ -51,7 +51,7 @@ unfoldable mutual
   action_findings scope around (loop at x type low high body) =
       found_if (not (is_integer (kind_named type))) at BAD_TYPE []
       ++ found_if (is_too_long around (turns low high)) at LOOP_TOO_LONG []
-      ++ block_findings (with_loop scope x) (together around (turns low high)) body
+      ++ block_findings (with_loop scope x) (turns_with_outer around (turns low high)) body
 
   pub actions_findings : Scope → ℕ → Actions ℕ → List Violation
   actions_findings scope around (actions first rest) =

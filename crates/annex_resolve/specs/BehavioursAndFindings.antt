@@ -16,8 +16,8 @@ use Rattle.annex_resolve.specs.declared.scope.Scope.{Scope}
 use Rattle.annex_resolve.specs.declared.ports_and_variables.DeclaredValues.{DeclaredValues}
 use Rattle.annex_resolve.specs.declared.states.StateAt.{StateAt}
 use Rattle.annex_resolve.specs.declared.departures.Departure.{Departure}
-use Rattle.annex_resolve.specs.declared.departures.GuardKind.{GuardKind}
-use Rattle.annex_resolve.specs.declared.departures.GuardKind.TheVariants.{Dispatch, Otherwise, Always, Guarded}
+use Rattle.annex_resolve.specs.declared.departures.GuardCase.{GuardCase}
+use Rattle.annex_resolve.specs.declared.departures.GuardCase.TheVariants.{Dispatch, Otherwise, Always, Guarded}
 use Rattle.annex_resolve.specs.declared.violation.Violation.{Violation}
 use Rattle.annex_resolve.specs.declared.violation.TheConstants.{NO_INITIAL, DISPATCH_COUNT, NO_OTHERWISE}
 use Rattle.annex_resolve.specs.declared.violation.TheConstants.{CYCLE_WITHOUT_COMPLETE}
@@ -113,38 +113,38 @@ abbrev pub breaks_dispatch : BehaviourParts → ℕ → Bool
 breaks_dispatch b n = not (nat_eq (dispatch_count (leaving b n)) (if is_complete b n then 1 else 0))
 
 -- ---- a step can always leave a state that is not complete
-abbrev pub way_of : Option (Guard ℕ) → GuardKind
-way_of None = Always
-way_of (Some dispatch) = Dispatch
-way_of (Some otherwise) = Otherwise
-way_of (Some (when e)) = Guarded
+abbrev pub guard_case_of : Option (Guard ℕ) → GuardCase
+guard_case_of None = Always
+guard_case_of (Some dispatch) = Dispatch
+guard_case_of (Some otherwise) = Otherwise
+guard_case_of (Some (when e)) = Guarded
 
 -- from which state a transition goes, and in which way
-abbrev pub leg_of : List StateAt → Transition ℕ → Departure
-leg_of states t = record { source = state_number states t.source.spelling; way = way_of t.guard }
+abbrev pub departure_of : List StateAt → Transition ℕ → Departure
+departure_of states t = record { source = state_number states t.source.spelling; way = guard_case_of t.guard }
 
 -- the ways from a state, in the text's order
-abbrev pub ways_from : ℕ → List Departure → List GuardKind
-ways_from n legs = map (λ leg. leg.way) (filter (λ leg. nat_eq leg.source n) legs)
+abbrev pub guard_cases_from : ℕ → List Departure → List GuardCase
+guard_cases_from n legs = map (λ leg. leg.way) (filter (λ leg. nat_eq leg.source n) legs)
 
-abbrev pub is_otherwise : GuardKind → Bool
+abbrev pub is_otherwise : GuardCase → Bool
 is_otherwise Dispatch = false
 is_otherwise Otherwise = true
 is_otherwise Always = false
 is_otherwise Guarded = false
 
-abbrev pub is_guarded : GuardKind → Bool
+abbrev pub is_guarded : GuardCase → Bool
 is_guarded Dispatch = false
 is_guarded Otherwise = false
 is_guarded Always = false
 is_guarded Guarded = true
 
-abbrev pub is_open : Option GuardKind → Bool
+abbrev pub is_open : Option GuardCase → Bool
 is_open None = true
 is_open (Some way) = is_guarded way
 
 -- there is none, or the last one has a condition, or one before the last is `otherwise`
-abbrev pub lacks_otherwise : List GuardKind → Bool
+abbrev pub lacks_otherwise : List GuardCase → Bool
 lacks_otherwise ways = is_open (slice_get ways (length ways - 1)) || list_any is_otherwise (take (length ways - 1) ways)
 
 -- ---- all
@@ -153,7 +153,7 @@ abbrev pub state_rules : BehaviourParts → List Departure → List Bool → ℕ
 state_rules b legs cyclic (n, s) =
     found_if (breaks_dispatch b n) s.at DISPATCH_COUNT s.name
     ++ (if s.complete then []
-    else found_if (lacks_otherwise (ways_from n legs)) s.at NO_OTHERWISE s.name
+    else found_if (lacks_otherwise (guard_cases_from n legs)) s.at NO_OTHERWISE s.name
     ++ found_if (unwrap_or (slice_get cyclic n) false) s.at CYCLE_WITHOUT_COMPLETE s.name)
 
 -- the marks of all states
@@ -164,7 +164,7 @@ cycles_of b = map (is_on_cycle b) (upwards 0 (length b.states))
 abbrev pub rule_findings : ℕ → BehaviourParts → List StateAt → List (Transition ℕ) → List Violation
 rule_findings at b states ts =
     found_if (not (has_initial states)) at NO_INITIAL []
-    ++ flat_map (state_rules b (map (leg_of states) ts) (cycles_of b)) (enumerate_from 0 states)
+    ++ flat_map (state_rules b (map (departure_of states) ts) (cycles_of b)) (enumerate_from 0 states)
 
 abbrev pub annex_findings : DeclaredValues → Scope → ℕ → AnnexTree ℕ → List Violation
 annex_findings values scope at annex =

@@ -104,8 +104,8 @@ unfoldable mutual
       plain.Then (logic_op operator) (relation_of scope x) (relations_of scope rest)
 
 -- ---- actions
-abbrev pub signed : Bound → ℤ
-signed x = if x.negative then pos 0 -ℤ x.value else x.value
+abbrev pub bound_value : Bound → ℤ
+bound_value x = if x.negative then pos 0 -ℤ x.value else x.value
 
 unfoldable mutual
   pub action_of : Scope → Action ℕ → plain.Action
@@ -114,7 +114,7 @@ unfoldable mutual
   action_of scope (choose test a es o) =
       plain.If (plain.Where (expression_of scope test) (actions_of scope a) (elsifs_of scope es)) (otherwise_of scope o)
   action_of scope (loop at x type low high body) =
-      plain.For (signed low) (signed high) (block_of (with_loop scope x) body)
+      plain.For (bound_value low) (bound_value high) (block_of (with_loop scope x) body)
 
   pub actions_of : Scope → Actions ℕ → plain.Actions
   actions_of scope (actions first rest) = plain.Do (action_of scope first) (mores_of scope rest)

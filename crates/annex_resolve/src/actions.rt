@@ -12,7 +12,7 @@ ghost use Rattle.annex_resolve.specs.ExpressionTypesAndFindings.{whole_types};
 ghost use Rattle.annex_resolve.specs.ResolvedTrees.{expression_of, action_of, actions_of, block_of};
 ghost use Rattle.annex_resolve.specs.ActionFindings.{is_integer, action_findings, actions_findings, block_findings};
 ghost use Rattle.annex_resolve.specs.ActionFindings.{branch_findings};
-ghost use Rattle.annex_resolve.specs.proof.ResolutionResults.{ReadsAction, ReadsActions, ReadsBranch};
+ghost use Rattle.annex_resolve.specs.proof.ResolutionResults.{ResolvesAction, ResolvesActions, ResolvesBranch};
 
 use crate::expressions::{kind_of, resolve_whole};
 use crate::loop_turns::{count_turns, is_too_long, signed, together};
@@ -75,7 +75,7 @@ fn give(
     found: &mut Items<Violation>,
 ) -> Result<Act, NoMemory>
     ensures { IfOk result (λ act. let x = expression_view kept_place value.now in let e = option_copied entry.entry in
-        ReadsAction (given_to (expression_of scope.now x) e) (whole_types scope.now (kind_of e) x) act found.old found.new) }
+        ResolvesAction (given_to (expression_of scope.now x) e) (whole_types scope.now (kind_of e) x) act found.old found.new) }
 {
     let value = resolve_whole(alloc, scope, kind_of(entry), value, found)?;
     Ok(given_to(alloc, value, entry))
@@ -99,7 +99,7 @@ pub fn resolve_block(
 ) -> Result<Vec<Act>, NoMemory>
     requires { around ≤ NESTED_TURNS + 1 }
     ensures { IfOk result (λ acts. let x = block_view kept_place block.now in
-        ReadsActions (block_of scope.now x) (block_findings scope.now around x) acts.items found.old found.new) }
+        ResolvesActions (block_of scope.now x) (block_findings scope.now around x) acts.items found.old found.new) }
 {
     resolve_some(alloc, scope, around, &block.actions, found)
 }
@@ -116,7 +116,7 @@ fn resolve_some(
 ) -> Result<Vec<Act>, NoMemory>
     requires { around ≤ NESTED_TURNS + 1 }
     ensures { IfOk result (λ acts. let x = listed_block (option_map (λ b. actions_view kept_place b.value) actions.now) in
-        ReadsActions (block_of scope.now x) (block_findings scope.now around x) acts.items found.old found.new) }
+        ResolvesActions (block_of scope.now x) (block_findings scope.now around x) acts.items found.old found.new) }
 {
     match actions {
         None => Ok(Vec::new(alloc)),
@@ -134,7 +134,7 @@ fn resolve_actions(
 ) -> Result<Vec<Act>, NoMemory>
     requires { around ≤ NESTED_TURNS + 1 }
     ensures { IfOk result (λ acts. let x = actions_view kept_place actions.now in
-        ReadsActions (actions_of scope.now x) (actions_findings scope.now around x) acts.items found.old found.new) }
+        ResolvesActions (actions_of scope.now x) (actions_findings scope.now around x) acts.items found.old found.new) }
 {
     let mut acts = Vec::new(alloc);
     let first = resolve_action(alloc, scope, around, &actions.first, found)?;
@@ -156,7 +156,7 @@ fn resolve_action(
 ) -> Result<Act, NoMemory>
     requires { around ≤ NESTED_TURNS + 1 }
     ensures { IfOk result (λ act. let x = action_view kept_place action.now in
-        ReadsAction (action_of scope.now x) (action_findings scope.now around x) act found.old found.new) }
+        ResolvesAction (action_of scope.now x) (action_findings scope.now around x) act found.old found.new) }
 {
     match action {
         Action::Assign { target, value } => {
@@ -184,7 +184,7 @@ fn resolve_choice(
 ) -> Result<Act, NoMemory>
     requires { around ≤ NESTED_TURNS + 1 }
     ensures { IfOk result (λ act. let x = choice_view kept_place choice.now in
-        ReadsAction (action_of scope.now x) (action_findings scope.now around x) act found.old found.new) }
+        ResolvesAction (action_of scope.now x) (action_findings scope.now around x) act found.old found.new) }
 {
     let mut branches = Vec::new(alloc);
     let first = resolve_branch(alloc, scope, around, &choice.actions, &choice.test, found)?;
@@ -212,7 +212,7 @@ fn resolve_branch(
 ) -> Result<Branch, NoMemory>
     requires { around ≤ NESTED_TURNS + 1 }
     ensures { IfOk result (λ branch. let e = expression_view kept_place test.now in let xs = actions_view kept_place actions.now in
-        ReadsBranch (expression_of scope.now e) (actions_of scope.now xs) (branch_findings scope.now around e xs) branch found.old found.new) }
+        ResolvesBranch (expression_of scope.now e) (actions_of scope.now xs) (branch_findings scope.now around e xs) branch found.old found.new) }
 {
     let guard = resolve_whole(alloc, scope, Some(Kind::Boolean), test, found)?;
     let acts = resolve_actions(alloc, scope, around, actions, found)?;
@@ -229,7 +229,7 @@ fn resolve_loop(
 ) -> Result<Act, NoMemory>
     requires { around ≤ NESTED_TURNS + 1 }
     ensures { IfOk result (λ act. let x = loop_view kept_place turns.now in
-        ReadsAction (action_of scope.now x) (action_findings scope.now around x) act found.old found.new) }
+        ResolvesAction (action_of scope.now x) (action_findings scope.now around x) act found.old found.new) }
 {
     let low = signed(turns.low)?;
     let high = signed(turns.high)?;

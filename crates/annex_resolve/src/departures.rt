@@ -5,7 +5,7 @@ ghost use Rattle.std.specs.List.{list_any};
 ghost use Rattle.pals_base.specs.BehaviourRules.{dispatch_count};
 ghost use Rattle.aadl_tree.specs.proof.PlaceMaps.{kept_place};
 ghost use Rattle.aadl_tree.specs.proof.AnnexViews.{guard_view, transition_view};
-ghost use Rattle.annex_resolve.specs.BehavioursAndFindings.{way_of, leg_of, ways_from, is_otherwise, is_guarded};
+ghost use Rattle.annex_resolve.specs.BehavioursAndFindings.{guard_case_of, departure_of, guard_cases_from, is_otherwise, is_guarded};
 ghost use Rattle.annex_resolve.specs.BehavioursAndFindings.{is_open, lacks_otherwise, breaks_dispatch};
 
 use crate::cycles::is_complete;
@@ -16,7 +16,7 @@ use std::alloc::Global;
 
 /// When a transition is taken.
 #[derive(Clone, Copy)]
-pub enum GuardKind {
+pub enum GuardCase {
     Dispatch,
     Otherwise,
     /// It has an empty guard.
@@ -29,42 +29,42 @@ pub enum GuardKind {
 #[derive(Clone, Copy)]
 pub struct Departure {
     pub source: u32,
-    pub way: GuardKind,
+    pub way: GuardCase,
 }
 
-impl GuardKind {
+impl GuardCase {
     fn is_otherwise(self) -> bool
         ensures { result ≡ is_otherwise self }
     {
-        matches!(self, GuardKind::Otherwise)
+        matches!(self, GuardCase::Otherwise)
     }
 
     fn is_guarded(self) -> bool
         ensures { result ≡ is_guarded self }
     {
-        matches!(self, GuardKind::Guarded)
+        matches!(self, GuardCase::Guarded)
     }
 }
 
 // The way of a guard.
-fn way_of(guard: &Option<Guard>) -> GuardKind
-    ensures { result ≡ way_of (option_map (guard_view kept_place) guard.now) }
+fn guard_case_of(guard: &Option<Guard>) -> GuardCase
+    ensures { result ≡ guard_case_of (option_map (guard_view kept_place) guard.now) }
 {
     match guard {
-        None => GuardKind::Always,
-        Some(Guard::Dispatch) => GuardKind::Dispatch,
-        Some(Guard::Otherwise) => GuardKind::Otherwise,
-        Some(Guard::When(_)) => GuardKind::Guarded,
+        None => GuardCase::Always,
+        Some(Guard::Dispatch) => GuardCase::Dispatch,
+        Some(Guard::Otherwise) => GuardCase::Otherwise,
+        Some(Guard::When(_)) => GuardCase::Guarded,
     }
 }
 
 // A transition's leg.
-fn leg_of(states: &[StateAt], transition: &aadl_tree::Transition) -> Result<Departure, NoMemory>
-    ensures { IfOk result (λ leg. leg ≡ leg_of states.now (transition_view kept_place transition.now)) }
+fn departure_of(states: &[StateAt], transition: &aadl_tree::Transition) -> Result<Departure, NoMemory>
+    ensures { IfOk result (λ leg. leg ≡ departure_of states.now (transition_view kept_place transition.now)) }
 {
     Ok(Departure {
         source: state_number(states, transition.source.spelling.as_str())?,
-        way: way_of(&transition.guard),
+        way: guard_case_of(&transition.guard),
     })
 }
 
@@ -74,18 +74,18 @@ pub fn departures_of(
     states: &[StateAt],
     transitions: &[aadl_tree::Transition],
 ) -> Result<Items<Departure>, NoMemory>
-    ensures { IfOk result (λ legs. legs ≡ map (leg_of states.now) (map (transition_view kept_place) transitions.now)) }
+    ensures { IfOk result (λ legs. legs ≡ map (departure_of states.now) (map (transition_view kept_place) transitions.now)) }
 {
     let mut legs = Items::new(alloc);
     for transition in transitions {
-        legs.push(leg_of(states, transition)?)?;
+        legs.push(departure_of(states, transition)?)?;
     }
     Ok(legs)
 }
 
 // The ways from a state, in order.
-fn ways_from(alloc: Global, legs: &[Departure], state: usize) -> Result<Vec<GuardKind>, NoMemory>
-    ensures { IfOk result (λ ways. ways.items ≡ ways_from state legs.now) }
+fn guard_cases_from(alloc: Global, legs: &[Departure], state: usize) -> Result<Vec<GuardCase>, NoMemory>
+    ensures { IfOk result (λ ways. ways.items ≡ guard_cases_from state legs.now) }
 {
     legs.iter()
         .filter(|leg| leg.source as usize == state)
@@ -94,7 +94,7 @@ fn ways_from(alloc: Global, legs: &[Departure], state: usize) -> Result<Vec<Guar
 }
 
 // Whether the last of some ways may leave a step where it is.
-fn is_open(last: Option<&GuardKind>) -> bool
+fn is_open(last: Option<&GuardCase>) -> bool
     ensures { result ≡ is_open (option_copied last.entry) }
 {
     match last {
@@ -104,7 +104,7 @@ fn is_open(last: Option<&GuardKind>) -> bool
 }
 
 // Whether one of some ways is an `otherwise`.
-fn has_otherwise(ways: &[GuardKind]) -> bool
+fn has_otherwise(ways: &[GuardCase]) -> bool
     ensures { result ≡ list_any is_otherwise ways.now }
 {
     ways.iter().any(|way| way.is_otherwise())
@@ -112,7 +112,7 @@ fn has_otherwise(ways: &[GuardKind]) -> bool
 
 // Whether a step may be unable to go on by these ways, or one of them is never taken for an
 // `otherwise` before it.
-fn lacks_way(ways: &[GuardKind]) -> bool
+fn lacks_way(ways: &[GuardCase]) -> bool
     ensures { result ≡ lacks_otherwise ways.now }
 {
     let last = ways.len().saturating_sub(1);
@@ -121,9 +121,9 @@ fn lacks_way(ways: &[GuardKind]) -> bool
 
 /// Whether a step may be unable to leave a state.
 pub fn lacks_otherwise(alloc: Global, legs: &[Departure], state: usize) -> Result<bool, NoMemory>
-    ensures { IfOk result (λ lacks. lacks ≡ lacks_otherwise (ways_from state legs.now)) }
+    ensures { IfOk result (λ lacks. lacks ≡ lacks_otherwise (guard_cases_from state legs.now)) }
 {
-    let ways = ways_from(alloc, legs, state)?;
+    let ways = guard_cases_from(alloc, legs, state)?;
     Ok(lacks_way(&ways))
 }
 

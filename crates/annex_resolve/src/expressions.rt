@@ -19,7 +19,7 @@ ghost use Rattle.annex_resolve.specs.ExpressionTypesAndFindings.{relations_types
 ghost use Rattle.annex_resolve.specs.ResolvedTrees.{multiply_op, sign_op, relation_op, logic_op, chained, signed_by};
 ghost use Rattle.annex_resolve.specs.ResolvedTrees.{truth_of, primary_of, factor_of, term_of, factors_of, sum_of};
 ghost use Rattle.annex_resolve.specs.ResolvedTrees.{terms_of, relation_of, expression_of, relations_of};
-ghost use Rattle.annex_resolve.specs.proof.ResolutionResults.{Reads, ReadsOperands};
+ghost use Rattle.annex_resolve.specs.proof.ResolutionResults.{Resolves, ResolvesOperands};
 
 mod operators;
 
@@ -190,7 +190,7 @@ fn resolve_expression(
     found: &mut Items<Violation>,
 ) -> Result<Typed, NoMemory>
     ensures { IfOk result (λ typed. let x = expression_view kept_place expression.now in
-        Reads (expression_of scope.now x) (expression_kind scope.now x) (expression_types scope.now x) typed found.old found.new) }
+        Resolves (expression_of scope.now x) (expression_kind scope.now x) (expression_types scope.now x) typed found.old found.new) }
 {
     let first = resolve_relation(alloc, scope, &expression.first, found)?;
     if expression.rest.is_empty() {
@@ -218,7 +218,7 @@ fn resolve_relations(
     found: &mut Items<Violation>,
 ) -> Result<Vec<Operand>, NoMemory>
     ensures { IfOk result (λ operands. let xs = relations_view kept_place relations.now in
-        ReadsOperands (relations_of scope.now xs) (relations_types scope.now xs) operands.items found.old found.new) }
+        ResolvesOperands (relations_of scope.now xs) (relations_types scope.now xs) operands.items found.old found.new) }
 {
     let mut operands = Vec::new(alloc);
     for (operator, relation) in relations {
@@ -241,7 +241,7 @@ fn resolve_relation(
     found: &mut Items<Violation>,
 ) -> Result<Typed, NoMemory>
     ensures { IfOk result (λ typed. let x = relation_view kept_place relation.now in
-        Reads (relation_of scope.now x) (relation_kind scope.now x) (relation_types scope.now x) typed found.old found.new) }
+        Resolves (relation_of scope.now x) (relation_kind scope.now x) (relation_types scope.now x) typed found.old found.new) }
 {
     let left = resolve_sum(alloc, scope, &relation.left, found)?;
     match &relation.right {
@@ -283,7 +283,7 @@ fn resolve_sum(
     found: &mut Items<Violation>,
 ) -> Result<Typed, NoMemory>
     ensures { IfOk result (λ typed. let x = sum_view kept_place sum.now in
-        Reads (sum_of scope.now x) (total_kind scope.now x) (sum_types scope.now x) typed found.old found.new) }
+        Resolves (sum_of scope.now x) (total_kind scope.now x) (sum_types scope.now x) typed found.old found.new) }
 {
     let first = resolve_term(alloc, scope, &sum.first, found)?;
     if sum.sign.is_none() && sum.rest.is_empty() {
@@ -312,7 +312,7 @@ fn resolve_terms(
     found: &mut Items<Violation>,
 ) -> Result<Vec<Operand>, NoMemory>
     ensures { IfOk result (λ operands. let xs = terms_view kept_place terms.now in
-        ReadsOperands (terms_of scope.now xs) (terms_types scope.now xs) operands.items found.old found.new) }
+        ResolvesOperands (terms_of scope.now xs) (terms_types scope.now xs) operands.items found.old found.new) }
 {
     let mut operands = Vec::new(alloc);
     for (sign, term) in terms {
@@ -335,7 +335,7 @@ fn resolve_term(
     found: &mut Items<Violation>,
 ) -> Result<Typed, NoMemory>
     ensures { IfOk result (λ typed. let x = term_view kept_place term.now in
-        Reads (term_of scope.now x) (term_kind scope.now x) (term_types scope.now x) typed found.old found.new) }
+        Resolves (term_of scope.now x) (term_kind scope.now x) (term_types scope.now x) typed found.old found.new) }
 {
     let first = resolve_factor(alloc, scope, &term.first, found)?;
     if term.rest.is_empty() {
@@ -363,7 +363,7 @@ fn resolve_factors(
     found: &mut Items<Violation>,
 ) -> Result<Vec<Operand>, NoMemory>
     ensures { IfOk result (λ operands. let xs = factors_view kept_place factors.now in
-        ReadsOperands (factors_of scope.now xs) (factors_types scope.now xs) operands.items found.old found.new) }
+        ResolvesOperands (factors_of scope.now xs) (factors_types scope.now xs) operands.items found.old found.new) }
 {
     let mut operands = Vec::new(alloc);
     for (operator, factor) in factors {
@@ -386,7 +386,7 @@ fn resolve_factor(
     found: &mut Items<Violation>,
 ) -> Result<Typed, NoMemory>
     ensures { IfOk result (λ typed. let x = factor_view kept_place factor.now in
-        Reads (factor_of scope.now x) (factor_kind scope.now x) (factor_types scope.now x) typed found.old found.new) }
+        Resolves (factor_of scope.now x) (factor_kind scope.now x) (factor_types scope.now x) typed found.old found.new) }
 {
     match factor {
         Factor::Abs { at: _, operand } => {
@@ -419,7 +419,7 @@ fn resolve_primary(
     found: &mut Items<Violation>,
 ) -> Result<Typed, NoMemory>
     ensures { IfOk result (λ typed. let x = primary_view kept_place primary.now in
-        Reads (primary_of scope.now x) (primary_kind scope.now x) (primary_types scope.now x) typed found.old found.new) }
+        Resolves (primary_of scope.now x) (primary_kind scope.now x) (primary_types scope.now x) typed found.old found.new) }
 {
     match primary {
         Primary::Whole { at: _, value } => Ok(literal(*value)),
@@ -438,7 +438,7 @@ fn resolve_name(
     found: &mut Items<Violation>,
 ) -> Result<Typed, NoMemory>
     ensures { IfOk result (λ typed. let x = named (identifier_view kept_place name.now) fresh in
-        Reads (primary_of scope.now x) (primary_kind scope.now x) (primary_types scope.now x) typed found.old found.new) }
+        Resolves (primary_of scope.now x) (primary_kind scope.now x) (primary_types scope.now x) typed found.old found.new) }
 {
     let entry = scope.find(name.spelling.as_str());
     let kind = read_kind(entry, fresh);

@@ -2,8 +2,8 @@
 ghost use Rattle.std.specs.Prelude.{◌≡◌, ◌+◌, ◌^◌, ◌<◌, ◌≤◌, IfOk};
 ghost use Rattle.pals_base.specs.declared.limits.TheConstants.{NESTED_TURNS};
 ghost use Rattle.pals_base.specs.TypingRules as base;
-ghost use Rattle.annex_resolve.specs.ResolvedTrees.{signed};
-ghost use Rattle.annex_resolve.specs.ActionFindings.{together, is_too_long};
+ghost use Rattle.annex_resolve.specs.ResolvedTrees.{bound_value};
+ghost use Rattle.annex_resolve.specs.ActionFindings.{turns_with_outer, is_too_long};
 
 use aadl_tree::Bound;
 use pals_base::NoMemory;
@@ -13,7 +13,7 @@ use std::alloc::AllocError;
 /// The number of a loop's end. For one that no text spells and that does not fit 64 bits, the error
 /// is that there is not enough memory.
 pub fn signed(bound: Bound) -> Result<i64, NoMemory>
-    ensures { IfOk result (λ number. number ≡ signed bound) }
+    ensures { IfOk result (λ number. number ≡ bound_value bound) }
 {
     if bound.negative {
         return bound.value.checked_neg().ok_or(AllocError);
@@ -34,10 +34,10 @@ pub fn count_turns(low: i64, high: i64) -> u128
 
 /// The turns of a loop with those of the loops round it, counted no further than one past what is
 /// allowed.
-pub fn together(around: u64, turns: u128) -> u64
+pub fn turns_with_outer(around: u64, turns: u128) -> u64
     requires around { around ≤ NESTED_TURNS + 1 }
     requires turns { turns < 2 ^ 65 }
-    ensures value { result ≡ together around turns }
+    ensures value { result ≡ turns_with_outer around turns }
     ensures most { result ≤ NESTED_TURNS + 1 }
 {
     let all = u128::from(around) * turns;
@@ -50,5 +50,5 @@ pub fn is_too_long(around: u64, turns: u128) -> bool
     requires turns { turns < 2 ^ 65 }
     ensures { result ≡ is_too_long around turns }
 {
-    turns > u128::from(TURNS) || together(around, turns) > NESTED_TURNS
+    turns > u128::from(TURNS) || turns_with_outer(around, turns) > NESTED_TURNS
 }

@@ -6,7 +6,7 @@ ghost use Rattle.aadl_tree.specs.proof.ActionViews.{block_view};
 ghost use Rattle.aadl_tree.specs.proof.AnnexViews.{guard_view, transition_view};
 ghost use Rattle.annex_resolve.specs.BehavioursAndFindings.{trigger_of, effect_of, edge_of, guard_types};
 ghost use Rattle.annex_resolve.specs.BehavioursAndFindings.{effect_findings, transition_findings};
-ghost use Rattle.annex_resolve.specs.proof.ResolutionResults.{ReadsActions};
+ghost use Rattle.annex_resolve.specs.proof.ResolutionResults.{ResolvesActions};
 
 use crate::actions::resolve_block;
 use crate::expressions::resolve_whole;
@@ -48,7 +48,7 @@ fn resolve_effect(
     found: &mut Items<Violation>,
 ) -> Result<Vec<Act>, NoMemory>
     ensures { IfOk result (λ acts. let x = option_map (block_view kept_place) effect.now in
-        ReadsActions (effect_of scope.now x) (effect_findings scope.now x) acts.items found.old found.new) }
+        ResolvesActions (effect_of scope.now x) (effect_findings scope.now x) acts.items found.old found.new) }
 {
     match effect {
         None => Ok(Vec::new(alloc)),

@@ -14,8 +14,8 @@ use Rattle.answer_laws.proofs.ScenarioAnswerStatuses.{IsMade, execution_status, 
 use Rattle.answer_laws.proofs.UniqueExecutionAnswers.{long_code, long_or_short, executions_agree}
 
 -- what a status says, by its number
-abbrev pub Has : Execution → List ℕ → List ℕ → ℕ → Type 0
-Has what root bundle s =
+abbrev pub StatusMeans : Execution → List ℕ → List ℕ → ℕ → Type 0
+StatusMeans what root bundle s =
     MatchBool (nat_eq s 3) (HasTree bundle → ⊥)
     (MatchBool (nat_eq s 4) (HasTree bundle × (MeansDesign root bundle → ⊥))
     (MatchBool (nat_eq s 13) (HasLongCode root bundle)
@@ -59,11 +59,11 @@ module _ (what : Execution) (root bundle : List ℕ) where
   made_by false false false true s t d c e made x = inr x
   made_by false false false false s t d c e made x = x
 
-  has : (s : ℕ) → Stands s → Has what root bundle s
-  has s (inl x) = subst (λ n. Has what root bundle n) (sym x.0) x.1
-  has s (inr (inl x)) = subst (λ n. Has what root bundle n) (sym x.0) x.1
-  has s (inr (inr (inl x))) = subst (λ n. Has what root bundle n) (sym x.0) x.1
-  has s (inr (inr (inr (inl x)))) = subst (λ n. Has what root bundle n) (sym x.0) (inl x.1)
+  has : (s : ℕ) → Stands s → StatusMeans what root bundle s
+  has s (inl x) = subst (λ n. StatusMeans what root bundle n) (sym x.0) x.1
+  has s (inr (inl x)) = subst (λ n. StatusMeans what root bundle n) (sym x.0) x.1
+  has s (inr (inr (inl x))) = subst (λ n. StatusMeans what root bundle n) (sym x.0) x.1
+  has s (inr (inr (inr (inl x)))) = subst (λ n. StatusMeans what root bundle n) (sym x.0) (inl x.1)
   has s (inr (inr (inr (inr x)))) =
       made_by (nat_eq s 3) (nat_eq s 4) (nat_eq s 13) (nat_eq s 5) s refl refl refl refl
       (execution_status what x.design x.scenario s x.text x.makes) x
@@ -142,9 +142,9 @@ module _ (one_design : OneDesign) (what : Execution) (root bundle : List ℕ) wh
 
   -- an answer is of such a status just if the bundle has what stands there
   pub exactly : (s n : ℕ) (a : List ℕ) → IsAlone what root bundle n → IsExecutionAnswer what root bundle s a
-      → (Has what root bundle n → Stands what root bundle n) → (s ≡ n) ↔ Has what root bundle n
+      → (StatusMeans what root bundle n → Stands what root bundle n) → (s ≡ n) ↔ StatusMeans what root bundle n
   exactly s n a alone x into = (
-    λ e. subst (λ m. Has what root bundle m) e (has what root bundle s (stands s a x)),
+    λ e. subst (λ m. StatusMeans what root bundle m) e (has what root bundle s (stands s a x)),
     λ h. same_status s n alone (stands s a x) (into h),
   )
 

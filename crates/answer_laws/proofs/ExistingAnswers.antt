@@ -15,10 +15,10 @@ use Rattle.pals_top.specs.AnalysisCommands.{Analysis}
 use Rattle.pals_top.specs.AnalysisCommands as analysis
 use Rattle.pals_top.specs.ExecutionCommands.{Execution}
 use Rattle.pals_top.specs.ExecutionCommands as execution
-use Rattle.pals_top.specs.CommandWords.{HasForm}
+use Rattle.pals_top.specs.CommandWords.{IsWithinRingLimits}
 use Rattle.pals_top.specs.BundleScenarios.{HasScenarioFault}
 use Rattle.pals_top.specs.AnalysisAnswers.{command_of as analysis_command, IsAnalysisAnswer}
-use Rattle.pals_top.specs.ExecutionAnswers.{command_of as execution_command, code_fault_line, IsExecutionAnswer}
+use Rattle.pals_top.specs.ExecutionAnswers.{command_of as execution_command, overlong_code_line, IsExecutionAnswer}
 use Rattle.pals_top.specs.proof.CodedBundles.{HasEvents}
 use Rattle.scenario_laws.specs.proof.ScenarioOrFault.{HasScenario, HasFault}
 use Rattle.answer_laws.specs.proof.BundleContents.{HasTree}
@@ -150,7 +150,7 @@ module _ (laws : ExistenceLaws) (root bundle : List ℕ) where
         → HasExecutionAnswer what root bundle
     by_codes d (inl (node, size, long)) = (
       CODE_TOO_LONG,
-      code_fault_line d.design node size ++ line_end,
+      overlong_code_line d.design node size ++ line_end,
       inr (inl (record {
         status_is = refl;
         design = d.design;
@@ -173,7 +173,7 @@ module _ (laws : ExistenceLaws) (root bundle : List ℕ) where
 
 -- ---- all commands that have a form
 module _ (laws : ExistenceLaws) where
-  pub has_answer : (command : Command) (bundle : List ℕ) → HasForm command → HasAnswer command bundle
+  pub has_answer : (command : Command) (bundle : List ℕ) → IsWithinRingLimits command → HasAnswer command bundle
   has_answer Print bundle form = by_tree bundle (tree_or_refused laws bundle)
   has_answer (Check root) bundle form = by_design root bundle (design_or_refused laws root bundle)
   has_answer (Sync root) bundle form = analysed laws analysis.Sync root bundle

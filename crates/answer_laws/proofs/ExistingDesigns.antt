@@ -2,7 +2,7 @@
 use Rattle.std.proofs.Common.{◌⊎◌, inl, inr, ℕ, List, [], ◌∷◌, ◌++◌, refl}
 use Rattle.aadl_tree.specs.proof.GivenTrees.{IsGiven}
 use Rattle.annex_resolve.specs.declared.violation.Violation.{Violation}
-use Rattle.aadl_instance.specs.FlattenedDesign.{Parts, IsFlat}
+use Rattle.aadl_instance.specs.FlattenedDesign.{InstanceParts, IsFlat}
 use Rattle.model_violations.specs.Violations.{shown_by, AreViolations}
 use Rattle.pals_model.specs.declared.design.DesignParts.{DesignParts}
 use Rattle.pals_model.specs.DesignRules.{IsDesign}
@@ -36,7 +36,7 @@ refused_in root bundle t written r = (
 )
 
 module _ (laws : ExistenceLaws) (root bundle : List ℕ) where
-  by_list : (t : HasTree bundle) (parts : Parts) → IsFlat t.tree root parts → (list : List Violation)
+  by_list : (t : HasTree bundle) (parts : InstanceParts) → IsFlat t.tree root parts → (list : List Violation)
       → AreViolations t.tree (shown_by t.tree parts) list
       → HasDesign root bundle ⊎ HasRefusal root bundle
   by_list t parts flat [] all =

@@ -11,7 +11,7 @@ use Rattle.pals_model.specs.RoundTexts.{line_end, report}
 use Rattle.pals_report.specs.ClockEndsAndVerdicts.{clock_end_line}
 use Rattle.pals_runs.specs.declared.journal.JournalEntry.{JournalEntry}
 use Rattle.pals_runs.specs.declared.journal.Stop.{Stop}
-use Rattle.scenario_json.specs.proof.InputsDelaysAndClocks.{IsOpening, AreClocksOf, AreClocksFor}
+use Rattle.scenario_json.specs.proof.InputsDelaysAndClocks.{IsUnpickedClock, AreClocksOf, AreClocksFor}
 use Rattle.scenario_json.specs.declared.scenario.Scenario.{Scenario}
 use Rattle.scenario_json.specs.proof.ScenarioValidity.{IsScenarioOf}
 use Rattle.bus_machine.specs.proof.AgreementLaws.{IsRunOf}
@@ -22,7 +22,7 @@ use Rattle.bus_machine.specs.ActionsAndTargets.{target}
 use Rattle.run_laws.specs.ListRunEndsAndStops.{AllAtEnd}
 use Rattle.run_laws.specs.proof.RunTermination.{HasCome, EachRunEnds, IsFirstEnded, EndsAreNamed}
 use Rattle.run_laws.specs.Meetings.{AllDone}
-use Rattle.run_laws.specs.Runs.{no_clock, clock_at, lists_in, AreFresh, Begin, Runs}
+use Rattle.run_laws.specs.Runs.{no_clock, clock_at, lists_in, AreFresh, HaveFreshClocks, Runs}
 use Rattle.run_laws.specs.proof.RunTraces.{AreReadings}
 use Rattle.run_texts.specs.RunTexts.{journal_text, IsCompletedRun, IsStoppedRun, IsEndedRun}
 use Rattle.run_texts.proofs.RunTexts.{outcome, completed, stopped}
@@ -33,7 +33,7 @@ use Rattle.pals_top.proofs.ScenarioRuns.{are_readings}
 
 -- ---- the clocks of a scenario
 module _ (run : Run) (clocks : List ClockState) (are : AreClocksOf run.design clocks) where
-  opening_at : (node : ℕ) → node < length clocks → IsOpening (clock_at clocks node)
+  opening_at : (node : ℕ) → node < length clocks → IsUnpickedClock (clock_at clocks node)
   opening_at node within = are.each node no_clock within
 
   fresh : AreFresh run clocks
@@ -43,7 +43,7 @@ module _ (run : Run) (clocks : List ClockState) (are : AreClocksOf run.design cl
     order = λ node within. (opening_at node within).order;
   }
 
-begins : (run : Run) (clocks : Clocks) → AreClocksFor run.design clocks → Begin run clocks
+begins : (run : Run) (clocks : Clocks) → AreClocksFor run.design clocks → HaveFreshClocks run clocks
 begins run Meet are = tt
 begins run (Lists clocks) are = fresh run clocks are
 

@@ -23,7 +23,7 @@ use Rattle.analysis_fields.specs.declared.replica_faults.FaultEnds.{FaultEnds}
 use Rattle.analysis_fields.specs.declared.replica_faults.RoundFault.{RoundFault}
 use Rattle.analysis_fields.specs.ReplicasAndFaults.{copies_at, kind_in, kind_at, with_fault_value, fault_values}
 use Rattle.analysis_fields.specs.ReplicasAndFaults.{ends_of, fault_behind, fault_of, fault_from, fault_in}
-use Rattle.analysis_fields.specs.ReplicasAndFaults.{is_same_place, with_fault, faults_in}
+use Rattle.analysis_fields.specs.ReplicasAndFaults.{has_same_key, with_fault, faults_in}
 use Rattle.analysis_texts.specs.ReplicasAndRoundFaults.{faults_of}
 use Rattle.scenario_json.specs.Scenarios.{field}
 use Rattle.kind_laws.specs.proof.VotedKinds.{FaultFits, FaultsFit}
@@ -126,9 +126,9 @@ one_more design replicas faults d more fit e =
     let place = inside (codes "faults") (decimal (length faults)) in
     let read =
     ok_bind (fault_in design replicas place d)
-    (λ f. only_if (not (list_any (is_same_place f) faults)) (OutOfRange place) (Ok (faults ++ f ∷ []))) more e in
+    (λ f. only_if (not (list_any (has_same_key f) faults)) (OutOfRange place) (Ok (faults ++ f ∷ []))) more e in
     let passed =
-    ok_only_if (not (list_any (is_same_place read.0) faults)) (OutOfRange place) (Ok (faults ++ read.0 ∷ []))
+    ok_only_if (not (list_any (has_same_key read.0) faults)) (OutOfRange place) (Ok (faults ++ read.0 ∷ []))
     more read.2 in
     let fits = in_fits design replicas place d read.0 read.1 in
     subst (All (RoundFaultFits design)) (ok_same (faults ++ read.0 ∷ []) more passed.1)

@@ -4,8 +4,8 @@ use Rattle.std.proofs.Common.{◌≡◌, ◌∙◌, ◌⊎◌, ◌↔◌, inl, i
 
 -- The status by what is there: a text, a design and a scenario, each of which has the ones before it. Where all are
 -- there the status is one of some.
-abbrev pub Ways : (ℕ → Type 0) → ℕ → Type 0 → Type 0 → Type 0 → Type 0
-Ways Done s text design scenario =
+abbrev pub StatusCase : (ℕ → Type 0) → ℕ → Type 0 → Type 0 → Type 0 → Type 0
+StatusCase Done s text design scenario =
     (Done s × scenario) ⊎ ((s ≡ 3) × (text → ⊥)) ⊎ ((s ≡ 4) × text × (design → ⊥)) ⊎ ((s ≡ 5) × design × (scenario → ⊥))
 
 apart : (s m n : ℕ) → s ≡ m → s ≡ n → (m ≡ n → ⊥) → ⊥
@@ -23,13 +23,13 @@ module _ (Done : ℕ → Type 0) (small : IsSmall Done) {text design scenario : 
   not_done : (s n : ℕ) → Done s → s ≡ n → 2 ≤ n → ⊥
   not_done s n d e large = let least = small s d in absurd (omega (arith, least, e, large))
 
-  pub done : (s : ℕ) → Ways Done s text design scenario → Done s ↔ scenario
+  pub done : (s : ℕ) → StatusCase Done s text design scenario → Done s ↔ scenario
   done s (inl x) = (λ d. x.1, λ h. x.0)
   done s (inr (inl x)) = (λ d. absurd (not_done s 3 d x.0 (omega arith)), λ h. absurd (x.1 (has_text (has_design h))))
   done s (inr (inr (inl x))) = (λ d. absurd (not_done s 4 d x.0 (omega arith)), λ h. absurd (x.2 (has_design h)))
   done s (inr (inr (inr x))) = (λ d. absurd (not_done s 5 d x.0 (omega arith)), λ h. absurd (x.2 h))
 
-  pub without_text : (s : ℕ) → Ways Done s text design scenario → (s ≡ 3) ↔ (text → ⊥)
+  pub without_text : (s : ℕ) → StatusCase Done s text design scenario → (s ≡ 3) ↔ (text → ⊥)
   without_text s (inl x) =
       (λ e. absurd (not_done s 3 x.0 e (omega arith)), λ none. absurd (none (has_text (has_design x.1))))
   without_text s (inr (inl x)) = (λ e. x.1, λ none. x.0)
@@ -38,14 +38,14 @@ module _ (Done : ℕ → Type 0) (small : IsSmall Done) {text design scenario : 
   without_text s (inr (inr (inr x))) =
       (λ e. absurd (apart s 5 3 x.0 e (λ n. absurd (omega arith))), λ none. absurd (none (has_text x.1)))
 
-  pub without_design : (s : ℕ) → Ways Done s text design scenario → (s ≡ 4) ↔ (text × (design → ⊥))
+  pub without_design : (s : ℕ) → StatusCase Done s text design scenario → (s ≡ 4) ↔ (text × (design → ⊥))
   without_design s (inl x) = (λ e. absurd (not_done s 4 x.0 e (omega arith)), λ h. absurd (h.1 (has_design x.1)))
   without_design s (inr (inl x)) = (λ e. absurd (apart s 3 4 x.0 e (λ n. absurd (omega arith))), λ h. absurd (x.1 h.0))
   without_design s (inr (inr (inl x))) = (λ e. (x.1, x.2), λ h. x.0)
   without_design s (inr (inr (inr x))) =
       (λ e. absurd (apart s 5 4 x.0 e (λ n. absurd (omega arith))), λ h. absurd (h.1 x.1))
 
-  pub without_scenario : (s : ℕ) → Ways Done s text design scenario → (s ≡ 5) ↔ (design × (scenario → ⊥))
+  pub without_scenario : (s : ℕ) → StatusCase Done s text design scenario → (s ≡ 5) ↔ (design × (scenario → ⊥))
   without_scenario s (inl x) = (λ e. absurd (not_done s 5 x.0 e (omega arith)), λ h. absurd (h.1 x.1))
   without_scenario s (inr (inl x)) =
       (λ e. absurd (apart s 3 5 x.0 e (λ n. absurd (omega arith))), λ h. absurd (x.1 (has_text h.0)))

@@ -7,7 +7,7 @@ use Rattle.aadl_tree.specs.TextTreesAndFaults.{IsTreeOf}
 use Rattle.aadl_grammar.proofs.CanonicalRoundTrip.{no_other}
 use Rattle.aadl_parse.specs.ParseResults.{IsFaultOfText}
 use Rattle.aadl_parse.proofs.UniqueParseResults.{one_text_fault, tree_or_fault}
-use Rattle.aadl_instance.specs.FlattenedDesign.{Parts}
+use Rattle.aadl_instance.specs.FlattenedDesign.{InstanceParts}
 use Rattle.annex_resolve.specs.declared.violation.Violation.{Violation}
 use Rattle.model_violations.specs.Violations.{shown_by, AreViolations}
 use Rattle.aadl_names.specs.declared.fault.PackageFault.{PackageFault}
@@ -106,7 +106,7 @@ one_list_text text tree root a b x y =
     let parts = one_instance tree root x.parts y.parts x.flat y.flat in
     let list =
     one_list tree (shown_by tree y.parts) x.list y.list
-    (subst (λ (p : Parts). AreViolations tree (shown_by tree p) x.list) parts x.all) y.all in
+    (subst (λ (p : InstanceParts). AreViolations tree (shown_by tree p) x.list) parts x.all) y.all in
     x.text_is ∙ (ap (λ (l : List Violation). text_of (violation_lines text l)) list ∙ sym y.text_is)
 
 pub fault_or_list : (text : List ℕ) (tree : PackageTree ℕ) (root a b : List ℕ) → IsFaulty text tree root a

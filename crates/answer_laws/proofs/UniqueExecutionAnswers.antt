@@ -10,7 +10,7 @@ use Rattle.scenario_json.specs.declared.scenario.Scenario.{Scenario}
 use Rattle.bundle_designs.specs.BundleMeanings.{IsAccepted}
 use Rattle.pals_top.specs.ExecutionCommands.{Execution}
 use Rattle.pals_top.specs.ExecutionAnswers.{command_of, Makes, IsExecuted, IsScenarioRefusedIn, IsCodeTooLong}
-use Rattle.pals_top.specs.ExecutionAnswers.{code_fault_line}
+use Rattle.pals_top.specs.ExecutionAnswers.{overlong_code_line}
 use Rattle.answer_laws.specs.proof.BundleContents.{HasLongCode}
 use Rattle.pals_top.specs.proof.PrivateFunctions.{is_run}
 use Rattle.answer_laws.specs.proof.UniquenessPremises.{OneDesign, ExecutionPremises}
@@ -78,7 +78,7 @@ module _ (one_design : OneDesign) (root bundle : List ℕ) where
       let first = subst (λ d. IsFirstTooLong d x.node.0 x.size) design x.too_long in
       let node = same_place y.design x.node.0 y.node.0 x.size y.size first y.too_long in
       let size = same_size y.design x.node.0 y.node.0 x.size y.size node first y.too_long in
-      x.text_is ∙ ((λ i. code_fault_line (design i) (node i) (size i) ++ line_end) ∙ sym y.text_is)
+      x.text_is ∙ ((λ i. overlong_code_line (design i) (node i) (size i) ++ line_end) ∙ sym y.text_is)
 
 module _ (one_design : OneDesign) (what : Execution) (root bundle : List ℕ) where
   -- ---- what is made

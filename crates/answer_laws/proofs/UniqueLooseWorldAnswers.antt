@@ -15,7 +15,7 @@ use Rattle.loose_world.specs.declared.loose_run.LooseEnd.{LooseEnd}
 use Rattle.loose_world.specs.declared.loose_run.LooseEnd.TheVariants as end
 use Rattle.loose_world.specs.MachineSteps.{AllStep, StepsToStop, StepsToFault}
 use Rattle.loose_world.specs.proof.EventsAsSteps.{StepsTo}
-use Rattle.loose_world.specs.proof.UniqueEnds.{IsOneLeft, AreSameEnd, OneEnd}
+use Rattle.loose_world.specs.proof.UniqueEnds.{LeaveTheSame, AreSameEnd, OneEnd}
 use Rattle.pals_top.specs.proof.LooseWorldEnds.{status_at}
 use Rattle.pals_top.specs.LooseWorlds.{IsWorldAnswer}
 use Rattle.pals_top.specs.BundleScenarios.{run_of}
@@ -73,7 +73,7 @@ end_of design scenario s a (inr (inr x)) =
 
 -- what is left there is told alike
 told_alike : (run : Run) (events : List Event) (how : LooseEnd) (t u : BusState) (journal more : List JournalEntry)
-    → IsOneLeft how t u journal more
+    → LeaveTheSame how t u journal more
     → told_at run events how t journal ≡ told_at run events how u more
 told_alike run events end.All t u journal more same = refl
 told_alike run events (end.Stopped why) t u journal more same =

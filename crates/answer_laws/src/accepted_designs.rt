@@ -4,7 +4,7 @@ ghost use Rattle.std.specs.Prelude.{ℕ, List, []};
 ghost use Rattle.pals_model.specs.declared.design.DesignParts.{DesignParts};
 ghost use Rattle.pals_model.specs.DesignRules.{IsDesign};
 ghost use Rattle.aadl_tree.specs.Declarations.{PackageTree};
-ghost use Rattle.aadl_instance.specs.FlattenedDesign.{Parts, IsFlat};
+ghost use Rattle.aadl_instance.specs.FlattenedDesign.{InstanceParts, IsFlat};
 ghost use Rattle.model_violations.specs.Violations.{shown_by, AreViolations};
 ghost use Rattle.bundle_designs.specs.ParsedBundles.{IsParsed};
 ghost use Rattle.bundle_designs.specs.BundleMeanings.{IsAccepted};
@@ -18,7 +18,7 @@ use design_laws::packages::designs_of_texts_keep_their_rules;
 pub fn accepted_designs_keep_their_rules()
     ensures rules { (root bundle : List ℕ) (design : DesignParts) (scenario : List ℕ)
         → IsAccepted root bundle design scenario → IsDesign design }
-    ensures there { (root bundle text scenario : List ℕ) (tree : PackageTree ℕ) (parts : Parts) → IsParsed bundle text scenario tree
+    ensures there { (root bundle text scenario : List ℕ) (tree : PackageTree ℕ) (parts : InstanceParts) → IsParsed bundle text scenario tree
         → IsFlat tree root parts → AreViolations tree (shown_by tree parts) [] → MeansDesign root bundle }
 {
     designs_of_texts_keep_their_rules();

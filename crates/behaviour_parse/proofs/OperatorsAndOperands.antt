@@ -14,8 +14,8 @@ use Rattle.aadl_tree.specs.declared.expressions.LogicOperator.TheVariants as log
 use Rattle.aadl_tree.specs.declared.expressions.Factor.{Factor}
 use Rattle.aadl_tree.specs.declared.expressions.Term.{Term}
 use Rattle.aadl_tree.specs.declared.expressions.Relation.{Relation}
-use Rattle.aadl_tree.specs.Terminals.{mark, Spot}
-use Rattle.aadl_tree.specs.SpellingParts.{Part, plain}
+use Rattle.aadl_tree.specs.Terminals.{mark, PlacedTerminal}
+use Rattle.aadl_tree.specs.SpellingParts.{SpellingPart, plain}
 use Rattle.aadl_tree.specs.Values.{sign_mark}
 use Rattle.aadl_tree.specs.Expressions as e
 use Rattle.aadl_tree.specs.proof.ExpressionViews.{factor_view, factors_view, term_view, terms_view, relation_view}
@@ -56,7 +56,7 @@ compares compare.LessOrEqual = refl
 compares compare.Greater = refl
 compares compare.GreaterOrEqual = refl
 
-pub joined : (o : LogicOperator) (outer end : ℕ) (below : Stack) (ss rest : List Spot)
+pub joined : (o : LogicOperator) (outer end : ℕ) (below : Stack) (ss rest : List PlacedTerminal)
     → outer + depth below ≤ GREATEST_NESTING → Joins o ss rest
     → fate outer end (s.relations ∷ below) ss ≡ fate outer end (s.relation ∷ s.relations ∷ below) rest
 unfolding move depth
@@ -76,7 +76,7 @@ joined logic.OrElse outer end below ss rest h (mid, l, m) =
     takes_row outer end s.relations below l refl (omega arith)
     ∙ takes_row outer end s.after_or (s.relations ∷ below) m refl (omega arith)
 
-pub joined_reads : (o : LogicOperator) {ps : List (Part ℕ)} {ss mid rest : List Spot} → Joins o ss mid
+pub joined_reads : (o : LogicOperator) {ps : List (SpellingPart ℕ)} {ss mid rest : List PlacedTerminal} → Joins o ss mid
     → Reads ps mid rest → Reads (e.logic_parts o ++ ps) ss rest
 joined_reads logic.And (l, miss) a = marked l a
 joined_reads logic.Or (l, miss) a = marked l a
@@ -84,7 +84,7 @@ joined_reads logic.Xor l a = marked l a
 joined_reads logic.AndThen (mid, l, m) a = marked l (marked m a)
 joined_reads logic.OrElse (mid, l, m) a = marked l (marked m a)
 
-pub joined_shorter : (o : LogicOperator) {ps : List (Part ℕ)} (ss mid rest : List Spot) → Joins o ss mid
+pub joined_shorter : (o : LogicOperator) {ps : List (SpellingPart ℕ)} (ss mid rest : List PlacedTerminal) → Joins o ss mid
     → Reads ps mid rest → length rest < length ss
 joined_shorter logic.And ss next rest (l, miss) a = shorter l a
 joined_shorter logic.Or ss next rest (l, miss) a = shorter l a
@@ -103,8 +103,8 @@ factors_listed (y ∷ xs) o x =
     (sym (append_assoc (e.factor_parts (factor_view kept_place y.1)) (e.factors_parts (factors_view kept_place xs))
     (plain (e.multiply_mark o) ∷ e.factor_parts (factor_view kept_place x))))
 
-pub factors_push : (ps : List (Part ℕ)) (xs ys : List (MultiplyOperator × Factor)) (o : MultiplyOperator) (x : Factor)
-    {ss mid rest : List Spot} → ys ≡ xs ++ (o, x) ∷ []
+pub factors_push : (ps : List (SpellingPart ℕ)) (xs ys : List (MultiplyOperator × Factor)) (o : MultiplyOperator) (x : Factor)
+    {ss mid rest : List PlacedTerminal} → ys ≡ xs ++ (o, x) ∷ []
     → Reads (ps ++ e.factors_parts (factors_view kept_place xs)) ss mid
     → Reads (plain (e.multiply_mark o) ∷ e.factor_parts (factor_view kept_place x)) mid rest
     → Reads (ps ++ e.factors_parts (factors_view kept_place ys)) ss rest
@@ -123,7 +123,7 @@ terms_listed (y ∷ xs) o x =
     (sym (append_assoc (e.term_parts (term_view kept_place y.1)) (e.terms_parts (terms_view kept_place xs))
     (plain (sign_mark o) ∷ e.term_parts (term_view kept_place x))))
 
-pub terms_push : (ps : List (Part ℕ)) (xs ys : List (Sign × Term)) (o : Sign) (x : Term) {ss mid rest : List Spot}
+pub terms_push : (ps : List (SpellingPart ℕ)) (xs ys : List (Sign × Term)) (o : Sign) (x : Term) {ss mid rest : List PlacedTerminal}
     → ys ≡ xs ++ (o, x) ∷ [] → Reads (ps ++ e.terms_parts (terms_view kept_place xs)) ss mid
     → Reads (plain (sign_mark o) ∷ e.term_parts (term_view kept_place x)) mid rest
     → Reads (ps ++ e.terms_parts (terms_view kept_place ys)) ss rest
@@ -146,8 +146,8 @@ relations_listed (y ∷ xs) o x =
     (e.relation_parts (relation_view kept_place y.1) ++ e.relations_parts (relations_view kept_place xs))
     (e.logic_parts o ++ e.relation_parts (relation_view kept_place x)))
 
-pub relations_push : (ps : List (Part ℕ)) (xs ys : List (LogicOperator × Relation)) (o : LogicOperator) (x : Relation)
-    {ss mid rest : List Spot} → ys ≡ xs ++ (o, x) ∷ []
+pub relations_push : (ps : List (SpellingPart ℕ)) (xs ys : List (LogicOperator × Relation)) (o : LogicOperator) (x : Relation)
+    {ss mid rest : List PlacedTerminal} → ys ≡ xs ++ (o, x) ∷ []
     → Reads (ps ++ e.relations_parts (relations_view kept_place xs)) ss mid
     → Reads (e.logic_parts o ++ e.relation_parts (relation_view kept_place x)) mid rest
     → Reads (ps ++ e.relations_parts (relations_view kept_place ys)) ss rest

@@ -2,7 +2,7 @@
 use Rattle.std.proofs.Common.{◌≡◌, sym, ℕ, ◌-◌, ◌<◌, ◌∙◌, ap, subst, refl, List, [], ◌∷◌, length, get_or, arith, suc}
 use Rattle.aadl_lex.specs.declared.token.Token.{Token}
 use Rattle.aadl_tree.proofs.ConcatenatedSpellings.{written_spells}
-use Rattle.aadl_tree.specs.Terminals.{Spot, spots_from, kinds_of}
+use Rattle.aadl_tree.specs.Terminals.{PlacedTerminal, spots_from, kinds_of}
 use Rattle.std.specs.Prelude.{true, IfErr, Result, Ok, Err}
 use Rattle.std.specs.Result.{IsErrAnd}
 use Rattle.aadl_tree.specs.SpellingParts.{Written}
@@ -33,7 +33,7 @@ pub only_one : (text : List ℕ) (tokens : List Token) (t u : AnnexTree ℕ) →
     → IsBehaviourOf text tokens u → u ≡ t
 only_one text tokens t u a b = one_placed_behaviour (spots_from true text tokens) u t b.written a.written
 
-pub tree_of : (text : List ℕ) (tokens : List Token) (end : ℕ) (t : AnnexTree ℕ) (rest : List Spot)
+pub tree_of : (text : List ℕ) (tokens : List Token) (end : ℕ) (t : AnnexTree ℕ) (rest : List PlacedTerminal)
     → fate 1 end annex_body (spots_from true text tokens) ≡ fate 1 end [] rest
     → Reads (annex_tree_parts t) (spots_from true text tokens) rest → rest ≡ []
     → IsOnlyBehaviourOf text tokens t
@@ -43,7 +43,7 @@ tree_of text tokens end t rest f a e =
     (f ∙ ap (fate 1 end []) e ∙ fate_end 1 end) in
     let given : IsBehaviourOf text tokens t =
     record {
-      written = subst (λ (l : List Spot). Written (annex_tree_parts t) (spots_from true text tokens) l) e
+      written = subst (λ (l : List PlacedTerminal). Written (annex_tree_parts t) (spots_from true text tokens) l) e
           a.written;
       shallow = both.1;
     } in
@@ -63,27 +63,27 @@ end_last (t ∷ u ∷ ts) d some =
     ap (λ (k : ℕ). (get_or (t ∷ u ∷ ts) k d).end) e ∙ end_last (u ∷ ts) d (omega arith)
 
 -- the fault of the behaviour itself
-pub at_fault : (text : List ℕ) (tokens : List Token) (end : ℕ) (ss : List Spot) (e : ParseFault) → end ≡ end_of tokens
+pub at_fault : (text : List ℕ) (tokens : List Token) (end : ℕ) (ss : List PlacedTerminal) (e : ParseFault) → end ≡ end_of tokens
     → ss ≡ spots_from true text tokens → FailsAs (fate 1 end annex_body ss) e → IsFaultOfBehaviour text tokens e
 at_fault text tokens end ss e a b f =
-    faults text tokens e (subst (λ (l : List Spot). FailsAs (fate 1 (end_of tokens) annex_body l) e) b
+    faults text tokens e (subst (λ (l : List PlacedTerminal). FailsAs (fate 1 (end_of tokens) annex_body l) e) b
     (subst (λ (n : ℕ). FailsAs (fate 1 n annex_body ss) e) a f))
 
 -- a terminal is left behind the behaviour
-pub left_fault : (text : List ℕ) (tokens : List Token) (end : ℕ) (ss rest : List Spot) (at : ℕ) → end ≡ end_of tokens
+pub left_fault : (text : List ℕ) (tokens : List Token) (end : ℕ) (ss rest : List PlacedTerminal) (at : ℕ) → end ≡ end_of tokens
     → ss ≡ spots_from true text tokens → fate 1 end annex_body ss ≡ fate 1 end [] rest → 0 < length rest
     → at ≡ place end rest → IsFaultOfBehaviour text tokens (Syntax at)
 left_fault text tokens end ss [] at a b c d e = absurd (omega arith)
 left_fault text tokens end ss (x ∷ more) at a b c d e =
     at_fault text tokens end ss (Syntax at) a b (c ∙ fate_left 1 end x more ∙ ap syntax_at (sym e))
 
-pub at_tree : (text : List ℕ) (tokens : List Token) (end : ℕ) (ss : List Spot) (t : AnnexTree ℕ) (rest : List Spot)
+pub at_tree : (text : List ℕ) (tokens : List Token) (end : ℕ) (ss : List PlacedTerminal) (t : AnnexTree ℕ) (rest : List PlacedTerminal)
     → ss ≡ spots_from true text tokens → fate 1 end annex_body ss ≡ fate 1 end [] rest
     → Reads (annex_tree_parts t) ss rest → rest ≡ []
     → IsOnlyBehaviourOf text tokens t
 at_tree text tokens end ss t rest b f a e =
-    tree_of text tokens end t rest (subst (λ (l : List Spot). fate 1 end annex_body l ≡ fate 1 end [] rest) b f)
-    (subst (λ (l : List Spot). Reads (annex_tree_parts t) l rest) b a) e
+    tree_of text tokens end t rest (subst (λ (l : List PlacedTerminal). fate 1 end annex_body l ≡ fate 1 end [] rest) b f)
+    (subst (λ (l : List PlacedTerminal). Reads (annex_tree_parts t) l rest) b a) e
 
 pub residual : {X : Type 0} (P : ParseFault → Type 0) (e : ParseFault) (result : Result X ParseFault)
     → IsErrAnd result (λ y. y ≡ e) → P e → IfErr result P

@@ -19,7 +19,7 @@ use Rattle.pals_base.proofs.TreeViews.{action_of-If, action_of-For}
 use Rattle.behaviour_sem.specs.declared.early_end.EarlyEnd.{EarlyEnd}
 use Rattle.behaviour_sem.specs.declared.early_end.EarlyEnd.TheVariants as stop
 use Rattle.behaviour_sem.specs.proof.ReadableFrames.{frame_of}
-use Rattle.behaviour_sem.specs.proof.StepOutcomes.{Left, Chose}
+use Rattle.behaviour_sem.specs.proof.StepOutcomes.{IsStepResult, IsBranchResult}
 
 -- ---- trees
 pub act-If : (branches : Vec Branch Global) (otherwise : Vec Act Global) (frame : Frame) (fresh : List Bool)
@@ -39,7 +39,7 @@ turn_after depth body held fresh number so_far =
 
 -- ---- answers
 pub Left-chose-err : {A : Type 0} (s : EarlyEnd) (reached before reached' : A) (otherwise meant : Result A Trap)
-    → Chose (Err s) reached before otherwise meant → Left (Err s) reached' meant
+    → IsBranchResult (Err s) reached before otherwise meant → IsStepResult (Err s) reached' meant
 Left-chose-err (stop.Trapped trap) reached before reached' otherwise meant chose = chose
 Left-chose-err stop.NoMemory reached before reached' otherwise meant chose = tt
 

@@ -11,7 +11,7 @@ use Rattle.pals_base.specs.PlainTrees.{Edge}
 use Rattle.behaviour_sem.specs.declared.early_end.EarlyEnd.{EarlyEnd}
 use Rattle.behaviour_sem.specs.declared.early_end.EarlyEnd.TheVariants as stop
 use Rattle.behaviour_sem.specs.proof.ReadableFrames.{frame_of}
-use Rattle.behaviour_sem.specs.proof.StepOutcomes.{Left}
+use Rattle.behaviour_sem.specs.proof.StepOutcomes.{IsStepResult}
 use Rattle.behaviour_sem.specs.proof.ActionExecution.{effect}
 use Rattle.behaviour_sem.specs.proof.TransitionMoves.{goes, move}
 use Rattle.behaviour_sem.specs.declared.transitions.StepState.{StepState}
@@ -21,7 +21,7 @@ use Rattle.behaviour_sem.proofs.StateIndependence.{acts-seen, opens-seen}
 -- ---- stops
 -- what stops a run stops all that goes on from it
 pub Left-stops : {A B : Type 0} (s : EarlyEnd) (first : Result A Trap) (go : A → Result B Trap) (reached : A)
-    (reached' : B) → Left (Err s) reached first → Left (Err s) reached' (on_value first go)
+    (reached' : B) → IsStepResult (Err s) reached first → IsStepResult (Err s) reached' (on_value first go)
 Left-stops (stop.Trapped trap) first go reached reached' left = ap (λ r. on_value r go) left
 Left-stops stop.NoMemory first go reached reached' left = tt
 
@@ -35,8 +35,8 @@ along-ran e at fresh vars outs ran =
     (acts-seen e.actions at.frame fresh at.outs ∙ ran)
 
 pub along-stops : (s : EarlyEnd) (e : Edge) (at : Fired) (fresh : List Bool) (reached : Effect) (reached' : Fired)
-    → Left (Err s) reached (acts e.actions (frame_of at.frame.vars at.frame.held) fresh at.outs)
-    → Left (Err s) reached' (along (Some e) fresh at)
+    → IsStepResult (Err s) reached (acts e.actions (frame_of at.frame.vars at.frame.held) fresh at.outs)
+    → IsStepResult (Err s) reached' (along (Some e) fresh at)
 along-stops (stop.Trapped trap) e at fresh reached reached' left =
     ap (λ r. on_value r (λ (done : Effect).
     Ok (record { frame = record at.frame { state = e.target; vars = done.vars }; outs = done.outs })))

@@ -1,7 +1,7 @@
 //! One step of a behaviour.
 ghost use Rattle.std.specs.Prelude.{◌≡◌, IfOk, OnOk, None, length, map, replicate, slice_index_or};
 ghost use Rattle.pals_base.specs.SingleStep.{fire, held_of, holding, is_present};
-ghost use Rattle.behaviour_sem.specs.proof.StepOutcomes.{Left};
+ghost use Rattle.behaviour_sem.specs.proof.StepOutcomes.{IsStepResult};
 ghost use Rattle.behaviour_sem.specs.proof.PartialSteps.{reacted};
 
 use crate::early_end::EarlyEnd;
@@ -114,7 +114,7 @@ fn react_in(
     outs: &mut [PortValue],
 ) -> Result<(), EarlyEnd>
     requires { frame.old.halt ≡ None }
-    ensures reacts { Left result (record { frame = frame.new; outs = outs.new })
+    ensures reacts { IsStepResult result (record { frame = frame.new; outs = outs.new })
         (reacted behaviour.now frame.old.state (map is_present present.now) (record { frame = frame.old; outs = outs.old })) }
     ensures vars { length frame.new.vars ≡ length frame.old.vars }
     ensures held { frame.new.held ≡ frame.old.held }

@@ -4,7 +4,7 @@ use Rattle.std.specs.Int.{◌∣◌}
 use Rattle.std.proofs.Math.Nat.{mul_comm, dvd-mod_iff, dvd-sub, dvd-mul_left, dvd-mul_right, dvd-mul_right_of_dvd}
 use Rattle.std.proofs.Math.Nat.{dvd_refl, dvd-zero, mul-dvd-mul_left, mul-dvd-mul_right, dvd_of_mul-dvd-mul_right}
 use Rattle.std.proofs.Math.Nat.{pos_of_dvd_of_pos, div-mul_cancel, mul-div_cancel'}
-use Rattle.bound_checker.specs.proof.DivisorsAndMultiples.{IsGreatestDivisor, IsLeastCommon}
+use Rattle.bound_checker.specs.proof.DivisorsAndMultiples.{IsGreatestCommonDivisor, IsLeastCommonMultiple}
 
 -- ---- Euclid's steps
 rest_times : (n a b : ℕ) → n * a - n * b * (a / b) ≡ n * (a % b)
@@ -13,7 +13,7 @@ rest_times n a b =
     let spread : n * a ≡ n * b * (a / b) + n * (a % b) = ap (λ x. n * x) whole ∙ omega arith in
     omega arith
 
-pub divisor_from_rest : (a b d : ℕ) → IsGreatestDivisor b (a % b) d → IsGreatestDivisor a b d
+pub divisor_from_rest : (a b d : ℕ) → IsGreatestCommonDivisor b (a % b) d → IsGreatestCommonDivisor a b d
 divisor_from_rest a b d found = record {
   left = (dvd-mod_iff d found.left).0 found.right;
   right = found.left;
@@ -21,22 +21,22 @@ divisor_from_rest a b d found = record {
       (subst (λ x. m ∣ x) (rest_times n a b) (dvd-sub m of_a (dvd-mul_right_of_dvd m of_b (a / b))));
 }
 
-pub divisor_of_0 : (a b : ℕ) → b ≡ 0 → IsGreatestDivisor a b a
+pub divisor_of_0 : (a b : ℕ) → b ≡ 0 → IsGreatestCommonDivisor a b a
 divisor_of_0 a b none =
-    subst (λ x. IsGreatestDivisor a x a) (sym none)
+    subst (λ x. IsGreatestCommonDivisor a x a) (sym none)
     (record { left = dvd_refl a; right = dvd-zero a; greatest = λ n m of_a of_0. of_a })
 
-pub some_divisor : (a b d : ℕ) → 0 < a → IsGreatestDivisor a b d → 0 < d
+pub some_divisor : (a b d : ℕ) → 0 < a → IsGreatestCommonDivisor a b d → 0 < d
 some_divisor a b d some found = pos_of_dvd_of_pos found.left some
 
 -- ---- the least common multiple
-pub some_multiple : (a b d : ℕ) → 0 < a → 0 < b → IsGreatestDivisor a b d → 0 < a / d * b
+pub some_multiple : (a b d : ℕ) → 0 < a → 0 < b → IsGreatestCommonDivisor a b d → 0 < a / d * b
 some_multiple a b d some_a some_b found =
     let whole : a / d * d ≡ a = div-mul_cancel d found.left in
     let some_times : 0 < a / d = grind arith in
     grind arith
 
-pub multiple_from_divisor : (a b d : ℕ) → 0 < a → IsGreatestDivisor a b d → IsLeastCommon a b (a / d * b)
+pub multiple_from_divisor : (a b d : ℕ) → 0 < a → IsGreatestCommonDivisor a b d → IsLeastCommonMultiple a b (a / d * b)
 multiple_from_divisor a b d some found =
     let whole_a : a / d * d ≡ a = div-mul_cancel d found.left in
     let whole_b : d * (b / d) ≡ b = mul-div_cancel' d found.right in

@@ -13,7 +13,7 @@ use Rattle.pals_base.specs.PeriodBound.{least_period}
 use Rattle.pals_base.specs.declared.limits.TheConstants.{HOUR}
 use Rattle.bound_checker.specs.proof.OverflowLimits.{IsWithinHour, IsRate}
 use Rattle.bound_checker.specs.ShortestPeriods.{greatest_rate, IsSuited, IsLeastMultiple, HasNoMultiple}
-use Rattle.bound_checker.specs.proof.DivisorsAndMultiples.{IsLeastCommon}
+use Rattle.bound_checker.specs.proof.DivisorsAndMultiples.{IsLeastCommonMultiple}
 use Rattle.bound_checker.specs.proof.RateMultiples.{HasMultiplesOf}
 
 -- ---- lists
@@ -42,7 +42,7 @@ multiples_of_none = record {
 }
 
 pub multiples_of_more : (rates : List ℕ) (rate common next : ℕ) → HasMultiplesOf rates common → 0 < next
-    → IsLeastCommon common rate next
+    → IsLeastCommonMultiple common rate next
     → HasMultiplesOf (rates ++ rate ∷ []) (min next (HOUR + 1))
 multiples_of_more rates rate common next so_far some least = record {
   some_time = omega arith;

@@ -1,10 +1,10 @@
 //! Common divisors and multiples.
 ghost use Rattle.std.specs.Prelude.{◌*◌, ◌^◌, ◌<◌};
-ghost use Rattle.bound_checker.specs.proof.DivisorsAndMultiples.{IsGreatestDivisor, IsLeastCommon};
+ghost use Rattle.bound_checker.specs.proof.DivisorsAndMultiples.{IsGreatestCommonDivisor, IsLeastCommonMultiple};
 
 // The greatest number that divides both, by Euclid.
 fn gcd(a: u64, b: u64) -> u64
-    ensures { IsGreatestDivisor a b result }
+    ensures { IsGreatestCommonDivisor a b result }
 {
     let mut high = a;
     let mut low = b;
@@ -22,7 +22,7 @@ pub fn lcm(a: u64, b: u64) -> u64
     requires right { 0 < b }
     requires fits { a * b < 2 ^ 64 }
     ensures positive { 0 < result }
-    ensures least { IsLeastCommon a b result }
+    ensures least { IsLeastCommonMultiple a b result }
 {
     a / gcd(a, b) * b
 }

@@ -2,7 +2,7 @@
 use Rattle.std.specs.Prelude.{ℕ, ◌≡◌, ◌≢◌, List, [], ◌++◌, ◌⊎◌}
 use Rattle.aadl_tree.specs.Declarations.{PackageTree}
 use Rattle.aadl_names.specs.declared.fault.PackageFault.{PackageFault}
-use Rattle.aadl_instance.specs.FlattenedDesign.{Parts, IsFlat}
+use Rattle.aadl_instance.specs.FlattenedDesign.{InstanceParts, IsFlat}
 use Rattle.aadl_instance.specs.Faults.{IsFault}
 use Rattle.annex_resolve.specs.declared.violation.Violation.{Violation}
 use Rattle.model_violations.specs.Violations.{shown_by, AreViolations}
@@ -24,7 +24,7 @@ pub record IsFaulty (text : List ℕ) (tree : PackageTree ℕ) (root written : L
 
 -- Something is wrong with the instance, and the text names all that is.
 pub record HasViolations (text : List ℕ) (tree : PackageTree ℕ) (root written : List ℕ) : Type 0 where
-  pub parts : Parts
+  pub parts : InstanceParts
   pub flat : IsFlat tree root parts
   pub list : List Violation
   pub all : AreViolations tree (shown_by tree parts) list

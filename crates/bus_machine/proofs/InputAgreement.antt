@@ -18,7 +18,7 @@ use Rattle.pals_model.specs.declared.design.Feed.{Feed}
 use Rattle.pals_model.specs.declared.design.DesignParts.{DesignParts}
 use Rattle.pals_model.specs.declared.port_sources.PortSource.{PortSource}
 use Rattle.pals_model.specs.declared.port_sources.PortSource.TheVariants as source
-use Rattle.pals_model.specs.ComponentInputs.{values_at, feed, inputs_in, source_of, sources_of, reading, read_feed}
+use Rattle.pals_model.specs.ComponentInputs.{values_at, input_vectors, inputs_in, source_of, sources_of, brought_tuple, read_feed}
 use Rattle.pals_model.specs.ComponentInputs.{read_link}
 use Rattle.pals_model.specs.PortKinds.{rate_of}
 use Rattle.pals_model.specs.Composition.{comp, msg}
@@ -53,7 +53,7 @@ Stands design messages src slot =
 
 port_brings : (design : DesignParts) (rate : ℕ) (values : List PortValue) (messages : List (List PortValue))
     (src : PortSource) (slot : Option (List PortValue)) → Stands design messages src slot
-    → brought rate values (input_of design src) slot ≡ reading design values messages rate src
+    → brought rate values (input_of design src) slot ≡ brought_tuple design values messages rate src
 port_brings design rate values messages source.Nothing slot stands = refl
 port_brings design rate values messages (source.Feed f root) slot stands =
     feed_brings rate root values slot (slice_get design.feeds f)
@@ -67,7 +67,7 @@ ports_bring : (design : DesignParts) (rate : ℕ) (values : List PortValue) (mes
     → ((k : ℕ) (src : PortSource) → slice_get sources k ≡ Some src
     → Stands design messages src (slice_index_or slots k None))
     → map (λ p. brought rate values p.0 p.1) (zip (map (input_of design) sources) slots)
-    ≡ map (reading design values messages rate) sources
+    ≡ map (brought_tuple design values messages rate) sources
 ports_bring design rate values messages [] slots same stands = refl
 ports_bring design rate values messages (src ∷ sources) [] same stands = absurd (omega arith)
 ports_bring design rate values messages (src ∷ sources) (slot ∷ slots) same stands =
@@ -153,8 +153,8 @@ pub vectors_agree : (run : Run) (node : ℕ) (c : Component) (n : NodeState)
     → slice_get run.design.components node ≡ Some c → SlotsAgree run node n → length n.slots ≡ length c.behaviour.ins
     → missing (plan_for run.design node c) n ≡ None
     → vectors_of (plan_for run.design node c) (values_at run.env n.count) n.slots
-    ≡ feed run.design run.env (comp run.design run.env n.count).messages node n.count
-unfolding feed
+    ≡ input_vectors run.design run.env (comp run.design run.env n.count).messages node n.count
+unfolding input_vectors
 vectors_agree run node c n is_c agree size none =
     let messages = (comp run.design run.env n.count).messages in
     let same : length n.slots ≡ length (sources_of run.design node c) = size ∙ sym (length_sources run.design node c) in

@@ -22,8 +22,8 @@ use Rattle.pals_model.specs.declared.design.Component.{Component}
 use Rattle.pals_model.specs.declared.design.Link.{Link}
 use Rattle.pals_model.specs.declared.design.Tap.{Tap}
 use Rattle.pals_model.specs.declared.part.Part.{Part}
-use Rattle.pals_model.specs.ComponentInputs.{values_at, feed}
-use Rattle.pals_model.specs.Composition.{comp, state, msg, part, taps_of, own_steps_so_far}
+use Rattle.pals_model.specs.ComponentInputs.{values_at, input_vectors}
+use Rattle.pals_model.specs.Composition.{comp, state, msg, part, taps_of, partial_steps}
 use Rattle.pals_model.specs.proof.CompositionLaws.{own_steps}
 use Rattle.pals_model.specs.proof.CompositionLaws.Steps.{stepped_on}
 use Rattle.pals_model.specs.DesignRules.{IsDesign}
@@ -57,7 +57,7 @@ pub starts : (run : Run) (node : ℕ) (c : Component) (n : NodeState) → slice_
 starts run node c n is_c rate agree slots waits none =
     let phase = subst (PhaseAgrees run node c n) waits agree.phase in
     let rest = phase.0 in
-    let begins : own_steps_so_far run.design run.env node n.count c 0 ≡ record {
+    let begins : partial_steps run.design run.env node n.count c 0 ≡ record {
       frame =
           state run.design run.env node n.count;
       tuples = replicate (length c.behaviour.outs) (replicate c.rate Absent);
@@ -110,9 +110,9 @@ one_further : (run : Run) (node : ℕ) (c : Component) (n : NodeState) (step : �
     → slice_get run.design.components node ≡ Some c → IsDesign run.design → step < c.rate
     → (w : IsUnderWay run node c n step)
     → stepped_on c.behaviour step (slice_index_or n.vectors step []) (reached n)
-    ≡ own_steps_so_far run.design run.env node w.round c (suc step)
+    ≡ partial_steps run.design run.env node w.round c (suc step)
 one_further run node c n step is_c design within w =
-    let vectors = feed run.design run.env (comp run.design run.env w.round).messages node w.round in
+    let vectors = input_vectors run.design run.env (comp run.design run.env w.round).messages node w.round in
     let count : length vectors ≡ c.rate =
     (feed_has_vectors run.design run.env (comp run.design run.env w.round).messages node w.round c is_c).count in
     let is : slice_get vectors step ≡ Some (slice_index_or n.vectors step []) =
@@ -128,7 +128,7 @@ ended : (run : Run) (node : ℕ) (c : Component) (n : NodeState) (step : ℕ)
     ≡ own_steps run.design run.env node w.round c
 ended run node c n step is_c design within last w =
     let all : suc step ≡ c.rate = omega arith in
-    one_further run node c n step is_c design within w ∙ ap (own_steps_so_far run.design run.env node w.round c) all
+    one_further run node c n step is_c design within w ∙ ap (partial_steps run.design run.env node w.round c) all
     ∙ round_ends run.design run.env node w.round c is_c
 
 part_ends : (run : Run) (node : ℕ) (c : Component) (n : NodeState) (step : ℕ)
@@ -196,7 +196,7 @@ goes_between run node c n step is_c design agree round more =
             count = w.count;
             reached =
                 one_further run node c n step is_c design round.within w
-                ∙ ap (own_steps_so_far run.design run.env node w.round c) (sym (add-one step));
+                ∙ ap (partial_steps run.design run.env node w.round c) (sym (add-one step));
             vectors = w.vectors;
           };
           finished = round.finished;
@@ -240,7 +240,7 @@ goes_to_end run node c n step is_c design agree round last =
       count = w.count;
       reached =
           one_further run node c n step is_c design round.within w
-          ∙ ap (own_steps_so_far run.design run.env node w.round c) every;
+          ∙ ap (partial_steps run.design run.env node w.round c) every;
       vectors = w.vectors;
     } in
     record {
@@ -380,18 +380,18 @@ may_send_of run node c n agree may =
 -- the places that are sent do not change in later steps
 later_places : (run : Run) (node round : ℕ) (c : Component) (count port left steps : ℕ)
     → slice_get run.design.components node ≡ Some c → IsDesign run.design → count ≤ steps → steps + left ≡ c.rate
-    → cut count (slice_index_or (own_steps_so_far run.design run.env node round c steps).tuples port [])
-    ≡ cut count (slice_index_or (own_steps_so_far run.design run.env node round c c.rate).tuples port [])
+    → cut count (slice_index_or (partial_steps run.design run.env node round c steps).tuples port [])
+    ≡ cut count (slice_index_or (partial_steps run.design run.env node round c c.rate).tuples port [])
 later_places run node round c count port zero steps is_c design below all =
     let same : steps ≡ c.rate = omega arith in
-    ap (λ k. cut count (slice_index_or (own_steps_so_far run.design run.env node round c k).tuples port [])) same
+    ap (λ k. cut count (slice_index_or (partial_steps run.design run.env node round c k).tuples port [])) same
 later_places run node round c count port (suc left) steps is_c design below all =
-    let vectors = feed run.design run.env (comp run.design run.env round).messages node round in
+    let vectors = input_vectors run.design run.env (comp run.design run.env round).messages node round in
     let inputs = slice_index_or vectors steps [] in
     let size : length vectors ≡ c.rate =
     (feed_has_vectors run.design run.env (comp run.design run.env round).messages node round c is_c).count in
     let is : slice_get vectors steps ≡ Some inputs = slice_get-get_or vectors steps [] (omega arith) in
-    let before = own_steps_so_far run.design run.env node round c steps in
+    let before = partial_steps run.design run.env node round c steps in
     sym (cut_places count steps (fire c.behaviour before.frame inputs).outs before.tuples port below)
     ∙ ap (λ (s : Stepped). cut count (slice_index_or s.tuples port []))
     (sym (round_goes_on run.design run.env node round c steps inputs design is_c is))

@@ -6,8 +6,8 @@ use Rattle.pals_base.specs.UpwardNumbers.{upwards}
 use Rattle.pals_model.specs.declared.design.Component.{Component}
 use Rattle.pals_model.specs.declared.design.Link.{Link}
 use Rattle.pals_model.specs.declared.flight_copy.FlightCopy.{FlightCopy}
-use Rattle.pals_model.specs.ComponentInputs.{feed}
-use Rattle.pals_model.specs.Composition.{comp, state, msg, part, own_steps_so_far}
+use Rattle.pals_model.specs.ComponentInputs.{input_vectors}
+use Rattle.pals_model.specs.Composition.{comp, state, msg, part, partial_steps}
 use Rattle.pals_runs.specs.declared.phase.Phase.{Phase}
 use Rattle.pals_runs.specs.declared.phase.Phase.TheVariants.{Waiting, Running, Between, Holding, Done}
 use Rattle.bus_machine.specs.Nodes.{NodeState}
@@ -31,8 +31,8 @@ reached n = record { frame = n.frame; tuples = n.outs }
 pub record IsUnderWay (run : Run) (node : ℕ) (c : Component) (n : NodeState) (steps : ℕ) : Type 0 where
   pub round : ℕ
   pub count : n.count ≡ suc round
-  pub reached : reached n ≡ own_steps_so_far run.design run.env node round c steps
-  pub vectors : n.vectors ≡ feed run.design run.env (comp run.design run.env round).messages node round
+  pub reached : reached n ≡ partial_steps run.design run.env node round c steps
+  pub vectors : n.vectors ≡ input_vectors run.design run.env (comp run.design run.env round).messages node round
 
 -- a step is still to be finished
 pub record IsInRound (run : Run) (node : ℕ) (c : Component) (n : NodeState) (steps : ℕ) : Type 0 where

@@ -13,5 +13,5 @@ abbrev pub step_alarm : Plan → NodeState → ℕ → ℕ
 step_alarm plan n step = alarm plan.period (round_of n) + step * plan.step_period
 
 -- the round in hand
-abbrev pub release_alarm : Plan → NodeState → ℕ
-release_alarm plan n = alarm plan.period (round_of n) + plan.release_offset
+abbrev pub release_reading : Plan → NodeState → ℕ
+release_reading plan n = alarm plan.period (round_of n) + plan.release_offset

@@ -50,14 +50,14 @@ round_of n = n.count - 1
 
 -- ---- jobs
 -- one step of a round: its inputs, and the frame that it goes on from
-pub record Work : Type 0 where
+pub record StepWork : Type 0 where
   pub node : NodeNo
   pub round : ℕ
   pub step : ℕ
   pub frame : Frame
   pub inputs : List PortValue
 
-abbrev pub job_of : Plan → NodeState → ℕ → Work
+abbrev pub job_of : Plan → NodeState → ℕ → StepWork
 job_of plan n step =
     record {
       node = plan.node;
@@ -68,14 +68,14 @@ job_of plan n step =
     }
 
 -- the job that is out
-abbrev pub job_in : Plan → NodeState → Phase → Option Work
+abbrev pub job_in : Plan → NodeState → Phase → Option StepWork
 job_in plan n Waiting = None
 job_in plan n (Running step) = Some (job_of plan n step)
 job_in plan n (Between step) = None
 job_in plan n Holding = None
 job_in plan n Done = None
 
-abbrev pub job_out : Plan → NodeState → Option Work
+abbrev pub job_out : Plan → NodeState → Option StepWork
 job_out plan n = job_in plan n n.phase
 
 -- ---- inputs of a round

@@ -27,7 +27,7 @@ use Rattle.step_code.specs.CappedWeights.{capped}
 use Rattle.pals_report.specs.CheckReports.{link_line, feed_line, tap_line}
 use Rattle.code_listing.specs.Listings.{kind_word, number_line, port_line, variable_line, state_line, state_lines}
 use Rattle.code_listing.specs.Listings.{mnemonic, operands, instr_line, instr_lines, initial_line, component_lines}
-use Rattle.code_listing.specs.Listings.{lines_of_all, listing_lines, range_line, design_lines}
+use Rattle.code_listing.specs.Listings.{lines_of_all, listing_lines, range_line, period_and_bounds_lines}
 use Rattle.code_listing.proofs.LinesAndWords.{is_plain, is_one_line, decimal_plain, signed_plain}
 use Rattle.code_listing.proofs.PlainNames.{HasPlainNames, names_are_plain, state_plain}
 use Rattle.code_listing.proofs.ToldComponentBlocks.{behind_states, behind_vars, behind_outs, behind_ins, path_line}
@@ -189,7 +189,7 @@ grouped a b c d e = simp append_assoc
 pub in_order : (design : DesignParts) (programs : List CodeParts)
     → listing_lines design programs ≡ lines_in_order design programs
 in_order design programs =
-    ap (λ lines. design_lines design ++ lines)
+    ap (λ lines. period_and_bounds_lines design ++ lines)
     (grouped (lines_of_all design design.components programs) (map (link_line design) design.links)
     (map (feed_line design) design.feeds) (map (tap_line design) design.taps) (codes "end" ∷ []))
 

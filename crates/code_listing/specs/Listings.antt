@@ -35,8 +35,8 @@ kind_word Boolean = codes "Boolean"
 abbrev pub range_line : List ℕ → ℕ → ℕ → List ℕ
 range_line word least most = spaced (word ∷ decimal least ∷ decimal most ∷ [])
 
-abbrev pub design_lines : DesignParts → List (List ℕ)
-design_lines design =
+abbrev pub period_and_bounds_lines : DesignParts → List (List ℕ)
+period_and_bounds_lines design =
     spaced (codes "pals-code" ∷ decimal 1 ∷ [])
     ∷ spaced (codes "period" ∷ decimal design.period ∷ [])
     ∷ spaced (codes "skew" ∷ decimal design.gamma.eps ∷ [])
@@ -163,7 +163,7 @@ lines_of_all design components programs = flat_map (λ p. component_lines design
 
 abbrev pub listing_lines : DesignParts → List CodeParts → List (List ℕ)
 listing_lines design programs =
-    design_lines design ++ lines_of_all design design.components programs ++ map (link_line design) design.links
+    period_and_bounds_lines design ++ lines_of_all design design.components programs ++ map (link_line design) design.links
     ++ map (feed_line design) design.feeds ++ map (tap_line design) design.taps ++ codes "end" ∷ []
 
 abbrev pub listing : DesignParts → List CodeParts → List ℕ

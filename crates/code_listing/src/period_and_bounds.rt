@@ -2,7 +2,7 @@
 ghost use Rattle.std.specs.Prelude.{◌≡◌, ◌++◌, OnOk, OnErr};
 ghost use Rattle.pals_model.specs.RoundTexts.{line_end, text_of};
 ghost use Rattle.pals_report.specs.proof.PartialWrites.{BeginsWith};
-ghost use Rattle.code_listing.specs.Listings.{range_line, design_lines};
+ghost use Rattle.code_listing.specs.Listings.{range_line, period_and_bounds_lines};
 
 use pals_base::{Nanos, NoMemory};
 use pals_model::DesignParts;
@@ -10,7 +10,7 @@ use pals_report::{LineWord, add_line};
 
 /// Adds the line that begins a listing, and those of the period and the bounds, in nanoseconds.
 pub fn add_bounds(out: &mut Vec<u8>, design: &DesignParts) -> Result<(), NoMemory>
-    ensures ok { OnOk result (out.new.items ≡ out.old.items ++ text_of (design_lines design.now)) }
+    ensures ok { OnOk result (out.new.items ≡ out.old.items ++ text_of (period_and_bounds_lines design.now)) }
     ensures err { OnErr result (BeginsWith out.new.items out.old.items) }
 {
     let gamma = &design.gamma;

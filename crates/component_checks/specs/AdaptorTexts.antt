@@ -16,16 +16,16 @@ is_first_digit c = nat_le 49 c && nat_le c 57
 
 
 -- a number of one or two digits, the first not 0
-abbrev pub place_number : List ℕ → Option ℕ
-place_number [] = None
-place_number (d ∷ []) = if is_first_digit d then Some (d - 48) else None
-place_number (c ∷ d ∷ []) = if is_first_digit c && is_digit d then Some (10 * (c - 48) + (d - 48)) else None
-place_number (c ∷ d ∷ e ∷ rest) = None
+abbrev pub position_number : List ℕ → Option ℕ
+position_number [] = None
+position_number (d ∷ []) = if is_first_digit d then Some (d - 48) else None
+position_number (c ∷ d ∷ []) = if is_first_digit c && is_digit d then Some (10 * (c - 48) + (d - 48)) else None
+position_number (c ∷ d ∷ e ∷ rest) = None
 
 
-abbrev pub at_place : Option ℕ → Option Adaptor
-at_place None = None
-at_place (Some n) = Some (At n)
+abbrev pub at_position : Option ℕ → Option Adaptor
+at_position None = None
+at_position (Some n) = Some (At n)
 
 
 abbrev pub adaptor_named : List ℕ → Option Adaptor
@@ -37,5 +37,5 @@ adaptor_named text =
     else if bytes_eq text (codes "max") then Some Max
     else if bytes_eq text (codes "min") then Some Min
     else if bytes_eq text (codes "average") then Some Average
-    else if starts_with nat_eq text (codes "at ") then at_place (place_number (drop 3 text))
+    else if starts_with nat_eq text (codes "at ") then at_position (position_number (drop 3 text))
     else None

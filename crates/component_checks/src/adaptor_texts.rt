@@ -1,6 +1,6 @@
 //! Adaptors, read from their texts.
 ghost use Rattle.std.specs.Prelude.{◌≡◌, drop};
-ghost use Rattle.component_checks.specs.AdaptorTexts.{is_digit, is_first_digit, place_number, adaptor_named};
+ghost use Rattle.component_checks.specs.AdaptorTexts.{is_digit, is_first_digit, position_number, adaptor_named};
 
 use pals_base::Adaptor;
 
@@ -17,8 +17,8 @@ fn is_first_digit(byte: u8) -> bool
 }
 
 // A number of one or two digits, the first not 0.
-fn place_number(digits: &[u8]) -> Option<u32>
-    ensures { result ≡ place_number digits.now }
+fn position_number(digits: &[u8]) -> Option<u32>
+    ensures { result ≡ position_number digits.now }
 {
     match digits {
         [unit] if is_first_digit(*unit) => Some(u32::from(*unit - b'0')),
@@ -31,12 +31,12 @@ fn place_number(digits: &[u8]) -> Option<u32>
 
 // Whether a text is `at` and a number behind it, of which these are the digits.
 fn place_of(text: &[u8]) -> Option<u32>
-    ensures { result ≡ place_number (drop 3 text.now) }
+    ensures { result ≡ position_number (drop 3 text.now) }
 {
     if text.len() < 3 {
-        return place_number(&[]);
+        return position_number(&[]);
     }
-    place_number(&text[3..])
+    position_number(&text[3..])
 }
 
 /// The adaptor of a text: its name, with small letters, or `at n` with one space and n from 1 to 99.

@@ -13,13 +13,13 @@ use Rattle.pals_model.specs.DesignRules.{IsDesign}
 use Rattle.pals_model.specs.DesignRules as model
 use Rattle.aadl_tree.specs.Declarations.{PackageTree}
 use Rattle.aadl_uses.specs.ThreadLocations.{thread_at}
-use Rattle.aadl_instance.specs.FlattenedDesign.{Parts, IsFlat}
+use Rattle.aadl_instance.specs.FlattenedDesign.{InstanceParts, IsFlat}
 use Rattle.aadl_instance.specs.Instances.{chain_at}
 use Rattle.component_checks.specs.ThreadRatesAndFindings.{thread_rate, greatest_rate}
 use Rattle.model_violations.specs.IgnoredProperties.{ignored_names}
 use Rattle.design_laws.specs.proof.PackageNames.{AreNamed}
 use Rattle.model_violations.specs.UsedDeclarations.{IsUse}
-use Rattle.model_violations.specs.Violations.{Shown, shown_by, rates_of}
+use Rattle.model_violations.specs.Violations.{ShownInstance, shown_by, rates_of}
 use Rattle.design_laws.specs.proof.AcceptedInstances.{IsShown, NothingFound, HasDesign}
 use Rattle.design_laws.specs.InstanceDesigns.{component_in, link_in, feed_in, tap_in, all_of, IsDesignOf}
 use Rattle.design_laws.proofs.SoundInstanceParts.{NoFindings, all_parts}
@@ -29,12 +29,12 @@ use Rattle.design_laws.proofs.MatchedLists.{Zipped, Made, zipped_weaker}
 use Rattle.design_laws.proofs.DesignComponents as composing
 use Rattle.design_laws.proofs.DesignComponents.{components, is_small, thread_of, components_keep, components_few}
 use Rattle.design_laws.proofs.DesignComponents.{components_differ, greatest_is}
-use Rattle.design_laws.proofs.ChainEndPorts.{Sits}
+use Rattle.design_laws.proofs.ChainEndPorts.{IsComponentAt}
 use Rattle.design_laws.proofs.DesignLinkRules.{links, feeds, taps, whole, links_keep, feeds_keep, taps_keep}
 use Rattle.design_laws.proofs.ShownInstancesAndRules.{of_shown, to_shown}
 
 -- ---- the design
-module _ {tree : PackageTree ℕ} {name : List ℕ} {parts : Parts} (flat : IsFlat tree name parts) (used : ℕ → Bool)
+module _ {tree : PackageTree ℕ} {name : List ℕ} {parts : InstanceParts} (flat : IsFlat tree name parts) (used : ℕ → Bool)
     (is_use : IsUse tree parts.root used) (found : NoFindings tree (shown_by tree parts) used) (named : AreNamed tree)
     (law : ThreadLaw) where
   abbrev rate : ℕ
@@ -49,7 +49,7 @@ module _ {tree : PackageTree ℕ} {name : List ℕ} {parts : Parts} (flat : IsFl
 
   sits_by : (path : List ℕ) (c : Component) → composing.IsOf flat used is_use found.declarations
       (greatest_rate (rates_of tree (shown_by tree parts))) found.root found.threads named law path c
-      → Sits tree parts.root path c
+      → IsComponentAt tree parts.root path c
   sits_by path c h = record {
     thread = h.thread;
     rate_seen = h.rate_seen;
@@ -59,10 +59,10 @@ module _ {tree : PackageTree ℕ} {name : List ℕ} {parts : Parts} (flat : IsFl
         c.behaviour h.seen).ports;
   }
 
-  sits : Zipped (Sits tree parts.root) parts.threads parted.all
+  sits : Zipped (IsComponentAt tree parts.root) parts.threads parted.all
   sits = zipped_weaker (composing.IsOf flat used is_use found.declarations
       (greatest_rate (rates_of tree (shown_by tree parts))) found.root found.threads named law)
-      (Sits tree parts.root) sits_by parts.threads parted.all parted.each
+      (IsComponentAt tree parts.root) sits_by parts.threads parted.all parted.each
 
   abbrev period : ℕ
   period =
@@ -128,7 +128,7 @@ module _ {tree : PackageTree ℕ} {name : List ℕ} {parts : Parts} (flat : IsFl
   pub accepted : HasDesign tree (shown_by tree parts)
   accepted = (design, is_design_of, keeps)
 
-pub has_design : ThreadLaw → (tree : PackageTree ℕ) (s : Shown) → AreNamed tree → IsShown tree s → NothingFound tree s
+pub has_design : ThreadLaw → (tree : PackageTree ℕ) (s : ShownInstance) → AreNamed tree → IsShown tree s → NothingFound tree s
     → HasDesign tree s
 has_design law tree s named i nothing =
     let there = to_shown (NothingFound tree) tree s i nothing in
@@ -206,7 +206,7 @@ same_design a b p g c l f t i =
     } in d) i in
     step_period ∙ (step_gamma ∙ (step_components ∙ (step_links ∙ (step_feeds ∙ (step_taps ∙ (step_ignored))))))
 
-pub one_design : (tree : PackageTree ℕ) (s : Shown) (a b : DesignParts) → IsDesignOf tree s a
+pub one_design : (tree : PackageTree ℕ) (s : ShownInstance) (a b : DesignParts) → IsDesignOf tree s a
     → IsDesignOf tree s b → a ≡ b
 one_design tree s a b x y =
     same_design a b (same_Some a.period b.period (sym x.period ∙ y.period))

@@ -19,9 +19,9 @@ use Rattle.design_laws.proofs.BoundsAndRates.{leaves_time}
 use Rattle.component_checks.specs.ThreadRatesAndFindings.{root_period, thread_rate, greater_rate, greatest_rate}
 use Rattle.component_checks.specs.RootFindings.{root_gamma, at_root, place_of, missing_findings, order_findings}
 use Rattle.aadl_names.specs.declared.recognised_properties.PropertyName.TheVariants.{Period}
-use Rattle.aadl_instance.specs.FlattenedDesign.{Parts, IsFlat}
+use Rattle.aadl_instance.specs.FlattenedDesign.{InstanceParts, IsFlat}
 use Rattle.design_laws.specs.proof.PackageNames.{NamesDiffer, AreNamed}
-use Rattle.model_violations.specs.Violations.{Shown, shown_by, rates_of, AreViolations}
+use Rattle.model_violations.specs.Violations.{ShownInstance, shown_by, rates_of, AreViolations}
 use Rattle.design_laws.specs.proof.AcceptedInstances.{IsShown, NothingFound, HasDesign}
 use Rattle.design_laws.specs.InstanceDesigns.{put_first, all_of, component_by, thread_behaviour, component_in}
 use Rattle.design_laws.specs.InstanceDesigns.{IsDesignOf}
@@ -41,7 +41,7 @@ given_names differ tree given = record {
 }
 
 -- ---- rules, and that there is a design
-shown_is : (tree : PackageTree ℕ) (root : List ℕ) (parts : Parts) → IsFlat tree root parts
+shown_is : (tree : PackageTree ℕ) (root : List ℕ) (parts : InstanceParts) → IsFlat tree root parts
     → IsShown tree (shown_by tree parts)
 shown_is tree root parts flat = record {
   name = root;
@@ -54,7 +54,7 @@ shown_is tree root parts flat = record {
   taps_are = refl;
 }
 
-pub keeps_rules : ((tree : PackageTree ℕ) (s : Shown) → AreNamed tree → ∥ IsShown tree s ∥₁ → NothingFound tree s
+pub keeps_rules : ((tree : PackageTree ℕ) (s : ShownInstance) → AreNamed tree → ∥ IsShown tree s ∥₁ → NothingFound tree s
     → (design : DesignParts)
     → IsDesignOf tree s design → IsDesign design)
     → (tree : PackageTree ℕ) (root : List ℕ) (design : DesignParts) → AreNamed tree → IsDesignIn tree root design
@@ -64,9 +64,9 @@ keeps_rules law tree root design named d =
     (nothing_found tree (shown_by tree d.parts) d.nothing_wrong)
     design d.design_of
 
-pub is_there : ((tree : PackageTree ℕ) (s : Shown) → AreNamed tree → IsShown tree s → NothingFound tree s
+pub is_there : ((tree : PackageTree ℕ) (s : ShownInstance) → AreNamed tree → IsShown tree s → NothingFound tree s
     → HasDesign tree s)
-    → (tree : PackageTree ℕ) (root : List ℕ) (parts : Parts) → AreNamed tree → IsFlat tree root parts
+    → (tree : PackageTree ℕ) (root : List ℕ) (parts : InstanceParts) → AreNamed tree → IsFlat tree root parts
     → AreViolations tree (shown_by tree parts) []
     → (design : DesignParts) × IsDesignIn tree root design
 is_there law tree root parts named flat nothing =

@@ -4,7 +4,7 @@ use Rattle.std.proofs.lemmas.Bool.{ltb-true}
 use Rattle.list_lemmas.proofs.Booleans.{or_and_cases}
 use Rattle.aadl_uses.specs.ThreadsBelow.{path_before, PathBefore}
 use Rattle.aadl_uses.proofs.PathOrder.{one_way_paths}
-use Rattle.aadl_chains.specs.LinksFeedsAndTaps.{Ends, same_path, TargetBefore, PortBefore}
+use Rattle.aadl_chains.specs.LinksFeedsAndTaps.{CarriedChain, same_path, TargetBefore, PortBefore}
 use Rattle.aadl_chains.proofs.SamePaths.{same_path-true}
 
 not_both_less : (x y : ℕ) → nat_lt x y ≡ true → nat_lt y x ≡ true → ⊥
@@ -29,7 +29,7 @@ targets_by p q m n (inl before) (inr same) = not_same p q before same.0
 targets_by p q m n (inr same) (inl after) = not_same q p after same.0
 targets_by p q m n (inr same) (inr other) = not_both_less m n same.1 other.1
 
-pub targets_one_way : (a b : Ends) → TargetBefore a b → TargetBefore b a → ⊥
+pub targets_one_way : (a b : CarriedChain) → TargetBefore a b → TargetBefore b a → ⊥
 targets_one_way a b h g =
     targets_by a.to.path b.to.path a.to.port b.to.port
     (or_and_cases (path_before (reverse a.to.path) (reverse b.to.path)) (same_path a.to.path b.to.path)
@@ -37,5 +37,5 @@ targets_one_way a b h g =
     (or_and_cases (path_before (reverse b.to.path) (reverse a.to.path)) (same_path b.to.path a.to.path)
     (nat_lt b.to.port a.to.port) g)
 
-pub ports_one_way : (a b : Ends) → PortBefore a b → PortBefore b a → ⊥
+pub ports_one_way : (a b : CarriedChain) → PortBefore a b → PortBefore b a → ⊥
 ports_one_way a b h g = not_both_less a.to.port b.to.port h g

@@ -42,9 +42,9 @@ within_skew : (n : ℕ) (eps : ℕ) (b : Bool) → nat_le n HOUR ≡ b
 within_skew n eps true h is = some_skew n eps is (leb-true n HOUR h)
 within_skew n eps false h is = absurd (cc is)
 
-pub skew_counts : (given : Option ℕ) (eps : ℕ) → skew_of given ≡ Some eps → IsSkew eps
-skew_counts None eps is = absurd (cc is)
-skew_counts (Some n) eps is = within_skew n eps (nat_le n HOUR) refl is
+pub skew_fits : (given : Option ℕ) (eps : ℕ) → skew_of given ≡ Some eps → IsSkew eps
+skew_fits None eps is = absurd (cc is)
+skew_fits (Some n) eps is = within_skew n eps (nat_le n HOUR) refl is
 
 -- ---- a range that is not reversed, up to one hour
 pub record IsRange (r : ℕ × ℕ) : Type 0 where
@@ -62,9 +62,9 @@ within_range : (r q : ℕ × ℕ) (b : Bool) → (nat_le r.0 HOUR && nat_le r.1 
 within_range r q true h is = some_range r q is (leb-true r.1 HOUR (and_parts (nat_le r.0 HOUR) (nat_le r.1 HOUR) h).1)
 within_range r q false h is = absurd (cc is)
 
-pub range_counts : (given : Option (ℕ × ℕ)) (q : ℕ × ℕ) → range_of given ≡ Some q → IsRange q
-range_counts None q is = absurd (cc is)
-range_counts (Some r) q is = within_range r q (nat_le r.0 HOUR && nat_le r.1 HOUR) refl is
+pub range_fits : (given : Option (ℕ × ℕ)) (q : ℕ × ℕ) → range_of given ≡ Some q → IsRange q
+range_fits None q is = absurd (cc is)
+range_fits (Some r) q is = within_range r q (nat_le r.0 HOUR && nat_le r.1 HOUR) refl is
 
 -- ---- all three
 abbrev gamma_made : ℕ → ℕ × ℕ → ℕ × ℕ → Gamma
@@ -88,11 +88,11 @@ gamma_of (Some eps) (Some alpha) (Some mu) g a b c is =
     let e : gamma_made eps alpha mu ≡ g = cc in
     subst IsGamma e (gamma_from eps alpha mu (a eps refl) (b alpha refl) (c mu refl))
 
-pub gamma_counts : (skew : Option ℕ) (execution network : Option (ℕ × ℕ)) (g : Gamma)
+pub gamma_fits : (skew : Option ℕ) (execution network : Option (ℕ × ℕ)) (g : Gamma)
     → gamma_by (skew_of skew) (range_of execution) (range_of network) ≡ Some g → IsGamma g
-gamma_counts skew execution network g is =
-    gamma_of (skew_of skew) (range_of execution) (range_of network) g (skew_counts skew)
-    (range_counts execution) (range_counts network) is
+gamma_fits skew execution network g is =
+    gamma_of (skew_of skew) (range_of execution) (range_of network) g (skew_fits skew)
+    (range_fits execution) (range_fits network) is
 
 -- ---- rates
 divides_by : (p t : ℕ) → divides p t ≡ true → t ≡ p * (t / p)
@@ -116,9 +116,9 @@ pub record IsRateOf (t k : ℕ) : Type 0 where
   pub high : k ≤ RATE
   pub divides : t % k ≡ 0
 
-pub rate_counts : (t : ℕ) (p : Option ℕ) (k : ℕ) → rate_of (Some t) p ≡ Some k → IsRateOf t k
-rate_counts t None k is = absurd (cc is)
-rate_counts t (Some p) k is =
+pub one_rate_fits : (t : ℕ) (p : Option ℕ) (k : ℕ) → rate_of (Some t) p ≡ Some k → IsRateOf t k
+one_rate_fits t None k is = absurd (cc is)
+one_rate_fits t (Some p) k is =
     let q = cond_some (is_rate t p) (t / p) k is in
     let r = regrouped (divides p t) (nat_le 1 (t / p)) (nat_le (t / p) RATE) q.0 in
     let b = bounds_of (t / p) r.1 in

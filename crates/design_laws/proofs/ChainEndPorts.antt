@@ -52,7 +52,7 @@ out_test directions.In is fs = absurd (false≢true (sym is))
 out_test directions.Out is fs = refl
 
 -- ---- a component of the design stands for the thread at a path
-pub record Sits (tree : PackageTree ℕ) (root : ℕ) (path : List ℕ) (c : Component) : Type 0 where
+pub record IsComponentAt (tree : PackageTree ℕ) (root : ℕ) (path : List ℕ) (c : Component) : Type 0 where
   pub thread : ThreadIs tree root path
   pub rate_seen : thread_rate tree root (thread_at tree root path) ≡ Some c.rate
   pub seen : behaviour_in tree thread.component ≡ Some c.behaviour
@@ -64,12 +64,12 @@ module _ (tree : PackageTree ℕ) (root : ℕ) (threads : List (List ℕ)) (cs :
     pub node : IsNode threads path
     pub component : Component
     pub is : slice_get cs node.place ≡ Some component
-    pub sits : Sits tree root path component
+    pub sits : IsComponentAt tree root path component
 
-  pub at_node : Zipped (Sits tree root) threads cs → (path : List ℕ) → Contains threads path → AtNode path
+  pub at_node : Zipped (IsComponentAt tree root) threads cs → (path : List ℕ) → Contains threads path → AtNode path
   at_node zipped path among =
       let n = is_node threads path among in
-      let z = zipped_at (Sits tree root) threads cs n.place path zipped n.is in
+      let z = zipped_at (IsComponentAt tree root) threads cs n.place path zipped n.is in
       record { node = n; component = z.0; is = z.1; sits = z.2 }
 
   module _ (p : Port) (f : Feature ℕ) (at : AtNode p.path) (is : port_of tree root p ≡ Some f) where

@@ -12,14 +12,14 @@ use Rattle.pals_base.specs.declared.behaviour.Kind.{Kind}
 use Rattle.pals_base.specs.declared.behaviour.Kind.TheVariants.{Integer, Boolean}
 use Rattle.aadl_tree.specs.Names.{Identifier, same_name}
 use Rattle.aadl_tree.specs.Declarations.{Feature, Subcomponent, ConnectionEnd, Implementation, PackageTree}
-use Rattle.aadl_names.specs.declared.port_place.PortPlace.{PortPlace}
-use Rattle.aadl_names.specs.declared.port_place.PortPlace.TheVariants.{Own, Inner}
+use Rattle.aadl_names.specs.declared.port_place.NumberedPort.{NumberedPort}
+use Rattle.aadl_names.specs.declared.port_place.NumberedPort.TheVariants.{Own, Inner}
 use Rattle.aadl_names.specs.ReferenceResolution.{implementation_at, subcomponents_of, referred, target_of, ports_of}
-use Rattle.aadl_names.specs.ReferenceResolution.{ports_at, port_named, sub_named, inner_ports, inner_site, site_by}
-use Rattle.aadl_names.specs.ReferenceResolution.{site}
-use Rattle.aadl_uses.specs.Uses.{sub_at, below, standing, component_at}
-use Rattle.aadl_chains.specs.Chains.{Port, Place, port_at, Goes, Leads, port_of}
-use Rattle.aadl_instance.specs.FlattenedDesign.{Parts, IsFlat}
+use Rattle.aadl_names.specs.ReferenceResolution.{ports_at, port_named, sub_named, inner_ports, inner_end_port, end_port_by}
+use Rattle.aadl_names.specs.ReferenceResolution.{end_port}
+use Rattle.aadl_uses.specs.Uses.{sub_at, below, number_at_path, component_at}
+use Rattle.aadl_chains.specs.Chains.{Port, ConnectionAt, port_at, Goes, Leads, port_of}
+use Rattle.aadl_instance.specs.FlattenedDesign.{InstanceParts, IsFlat}
 use Rattle.annex_resolve.specs.declared.violation.TheConstants.{BAD_TYPE}
 use Rattle.annex_resolve.specs.ExpressionTypesAndFindings.{kind_in, same_kind, fits}
 use Rattle.design_laws.proofs.EmptyFindingLists.{none_at, is_right}
@@ -43,36 +43,36 @@ named_there ports word p is =
     (f.one, ap (slice_get ports) (sym e) ∙ f.is)
 
 module _ (tree : PackageTree ℕ) (x : Implementation ℕ) where
-  own_there : (word : List ℕ) (s : PortPlace) → option_map Own (port_named (ports_of tree x) word) ≡ Some s
+  own_there : (word : List ℕ) (s : NumberedPort) → option_map Own (port_named (ports_of tree x) word) ≡ Some s
       → (f : Feature ℕ) × (site_port tree x s ≡ Some f)
   own_there word s e =
       let m = option_map-parts Own (port_named (ports_of tree x) word) s e in
       let f = named_there (ports_of tree x) word m.0 m.1 in
       (f.0, ap (site_port tree x) (sym m.2) ∙ f.1)
 
-  inner_there : (word : List ℕ) (k : ℕ) (s : PortPlace) → inner_site tree x word k ≡ Some s
+  inner_there : (word : List ℕ) (k : ℕ) (s : NumberedPort) → inner_end_port tree x word k ≡ Some s
       → (f : Feature ℕ) × (site_port tree x s ≡ Some f)
   inner_there word k s e =
       let m = option_map-parts (Inner k) (port_named (inner_ports tree x k) word) s e in
       let f = named_there (inner_ports tree x k) word m.0 m.1 in
       (f.0, ap (site_port tree x) (sym m.2) ∙ f.1)
 
-  there_by : (first : Identifier ℕ) (second : Option (Identifier ℕ)) (s : PortPlace)
-      → site_by tree x first second ≡ Some s
+  there_by : (first : Identifier ℕ) (second : Option (Identifier ℕ)) (s : NumberedPort)
+      → end_port_by tree x first second ≡ Some s
       → (f : Feature ℕ) × (site_port tree x s ≡ Some f)
   there_by first None s e = own_there first.spelling s e
   there_by first (Some port) s e =
-      option_and_then_some (inner_site tree x port.spelling) (sub_named x.subcomponents first.spelling) s e
+      option_and_then_some (inner_end_port tree x port.spelling) (sub_named x.subcomponents first.spelling) s e
       (λ k _ is. inner_there port.spelling k s is)
 
-  pub site_there : (end : ConnectionEnd ℕ) (s : PortPlace) → site tree x end ≡ Some s
+  pub site_there : (end : ConnectionEnd ℕ) (s : NumberedPort) → end_port tree x end ≡ Some s
       → (f : Feature ℕ) × (site_port tree x s ≡ Some f)
-  unfolding site
+  unfolding end_port
   site_there end s e = there_by end.first end.second s e
 
 -- ---- the port of a site is that of the component which stands there
 module _ (tree : PackageTree ℕ) (root : ℕ) where
-  site_is : (path : List ℕ) (n : ℕ) (x : Implementation ℕ) (s : PortPlace) → standing tree root path ≡ Some n
+  site_is : (path : List ℕ) (n : ℕ) (x : Implementation ℕ) (s : NumberedPort) → number_at_path tree root path ≡ Some n
       → implementation_at tree n ≡ Some x
       → port_of tree root (port_at path s) ≡ site_port tree x s
   site_is path n x (Own p) stands is =
@@ -84,7 +84,7 @@ module _ (tree : PackageTree ℕ) (root : ℕ) where
       (sub_at tree n s)
       ∙ ap (λ o. option_and_then (target_of tree) (slice_get (subcomponents_of o) s)) is))
 
-  source_there : (place : Place) (from to : Port) → (g : Goes tree root place from to)
+  source_there : (place : ConnectionAt) (from to : Port) → (g : Goes tree root place from to)
       → (f : Feature ℕ) × (port_of tree root from ≡ Some f)
   source_there place from to g =
       let f = site_there tree g.component g.link.source g.source g.is_source in (
@@ -93,7 +93,7 @@ module _ (tree : PackageTree ℕ) (root : ℕ) where
             ∙ (site_is place.path g.number g.component g.source g.stands g.is_component ∙ f.1),
       )
 
-  target_there : (place : Place) (from to : Port) → (g : Goes tree root place from to)
+  target_there : (place : ConnectionAt) (from to : Port) → (g : Goes tree root place from to)
       → (f : Feature ℕ) × (port_of tree root to ≡ Some f)
   target_there place from to g =
       let f = site_there tree g.component g.link.target g.target g.is_target in (
@@ -103,14 +103,14 @@ module _ (tree : PackageTree ℕ) (root : ℕ) where
       )
 
   -- both ends of a chain of connections are ports
-  pub first_there : (c : Place) (cs : List Place) (from to : Port) → Leads tree root (c ∷ cs) from to
+  pub first_there : (c : ConnectionAt) (cs : List ConnectionAt) (from to : Port) → Leads tree root (c ∷ cs) from to
       → (f : Feature ℕ) × (port_of tree root from ≡ Some f)
   first_there c [] from to l =
       let f = source_there c l.0 to l.2 in
       (f.0, ap (port_of tree root) l.1 ∙ f.1)
   first_there c (d ∷ cs) from to l = first_there d cs from l.0 l.1
 
-  pub last_there : (c : Place) (cs : List Place) (from to : Port) → Leads tree root (c ∷ cs) from to
+  pub last_there : (c : ConnectionAt) (cs : List ConnectionAt) (from to : Port) → Leads tree root (c ∷ cs) from to
       → (f : Feature ℕ) × (port_of tree root to ≡ Some f)
   last_there c cs from to l = target_there c l.0 to l.2
 
@@ -127,7 +127,7 @@ same_kinds (Some a) None k l first second e = absurd (cc second)
 same_kinds (Some a) (Some b) k l first second e = ap Some (same_by a b e)
 
 -- ---- along a chain
-module _ {tree : PackageTree ℕ} {name : List ℕ} {parts : Parts} (flat : IsFlat tree name parts) (used : ℕ → Bool)
+module _ {tree : PackageTree ℕ} {name : List ℕ} {parts : InstanceParts} (flat : IsFlat tree name parts) (used : ℕ → Bool)
     (is_use : IsUse tree parts.root used) (none : used_findings tree (shown_by tree parts) used ≡ []) where
   typed_by : (path : List ℕ) (p : ℕ) (o : Option (Implementation ℕ)) (f : Feature ℕ)
       → component_at tree parts.root path ≡ o
@@ -151,7 +151,7 @@ module _ {tree : PackageTree ℕ} {name : List ℕ} {parts : Parts} (flat : IsFl
   kind_there p f is = let k = typed p f is in
       (k.0, ap (option_and_then (λ (g : Feature ℕ). kind_in g.data_type)) is ∙ k.1)
 
-  ends_fit : (place : Place) (from to : Port) → (g : Goes tree parts.root place from to)
+  ends_fit : (place : ConnectionAt) (from to : Port) → (g : Goes tree parts.root place from to)
       → fits (site_kind tree g.component g.target) (site_kind tree g.component g.source) ≡ true
   ends_fit place from to g =
       let x = g.component in
@@ -174,7 +174,7 @@ module _ {tree : PackageTree ℕ} {name : List ℕ} {parts : Parts} (flat : IsFl
       subst (λ o. fits (option_and_then (site_kind tree x) o) (site_kind tree x g.source) ≡ true) g.is_target
       (subst (λ o. fits (kind_at tree x c.target) (option_and_then (site_kind tree x) o) ≡ true) g.is_source right)
 
-  one_kind : (place : Place) (from to : Port) → Goes tree parts.root place from to
+  one_kind : (place : ConnectionAt) (from to : Port) → Goes tree parts.root place from to
       → port_kind tree parts.root from ≡ port_kind tree parts.root to
   one_kind place from to g =
       let source : port_kind tree parts.root from ≡ site_kind tree g.component g.source =
@@ -192,7 +192,7 @@ module _ {tree : PackageTree ℕ} {name : List ℕ} {parts : Parts} (flat : IsFl
       (sym source ∙ j.1) (ends_fit place from to g)) ∙ sym target)
 
   -- all ports on a chain have one type
-  pub kinds_along : (cs : List Place) (from to : Port) → Leads tree parts.root cs from to
+  pub kinds_along : (cs : List ConnectionAt) (from to : Port) → Leads tree parts.root cs from to
       → port_kind tree parts.root from ≡ port_kind tree parts.root to
   kinds_along [] from to l = ap (port_kind tree parts.root) l
   kinds_along (c ∷ cs) from to l = kinds_along cs from l.0 l.1 ∙ one_kind c l.0 to l.2

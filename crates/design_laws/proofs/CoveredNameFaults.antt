@@ -16,7 +16,7 @@ use Rattle.aadl_names.specs.declared.fault.PackageFault.{PackageFault}
 use Rattle.aadl_names.specs.declared.fault.PackageFault.TheVariants.{Twice}
 use Rattle.aadl_names.specs.declared.recognised_properties.PropertyHolder.{PropertyHolder}
 use Rattle.aadl_names.specs.declared.recognised_properties.PropertyHolder.TheVariants as holders
-use Rattle.aadl_names.specs.declared.port_place.PortPlace.{PortPlace}
+use Rattle.aadl_names.specs.declared.port_place.NumberedPort.{NumberedPort}
 use Rattle.aadl_names.specs.BehaviourAnnexes.{behaviour_in, behaviours}
 use Rattle.aadl_names.specs.ReferenceResolution.{target_of, is_thread}
 use Rattle.aadl_names.specs.RecognisedProperties.{listed, association_name, association_at, counts, counted, misshapen}
@@ -65,8 +65,8 @@ subcomponent_covered tree outer sub =
     (covered_back (of_identifier sub.name) (covered_back (p.unknown_reference sub.classifier)
     (list_covered (holders.Subcomponent sub.category) sub.properties)))
 
-end_covered : (may : PortPlace × Option Direction → Bool) (end : ConnectionEnd ℕ) (at : ℕ)
-    (port : Option (PortPlace × Option Direction))
+end_covered : (may : NumberedPort × Option Direction → Bool) (end : ConnectionEnd ℕ) (at : ℕ)
+    (port : Option (NumberedPort × Option Direction))
     → Covered (p.end_faults may end at port) (p.unknown_end end)
 end_covered may end at None = covered_itself (p.unknown_end end)
 end_covered may end at (Some port) = covered_wrong (not (may port)) at (p.unknown_end end)
@@ -80,10 +80,10 @@ connection_covered tree x c =
     let properties = of_associations c.properties in
     covered_append (covered_append (covered_append
     (covered_back name (covered_front (target ++ properties)
-    (end_covered p.may_leave c.source c.name.at (p.sited tree x c.source))))
+    (end_covered p.may_leave c.source c.name.at (p.directed_end_port tree x c.source))))
     (covered_back name (covered_back source
-    (covered_front properties (end_covered p.may_enter c.target c.name.at (p.sited tree x c.target))))))
-    (covered_wrong (p.is_own (p.sited tree x c.source) && p.is_own (p.sited tree x c.target)) c.name.at
+    (covered_front properties (end_covered p.may_enter c.target c.name.at (p.directed_end_port tree x c.target))))))
+    (covered_wrong (p.is_own (p.directed_end_port tree x c.source) && p.is_own (p.directed_end_port tree x c.target)) c.name.at
     (of_connection c)))
     (covered_back name (covered_back source (covered_back target (list_covered holders.Connection c.properties))))
 

@@ -4,7 +4,7 @@ use Rattle.std.specs.Prelude.{flat_map, slice_get}
 use Rattle.std.proofs.lemmas.Option.{same_Some}
 use Rattle.aadl_tree.specs.declared.mark.Mark.TheVariants as k
 use Rattle.aadl_tree.specs.Terminals.{mark}
-use Rattle.aadl_tree.specs.SpellingParts.{Part, token, plain, parts_if, feature_section, subcomponent_section}
+use Rattle.aadl_tree.specs.SpellingParts.{SpellingPart, token, plain, parts_if, feature_section, subcomponent_section}
 use Rattle.aadl_tree.specs.SpellingParts.{connection_section, property_section}
 use Rattle.aadl_tree.specs.Names.{Identifier, identifier_parts, identifiers_parts, name_parts, identifiers, listed_in}
 use Rattle.aadl_tree.specs.Values.{associations_parts}
@@ -26,7 +26,7 @@ feature_names : (f : Feature ℕ) → Placed (feature_parts f) (f.name ∷ [])
 feature_names f = placed_front (identifier_parts f.name) _ (f.name ∷ []) (placed_identifier f.name)
 
 module _ (x : TypeDeclaration ℕ) where
-  ports : List (Part ℕ)
+  ports : List (SpellingPart ℕ)
   ports = flat_map feature_parts x.features
 
   pub type_names : Rise (type_parts x) → Placed (type_parts x) (flat_map (λ (f : Feature ℕ). f.name ∷ []) x.features)
@@ -63,10 +63,10 @@ same_list None = refl
 same_list (Some vs) = refl
 
 module _ (x : AnnexTree ℕ) where
-  variables : List (Part ℕ)
+  variables : List (SpellingPart ℕ)
   variables = parts_if (declared_parts k.Variables variable_parts) x.variables
 
-  states : List (Part ℕ)
+  states : List (SpellingPart ℕ)
   states = parts_if (declared_parts k.States state_parts) x.states
 
   tree_variables : Rise (annex_tree_parts x) → Placed (annex_tree_parts x) (variables_of x)
@@ -114,10 +114,10 @@ module _ (names : AnnexTree ℕ → List (Identifier ℕ)) (each : (x : AnnexTre
       → Rise (flat_map annex_parts (record { at = at; language = language; content = content } ∷ xs))
       → Placed (flat_map annex_parts (record { at = at; language = language; content = content } ∷ xs)) (names b.1)
   first_of at language (foreign bytes) xs b later is r =
-      let a : List (Part ℕ) = annex_parts (record { at = at; language = language; content = foreign bytes }) in
+      let a : List (SpellingPart ℕ) = annex_parts (record { at = at; language = language; content = foreign bytes }) in
       placed_back a (flat_map annex_parts xs) (names b.1) (later is (rise_back a (flat_map annex_parts xs) r))
   first_of at language (behaviour x) xs b later is r =
-      let a : List (Part ℕ) = annex_parts (record { at = at; language = language; content = behaviour x }) in
+      let a : List (SpellingPart ℕ) = annex_parts (record { at = at; language = language; content = behaviour x }) in
       let same : x ≡ b.1 = ap (λ (o : ℕ × AnnexTree ℕ). o.1) (same_Some (at, x) b is) in
       placed_front a (flat_map annex_parts xs) (names b.1) (in_content at language b.1 (behaviour x) (ap behaviour same)
       (rise_front a (flat_map annex_parts xs) r))
@@ -130,16 +130,16 @@ module _ (names : AnnexTree ℕ → List (Identifier ℕ)) (each : (x : AnnexTre
 
 -- ---- an implementation
 module _ (x : Implementation ℕ) where
-  subs : List (Part ℕ)
+  subs : List (SpellingPart ℕ)
   subs = section_parts subcomponent_section (flat_map subcomponent_parts x.subcomponents)
 
-  connections : List (Part ℕ)
+  connections : List (SpellingPart ℕ)
   connections = section_parts connection_section (flat_map connection_parts x.connections)
 
-  properties : List (Part ℕ)
+  properties : List (SpellingPart ℕ)
   properties = section_parts property_section (associations_parts x.properties)
 
-  annexes : List (Part ℕ)
+  annexes : List (SpellingPart ℕ)
   annexes = flat_map annex_parts x.annexes
 
   behind_name : Rise (implementation_parts x) → Rise (subs ++ (connections ++

@@ -13,7 +13,7 @@ use Rattle.aadl_tree.specs.Annexes.{Transition, AnnexTree}
 use Rattle.aadl_tree.specs.Declarations.{Implementation, PackageTree}
 use Rattle.aadl_names.specs.declared.fault.PackageFault.{PackageFault}
 use Rattle.aadl_names.specs.declared.fault.PackageFault.TheVariants.{Unknown}
-use Rattle.aadl_names.specs.NameUsesInAnnexes.{Known}
+use Rattle.aadl_names.specs.NameUsesInAnnexes.{NameRoles}
 use Rattle.aadl_names.specs.BehaviourAnnexes as names
 use Rattle.aadl_names.specs.PackageFaults.{is_among, known_in, state_uses, guard_uses, effect_uses, transition_uses}
 use Rattle.aadl_names.specs.PackageFaults.{behaviour_faults}
@@ -86,7 +86,7 @@ is_state_by false fault e = absurd (cc e)
 is_known : (is_state : List ℕ → Bool) (x : Identifier ℕ) → state_uses is_state x ≡ [] → is_state x.spelling ≡ true
 is_known is_state x none = is_state_by (is_state x.spelling) (Unknown x.spelling x.at) none
 
-declared_by : (annex : AnnexTree ℕ) (known : Known) (t : Transition ℕ)
+declared_by : (annex : AnnexTree ℕ) (known : NameRoles) (t : Transition ℕ)
     → transition_uses (is_among (names.states_of annex)) known t ≡ []
     → is_declared (states_of annex) t ≡ true
 declared_by annex known t none =

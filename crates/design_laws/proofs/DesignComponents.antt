@@ -20,12 +20,12 @@ use Rattle.aadl_tree.specs.Annexes.{VariableDeclaration, StateDeclaration, Annex
 use Rattle.aadl_tree.specs.Declarations.{Implementation, PackageTree}
 use Rattle.aadl_names.specs.BehaviourAnnexes as names
 use Rattle.aadl_names.specs.ReferenceResolution.{implementation_at, ports_of}
-use Rattle.aadl_uses.specs.Uses.{standing}
+use Rattle.aadl_uses.specs.Uses.{number_at_path}
 use Rattle.aadl_uses.specs.ThreadsBelow.{IsThreadOf, IsThreadAt, PathBefore}
 use Rattle.aadl_names.specs.BehaviourAnnexes.{first_behaviour}
 use Rattle.aadl_uses.specs.ThreadLocations.{spelled_path, thread_at}
 use Rattle.aadl_instance.specs.BehaviourSizes.{count_in, variable_count, state_count}
-use Rattle.aadl_instance.specs.FlattenedDesign.{Parts, IsFlat}
+use Rattle.aadl_instance.specs.FlattenedDesign.{InstanceParts, IsFlat}
 use Rattle.annex_resolve.specs.ExpressionTypesAndFindings.{kind_named}
 use Rattle.annex_resolve.specs.BehavioursAndFindings.{state_at, states_in, states_of, declared, behaviour_of}
 use Rattle.component_checks.specs.RootFindings.{root_findings}
@@ -85,7 +85,7 @@ first_counted : {X : Type 0} (of : AnnexTree ℕ → List X) (bs : List (ℕ × 
 first_counted of [] b is = absurd (cc is)
 first_counted of (c ∷ bs) b is = ap (λ (d : ℕ × AnnexTree ℕ). length (of d.1)) (same_Some c b is)
 
-module _ {tree : PackageTree ℕ} {name : List ℕ} {parts : Parts} (flat : IsFlat tree name parts) (path : List ℕ)
+module _ {tree : PackageTree ℕ} {name : List ℕ} {parts : InstanceParts} (flat : IsFlat tree name parts) (path : List ℕ)
     (x : Implementation ℕ)
     (thread : IsThreadOf tree parts.root path x) where
   few_ports : length (ports_of tree x) ≤ PORTS
@@ -138,7 +138,7 @@ module _ {tree : PackageTree ℕ} {name : List ℕ} {parts : Parts} (flat : IsFl
   is_small b is = small_of (first_annex x) b refl is
 
 -- ---- components
-module _ {tree : PackageTree ℕ} {name : List ℕ} {parts : Parts} (flat : IsFlat tree name parts) (used : ℕ → Bool)
+module _ {tree : PackageTree ℕ} {name : List ℕ} {parts : InstanceParts} (flat : IsFlat tree name parts) (used : ℕ → Bool)
     (is_use : IsUse tree parts.root used) (none : used_findings tree (shown_by tree parts) used ≡ [])
     (rate : ℕ) (clean : root_findings tree parts.root rate ≡ []) (threads : flat_map (thread_findings tree parts.root)
     (map (thread_at tree parts.root) parts.threads) ≡ []) (named : AreNamed tree)
@@ -216,7 +216,7 @@ module _ {tree : PackageTree ℕ} {name : List ℕ} {parts : Parts} (flat : IsFl
       ))) in
       omega (arith, same, few)
 
-  differ_by : (p q : List ℕ) (m n : ℕ) → standing tree parts.root p ≡ Some m → standing tree parts.root q ≡ Some n
+  differ_by : (p q : List ℕ) (m n : ℕ) → number_at_path tree parts.root p ≡ Some m → number_at_path tree parts.root q ≡ Some n
       → ThreadIs tree parts.root p
       → ThreadIs tree parts.root q
       → spelled_path tree parts.root p ≡ spelled_path tree parts.root q → p ≡ q

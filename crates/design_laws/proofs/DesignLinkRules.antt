@@ -20,8 +20,8 @@ use Rattle.pals_model.specs.DesignRules as model
 use Rattle.aadl_tree.specs.Declarations.{Feature, PackageTree}
 use Rattle.aadl_uses.specs.ThreadLocations.{thread_at}
 use Rattle.aadl_chains.specs.Chains.{Port, Leads}
-use Rattle.aadl_chains.specs.LinksFeedsAndTaps.{Ends, TargetBefore, PortBefore}
-use Rattle.aadl_instance.specs.FlattenedDesign.{Parts, IsFlat}
+use Rattle.aadl_chains.specs.LinksFeedsAndTaps.{CarriedChain, TargetBefore, PortBefore}
+use Rattle.aadl_instance.specs.FlattenedDesign.{InstanceParts, IsFlat}
 use Rattle.aadl_chains.specs.LinksFeedsAndTaps as walks
 use Rattle.aadl_instance.specs.Instances.{port_name, chain_at}
 use Rattle.annex_resolve.specs.ExpressionTypesAndFindings.{kind_in}
@@ -35,14 +35,14 @@ use Rattle.design_laws.specs.InstanceDesigns.{link_in, feed_in, tap_in}
 use Rattle.design_laws.proofs.SoundInstanceParts.{names_clean, not_over, declared_at}
 use Rattle.design_laws.proofs.InstanceBoundsAndRates.{root_there}
 use Rattle.design_laws.proofs.MatchedLists.{Zipped, Made, all_made, zipped_length, all_zipped, pairs_zipped}
-use Rattle.design_laws.proofs.ChainEndPorts.{Sits}
+use Rattle.design_laws.proofs.ChainEndPorts.{IsComponentAt}
 use Rattle.design_laws.proofs.LinksFromChains.{not_root, end_goes_in, link_joins, feed_joins, tap_joins, link_of}
 use Rattle.design_laws.proofs.LinksFromChains.{feed_of, tap_of, link_is, feed_is, tap_is, in_kind_is}
 use Rattle.design_laws.proofs.SingleLinkRules.{link_keeps, feed_keeps, tap_keeps}
 use Rattle.design_laws.proofs.LinkOrderAndNames.{InPort, other_target, targets_rise, one_port, other_name, one_named}
 use Rattle.design_laws.proofs.UniqueChainStarts.{one_start}
 
-module _ {tree : PackageTree ℕ} {name : List ℕ} {parts : Parts} (flat : IsFlat tree name parts) (used : ℕ → Bool)
+module _ {tree : PackageTree ℕ} {name : List ℕ} {parts : InstanceParts} (flat : IsFlat tree name parts) (used : ℕ → Bool)
     (is_use : IsUse tree parts.root used) (none : used_findings tree (shown_by tree parts) used ≡ [])
     (named : AreNamed tree)
     (links_found : flat_map (link_findings tree (map (thread_at tree parts.root) parts.threads)
@@ -52,7 +52,7 @@ module _ {tree : PackageTree ℕ} {name : List ℕ} {parts : Parts} (flat : IsFl
     (rates_of tree (shown_by tree parts)))
     (map (chain_at tree parts) parts.feeds) ≡ [])
     (period : ℕ) (gamma : Gamma) (ignored : List (List ℕ)) (cs : List Component)
-    (sits : Zipped (Sits tree parts.root) parts.threads cs) where
+    (sits : Zipped (IsComponentAt tree parts.root) parts.threads cs) where
   -- a design with these components
   abbrev pub design_of : List Link → List Feed → List Tap → DesignParts
   design_of links feeds taps = record {
@@ -67,23 +67,23 @@ module _ {tree : PackageTree ℕ} {name : List ℕ} {parts : Parts} (flat : IsFl
   }
 
   -- ---- what each list is made of
-  pub record LinkIs (e : Ends) (l : Link) : Type 0 where
+  pub record LinkIs (e : CarriedChain) (l : Link) : Type 0 where
     pub link : walks.IsLink tree parts.root e
     pub found : link_findings tree (map (thread_at tree parts.root) parts.threads) (rates_of tree (shown_by tree parts))
         (chain_at tree parts e) ≡ []
     pub is : l ≡ link_of flat (design_of [] [] []) sits e
 
-  pub record FeedIs (e : Ends) (f : Feed) : Type 0 where
+  pub record FeedIs (e : CarriedChain) (f : Feed) : Type 0 where
     pub feed : walks.IsFeed tree parts.root e
     pub found : feed_findings tree (map (thread_at tree parts.root) parts.threads) (rates_of tree (shown_by tree parts))
         (chain_at tree parts e) ≡ []
     pub is : f ≡ feed_of flat (design_of [] [] []) sits e
 
-  pub record TapIs (e : Ends) (t : Tap) : Type 0 where
+  pub record TapIs (e : CarriedChain) (t : Tap) : Type 0 where
     pub tap : walks.IsTap tree parts.root e
     pub is : t ≡ tap_of flat (design_of [] [] []) sits e
 
-  links_by : (es : List Ends) → AllByRecursion (walks.IsLink tree parts.root) es
+  links_by : (es : List CarriedChain) → AllByRecursion (walks.IsLink tree parts.root) es
       → AllByRecursion (λ e. link_findings tree (map (thread_at tree parts.root) parts.threads)
       (rates_of tree (shown_by tree parts))
       (chain_at tree parts e) ≡ []) es
@@ -108,7 +108,7 @@ module _ {tree : PackageTree ℕ} {name : List ℕ} {parts : Parts} (flat : IsFl
       (chain_at tree parts) parts.links (all_none (link_findings tree (map (thread_at tree parts.root) parts.threads)
       (rates_of tree (shown_by tree parts))) (map (chain_at tree parts) parts.links) links_found)))
 
-  feeds_by : (es : List Ends) → AllByRecursion (walks.IsFeed tree parts.root) es
+  feeds_by : (es : List CarriedChain) → AllByRecursion (walks.IsFeed tree parts.root) es
       → AllByRecursion (λ e. feed_findings tree (map (thread_at tree parts.root) parts.threads)
       (rates_of tree (shown_by tree parts))
       (chain_at tree parts e) ≡ []) es
@@ -133,7 +133,7 @@ module _ {tree : PackageTree ℕ} {name : List ℕ} {parts : Parts} (flat : IsFl
       (chain_at tree parts) parts.feeds (all_none (feed_findings tree (map (thread_at tree parts.root) parts.threads)
       (rates_of tree (shown_by tree parts))) (map (chain_at tree parts) parts.feeds) feeds_found)))
 
-  taps_by : (es : List Ends) → AllByRecursion (walks.IsTap tree parts.root) es
+  taps_by : (es : List CarriedChain) → AllByRecursion (walks.IsTap tree parts.root) es
       → AllByRecursion (λ e. (t : Tap) × (tap_in (chain_at tree parts e) ≡ Some t) × TapIs e t) es
   taps_by [] each = tt
   taps_by (e ∷ es) each = (
@@ -151,25 +151,25 @@ module _ {tree : PackageTree ℕ} {name : List ℕ} {parts : Parts} (flat : IsFl
       (taps_by parts.taps (recursion_from_All (walks.IsTap tree parts.root) parts.taps flat.taps.each))
 
   -- ---- in ports at which they end
-  link_port : (ls : List Link) (fs : List Feed) (ts : List Tap) (e : Ends) → walks.IsLink tree parts.root e
+  link_port : (ls : List Link) (fs : List Feed) (ts : List Tap) (e : CarriedChain) → walks.IsLink tree parts.root e
       → InPort flat (design_of ls fs ts) sits e.to
   link_port ls fs ts e (chain, is, from, to, carries) =
       let j = link_joins flat used is_use none e (chain, is, from, to, carries) in
       record { thread = to; port = j.target; is = j.target_is; goes = end_goes_in flat e.to is.ends to }
 
-  feed_port : (ls : List Link) (fs : List Feed) (ts : List Tap) (e : Ends) → walks.IsFeed tree parts.root e
+  feed_port : (ls : List Link) (fs : List Feed) (ts : List Tap) (e : CarriedChain) → walks.IsFeed tree parts.root e
       → InPort flat (design_of ls fs ts) sits e.to
   feed_port ls fs ts e (chain, is, from, to, carries) =
       let j = feed_joins flat used is_use none e (chain, is, from, to, carries) in
       record { thread = to; port = j.target; is = j.target_is; goes = end_goes_in flat e.to is.ends to }
 
-  feed_root : (e : Ends) → walks.IsFeed tree parts.root e → e.from.path ≡ []
+  feed_root : (e : CarriedChain) → walks.IsFeed tree parts.root e → e.from.path ≡ []
   feed_root e (chain, is, from, to, carries) = from
 
-  tap_root : (e : Ends) → walks.IsTap tree parts.root e → e.to.path ≡ []
+  tap_root : (e : CarriedChain) → walks.IsTap tree parts.root e → e.to.path ≡ []
   tap_root e (chain, is, from, to, carries) = to
 
-  never_both : (e d : Ends) → walks.IsFeed tree parts.root e → walks.IsLink tree parts.root d → e.to ≡ d.to → ⊥
+  never_both : (e d : CarriedChain) → walks.IsFeed tree parts.root e → walks.IsLink tree parts.root d → e.to ≡ d.to → ⊥
   never_both e d (chain, is, from, to, carries) (other, other_is, start, end, other_carries) same =
       let one = one_start flat chain other e.from d.from d.to is.start other_is.start
       (subst (λ p. Leads tree parts.root chain e.from p) same is.leads) other_is.leads in
@@ -177,33 +177,33 @@ module _ {tree : PackageTree ℕ} {name : List ℕ} {parts : Parts} (flat : IsFl
 
   -- ---- the rules
   module _ (ls : List Link) (fs : List Feed) (ts : List Tap) where
-    link_keeps_by : (e : Ends) (l : Link) → LinkIs e l → model.IsLink (design_of ls fs ts) l
+    link_keeps_by : (e : CarriedChain) (l : Link) → LinkIs e l → model.IsLink (design_of ls fs ts) l
     link_keeps_by e l h = subst (model.IsLink (design_of ls fs ts)) (sym h.is)
         (link_keeps flat used is_use none (design_of ls fs ts) sits e h.link h.found)
 
-    links_rise : (a b : Ends) (l m : Link) → TargetBefore a b → LinkIs a l → LinkIs b m → model.LinkPrecedes l m
+    links_rise : (a b : CarriedChain) (l m : Link) → TargetBefore a b → LinkIs a l → LinkIs b m → model.LinkPrecedes l m
     links_rise a b l m before x y =
         subst (λ k. model.LinkPrecedes k m) (sym x.is)
         (subst (λ k. model.LinkPrecedes (link_of flat (design_of [] [] []) sits a) k) (sym y.is)
         (targets_rise flat (design_of ls fs ts) sits a b (link_port ls fs ts a x.link)
         (link_port ls fs ts b y.link) before))
 
-    feed_keeps_by : (e : Ends) (f : Feed) → FeedIs e f → model.IsFeed (design_of ls fs ts) f
+    feed_keeps_by : (e : CarriedChain) (f : Feed) → FeedIs e f → model.IsFeed (design_of ls fs ts) f
     feed_keeps_by e f h = subst (model.IsFeed (design_of ls fs ts)) (sym h.is)
         (feed_keeps flat used is_use none (design_of ls fs ts) sits named.words e h.feed h.found)
 
-    feeds_rise : (a b : Ends) (f g : Feed) → TargetBefore a b → FeedIs a f → FeedIs b g → model.FeedPrecedes f g
+    feeds_rise : (a b : CarriedChain) (f g : Feed) → TargetBefore a b → FeedIs a f → FeedIs b g → model.FeedPrecedes f g
     feeds_rise a b f g before x y =
         subst (λ k. model.FeedPrecedes k g) (sym x.is)
         (subst (λ k. model.FeedPrecedes (feed_of flat (design_of [] [] []) sits a) k) (sym y.is)
         (targets_rise flat (design_of ls fs ts) sits a b (feed_port ls fs ts a x.feed)
         (feed_port ls fs ts b y.feed) before))
 
-    tap_keeps_by : (e : Ends) (t : Tap) → TapIs e t → model.IsTap (design_of ls fs ts) t
+    tap_keeps_by : (e : CarriedChain) (t : Tap) → TapIs e t → model.IsTap (design_of ls fs ts) t
     tap_keeps_by e t h = subst (model.IsTap (design_of ls fs ts)) (sym h.is)
         (tap_keeps flat used is_use none (design_of ls fs ts) sits named.words e h.tap)
 
-    taps_differ : (a b : Ends) (t u : Tap) → PortBefore a b → TapIs a t → TapIs b u → t.name ≢ u.name
+    taps_differ : (a b : CarriedChain) (t u : Tap) → PortBefore a b → TapIs a t → TapIs b u → t.name ≢ u.name
     taps_differ a b t u before x y same =
         let r = root_there flat used is_use none in
         let i = tap_joins flat used is_use none a x.tap in
@@ -214,7 +214,7 @@ module _ {tree : PackageTree ℕ} {name : List ℕ} {parts : Parts} (flat : IsFl
         other_name tree parts.root r.0 r.1 differ a.to b.to i.target j.target (tap_root a x.tap)
         (tap_root b y.tap) i.target_is j.target_is (ltb-true a.to.port b.to.port before) (sym first ∙ (same ∙ second))
 
-    feed_kind_is : (e : Ends) (f : Feed) → (h : FeedIs e f)
+    feed_kind_is : (e : CarriedChain) (f : Feed) → (h : FeedIs e f)
         → feed_kind (design_of ls fs ts) f ≡ (feed_joins flat used is_use none e h.feed).kind
     feed_kind_is e f h =
         let p = feed_port ls fs ts e h.feed in
@@ -224,7 +224,7 @@ module _ {tree : PackageTree ℕ} {name : List ℕ} {parts : Parts} (flat : IsFl
         ap (feed_kind (design_of ls fs ts)) h.is
         ∙ in_kind_is flat (design_of ls fs ts) sits e.to p.port p.thread p.is p.goes j.kind typed
 
-    feeds_agree : (a b : Ends) (f g : Feed) → TargetBefore a b → FeedIs a f → FeedIs b g
+    feeds_agree : (a b : CarriedChain) (f g : Feed) → TargetBefore a b → FeedIs a f → FeedIs b g
         → model.AgreeInKind (design_of ls fs ts) f g
     feeds_agree a b f g before x y = record {
       kinds = λ same.
@@ -242,7 +242,7 @@ module _ {tree : PackageTree ℕ} {name : List ℕ} {parts : Parts} (flat : IsFl
           feed_kind_is a f x ∙ (kinds ∙ sym (feed_kind_is b g y));
     }
 
-    apart_by : (e : Ends) (f : Feed) → FeedIs e f → (d : Ends) (l : Link) → LinkIs d l → model.IsApart f l
+    apart_by : (e : CarriedChain) (f : Feed) → FeedIs e f → (d : CarriedChain) (l : Link) → LinkIs d l → model.IsApart f l
     apart_by e f x d l y same =
         let first = ap (λ (k : Feed). model.port_place k.target.0 k.in_port) x.is in
         let second = ap (λ (k : Link). model.port_place k.target.0 k.in_port) y.is in

@@ -8,13 +8,13 @@ use Rattle.pals_model.specs.declared.design.DesignParts.{DesignParts}
 use Rattle.pals_model.specs.DesignRules.{IsDesign}
 use Rattle.aadl_tree.specs.Declarations.{PackageTree}
 use Rattle.design_laws.specs.proof.PackageNames.{AreNamed}
-use Rattle.model_violations.specs.Violations.{Shown}
+use Rattle.model_violations.specs.Violations.{ShownInstance}
 use Rattle.design_laws.specs.proof.AcceptedInstances.{IsShown, NothingFound}
 use Rattle.design_laws.specs.InstanceDesigns.{IsDesignOf}
 use Rattle.design_laws.proofs.InstanceBehaviours.{ThreadLaw}
 use Rattle.design_laws.proofs.AcceptedInstances.{has_design, one_design}
 
-pub keeps : ThreadLaw → (tree : PackageTree ℕ) (s : Shown) → AreNamed tree → ∥ IsShown tree s ∥₁ → NothingFound tree s
+pub keeps : ThreadLaw → (tree : PackageTree ℕ) (s : ShownInstance) → AreNamed tree → ∥ IsShown tree s ∥₁ → NothingFound tree s
     → (design : DesignParts)
     → IsDesignOf tree s design → IsDesign design
 unfolding IsAcyclic
@@ -22,7 +22,7 @@ keeps law tree s named shown nothing design is =
     ∥∥₁_elim shown (hlevel props)
     (λ i. let d = has_design law tree s named i nothing in subst IsDesign (one_design tree s d.0 design d.1 is) d.2)
 
-pub there_is : ThreadLaw → (tree : PackageTree ℕ) (s : Shown) → AreNamed tree → ∥ IsShown tree s ∥₁
+pub there_is : ThreadLaw → (tree : PackageTree ℕ) (s : ShownInstance) → AreNamed tree → ∥ IsShown tree s ∥₁
     → NothingFound tree s
     → ((design : DesignParts) → IsDesignOf tree s design → ⊥) → ⊥
 there_is law tree s named shown nothing never =

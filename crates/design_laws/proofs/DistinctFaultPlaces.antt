@@ -4,7 +4,7 @@ use Rattle.std.proofs.Common.{sym, subst, append_assoc, arith}
 use Rattle.std.specs.Prelude.{flat_map}
 use Rattle.std.proofs.lemmas.List.Elements.{Contains-append_left, Contains-append_right, Contains-append_cases}
 use Rattle.list_lemmas.proofs.Elements.{Contains-nil}
-use Rattle.aadl_tree.specs.SpellingParts.{Part, Section, section_mark, empty_section, plain, may}
+use Rattle.aadl_tree.specs.SpellingParts.{SpellingPart, Section, section_mark, empty_section, plain, may}
 use Rattle.aadl_tree.specs.Declarations.{section_parts}
 use Rattle.aadl_names.specs.declared.fault.PackageFault.{PackageFault}
 use Rattle.aadl_names.specs.FirstFaults.{place_of}
@@ -14,43 +14,43 @@ use Rattle.design_laws.proofs.PlacedNames.{Rise, rise_front, rise_back, in_front
 
 -- each of the findings stands at a place that the parts keep, and where places rise along the parts, two at one place
 -- are equal
-pub record Clear (parts : List (Part ℕ)) (found : List PackageFault) : Type 0 where
+pub record OnePerPlace (parts : List (SpellingPart ℕ)) (found : List PackageFault) : Type 0 where
   pub inside : (f : PackageFault) → Contains found f → Contains (places_of parts) (place_of f)
   pub single : Rise parts → (f g : PackageFault) → Contains found f → Contains found g → place_of f ≡ place_of g → f ≡ g
 
-pub clear_none : (parts : List (Part ℕ)) → Clear parts []
+pub clear_none : (parts : List (SpellingPart ℕ)) → OnePerPlace parts []
 clear_none parts =
     record { inside = λ f h. absurd (Contains-nil f h); single = λ r f g h k e. absurd (Contains-nil f h) }
 
-pub clear_one : (parts : List (Part ℕ)) (f : PackageFault) → Contains (places_of parts) (place_of f)
-    → Clear parts (f ∷ [])
+pub clear_one : (parts : List (SpellingPart ℕ)) (f : PackageFault) → Contains (places_of parts) (place_of f)
+    → OnePerPlace parts (f ∷ [])
 clear_one parts f there = record {
   inside = λ g h. subst (λ x. Contains (places_of parts) (place_of x)) (only_here f g h) there;
   single = λ r g h a b e. sym (only_here f g a) ∙ only_here f h b;
 }
 
-pub clear_front : {a : List (Part ℕ)} (b : List (Part ℕ)) {fs : List PackageFault} → Clear a fs → Clear (a ++ b) fs
+pub clear_front : {a : List (SpellingPart ℕ)} (b : List (SpellingPart ℕ)) {fs : List PackageFault} → OnePerPlace a fs → OnePerPlace (a ++ b) fs
 clear_front {a} b {fs} c = record {
   inside = λ f h. in_front a b (place_of f) (c.inside f h);
   single = λ r f g h k e. c.single (rise_front a b r) f g h k e;
 }
 
-pub clear_back : (a : List (Part ℕ)) {b : List (Part ℕ)} {fs : List PackageFault} → Clear b fs → Clear (a ++ b) fs
+pub clear_back : (a : List (SpellingPart ℕ)) {b : List (SpellingPart ℕ)} {fs : List PackageFault} → OnePerPlace b fs → OnePerPlace (a ++ b) fs
 clear_back a {b} {fs} c = record {
   inside = λ f h. in_back a b (place_of f) (c.inside f h);
   single = λ r f g h k e. c.single (rise_back a b r) f g h k e;
 }
 
-pub clear_tail : {p : Part ℕ} {b : List (Part ℕ)} {fs : List PackageFault} → Clear b fs → Clear (p ∷ b) fs
+pub clear_tail : {p : SpellingPart ℕ} {b : List (SpellingPart ℕ)} {fs : List PackageFault} → OnePerPlace b fs → OnePerPlace (p ∷ b) fs
 clear_tail {p} {b} {fs} c = clear_back (p ∷ []) c
 
-pub clear_section : (s : Section) (ps : List (Part ℕ)) {fs : List PackageFault} → Clear ps fs
-    → Clear (section_parts s ps) fs
+pub clear_section : (s : Section) (ps : List (SpellingPart ℕ)) {fs : List PackageFault} → OnePerPlace ps fs
+    → OnePerPlace (section_parts s ps) fs
 clear_section s [] c = clear_tail {p = may (empty_section s)} c
 clear_section s (p ∷ ps) c = clear_tail {p = plain (section_mark s)} c
 
 -- ---- findings of parts one behind the other
-module _ (a b : List (Part ℕ)) (fs gs : List PackageFault) (c : Clear a fs) (d : Clear b gs) where
+module _ (a b : List (SpellingPart ℕ)) (fs gs : List PackageFault) (c : OnePerPlace a fs) (d : OnePerPlace b gs) where
   inside_by : (f : PackageFault) → Contains fs f ⊎ Contains gs f → Contains (places_of (a ++ b)) (place_of f)
   inside_by f (inl h) = in_front a b (place_of f) (c.inside f h)
   inside_by f (inr h) = in_back a b (place_of f) (d.inside f h)
@@ -68,41 +68,41 @@ module _ (a b : List (Part ℕ)) (fs gs : List PackageFault) (c : Clear a fs) (d
   single_by r f g (inr h) (inl k) e = absurd (apart r g f k h (sym e))
   single_by r f g (inr h) (inr k) e = d.single (rise_back a b r) f g h k e
 
-  both_clear : Clear (a ++ b) (fs ++ gs)
+  both_clear : OnePerPlace (a ++ b) (fs ++ gs)
   both_clear = record {
     inside = λ f h. inside_by f (Contains-append_cases fs gs f h);
     single = λ r f g h k e. single_by r f g (Contains-append_cases fs gs f h) (Contains-append_cases fs gs g k) e;
   }
 
-pub clear_append : {a b : List (Part ℕ)} {fs gs : List PackageFault} → Clear a fs → Clear b gs
-    → Clear (a ++ b) (fs ++ gs)
+pub clear_append : {a b : List (SpellingPart ℕ)} {fs gs : List PackageFault} → OnePerPlace a fs → OnePerPlace b gs
+    → OnePerPlace (a ++ b) (fs ++ gs)
 clear_append {a} {b} {fs} {gs} c d = both_clear a b fs gs c d
 
-pub clear_flat : {V : Type 0} (f : V → List (Part ℕ)) (g : V → List PackageFault) → ((v : V) → Clear (f v) (g v))
+pub clear_flat : {V : Type 0} (f : V → List (SpellingPart ℕ)) (g : V → List PackageFault) → ((v : V) → OnePerPlace (f v) (g v))
     → (vs : List V)
-    → Clear (flat_map f vs) (flat_map g vs)
+    → OnePerPlace (flat_map f vs) (flat_map g vs)
 clear_flat f g each [] = clear_none []
 clear_flat f g each (v ∷ vs) = clear_append (each v) (clear_flat f g each vs)
 
 -- ---- fewer findings, or others in their order
-pub clear_fewer : {parts : List (Part ℕ)} {fs gs : List PackageFault}
-    → ((f : PackageFault) → Contains gs f → Contains fs f) → Clear parts fs
-    → Clear parts gs
+pub clear_fewer : {parts : List (SpellingPart ℕ)} {fs gs : List PackageFault}
+    → ((f : PackageFault) → Contains gs f → Contains fs f) → OnePerPlace parts fs
+    → OnePerPlace parts gs
 clear_fewer fewer c = record {
   inside = λ f h. c.inside f (fewer f h);
   single = λ r f g h k e. c.single r f g (fewer f h) (fewer g k) e;
 }
 
-pub clear_unless : (b : Bool) {parts : List (Part ℕ)} {fs : List PackageFault} → Clear parts fs
-    → Clear parts (cond b [] fs)
+pub clear_unless : (b : Bool) {parts : List (SpellingPart ℕ)} {fs : List PackageFault} → OnePerPlace parts fs
+    → OnePerPlace parts (cond b [] fs)
 clear_unless true {parts} {fs} c = clear_none parts
 clear_unless false {parts} {fs} c = c
 
-module _ {parts : List (Part ℕ)} where
-  pub clear_three : (a b c : List PackageFault) → Clear parts (a ++ (b ++ c)) → Clear parts (a ++ b ++ c)
-  clear_three a b c h = subst (Clear parts) (sym (append_assoc a b c)) h
+module _ {parts : List (SpellingPart ℕ)} where
+  pub clear_three : (a b c : List PackageFault) → OnePerPlace parts (a ++ (b ++ c)) → OnePerPlace parts (a ++ b ++ c)
+  clear_three a b c h = subst (OnePerPlace parts) (sym (append_assoc a b c)) h
 
-  pub clear_four : (a b c d : List PackageFault) → Clear parts (a ++ (b ++ (c ++ d))) → Clear parts (a ++ b ++ c ++ d)
+  pub clear_four : (a b c d : List PackageFault) → OnePerPlace parts (a ++ (b ++ (c ++ d))) → OnePerPlace parts (a ++ b ++ c ++ d)
   clear_four a b c d h = clear_three (a ++ b) c d (clear_three a b (c ++ d) h)
 
 module _ (a b c d : List PackageFault) (f : PackageFault) where
@@ -121,7 +121,7 @@ module _ (a b c d : List PackageFault) (f : PackageFault) where
   turned_by (inr h) = middle_by (Contains-append_cases b (c ++ d) f h)
 
 -- the second and the third of four lists turned round
-pub clear_turned : {parts : List (Part ℕ)} (a b c d : List PackageFault) → Clear parts (a ++ (c ++ (b ++ d)))
-    → Clear parts (a ++ (b ++ (c ++ d)))
+pub clear_turned : {parts : List (SpellingPart ℕ)} (a b c d : List PackageFault) → OnePerPlace parts (a ++ (c ++ (b ++ d)))
+    → OnePerPlace parts (a ++ (b ++ (c ++ d)))
 clear_turned a b c d h =
     clear_fewer (λ f there. turned_by a b c d f (Contains-append_cases a (b ++ (c ++ d)) f there)) h

@@ -3,8 +3,8 @@ use Rattle.std.proofs.Common.{ℕ, List, [], ◌∷◌, ◌++◌, Contains}
 use Rattle.std.specs.Prelude.{flat_map}
 use Rattle.std.proofs.lemmas.List.Elements.{Contains-append_left}
 use Rattle.aadl_tree.specs.declared.mark.Mark.TheVariants as k
-use Rattle.aadl_tree.specs.Terminals.{mark, Kind}
-use Rattle.aadl_tree.specs.SpellingParts.{Part, token, plain, parts_if, behind, feature_section, subcomponent_section}
+use Rattle.aadl_tree.specs.Terminals.{mark, PlainTerminal}
+use Rattle.aadl_tree.specs.SpellingParts.{SpellingPart, token, plain, parts_if, behind, feature_section, subcomponent_section}
 use Rattle.aadl_tree.specs.SpellingParts.{connection_section, property_section}
 use Rattle.aadl_tree.specs.Names.{Identifier, Reference, identifier_parts, qualifier_parts, name_parts, reference_parts}
 use Rattle.aadl_tree.specs.Values.{associations_parts}
@@ -19,7 +19,7 @@ use Rattle.aadl_names.specs.Spelling.{spelled_reference, spelled_implementation,
 use Rattle.aadl_names.specs.PackageFaults.{behaviour_faults, reference_at, unknown_reference, unknown_end}
 use Rattle.aadl_names.proofs.ListMembers.{is_here}
 use Rattle.aadl_names.specs.proof.PlaceOrder.{places_of}
-use Rattle.design_laws.proofs.DistinctFaultPlaces.{Clear, clear_none, clear_one, clear_front, clear_back, clear_tail}
+use Rattle.design_laws.proofs.DistinctFaultPlaces.{OnePerPlace, clear_none, clear_one, clear_front, clear_back, clear_tail}
 use Rattle.design_laws.proofs.DistinctFaultPlaces.{clear_section, clear_append, clear_flat}
 use Rattle.design_laws.proofs.PossibleNameFaults.{of_feature, of_subcomponent, of_connection, of_annex, none_of}
 use Rattle.design_laws.proofs.PossibleNameFaults.{of_type, of_implementation, of_declaration, possible}
@@ -28,50 +28,50 @@ use Rattle.design_laws.proofs.DistinctAnnexFaultPlaces.{transitions_of, behaviou
 
 -- ---- what a subcomponent and a connection refer to
 -- a reference begins where its first word stands
-begins : (rest : List (Part ℕ)) (name : Identifier ℕ) (qualifiers : List (Identifier ℕ))
+begins : (rest : List (SpellingPart ℕ)) (name : Identifier ℕ) (qualifiers : List (Identifier ℕ))
     → Contains (places_of (flat_map qualifier_parts qualifiers ++ (identifier_parts name ++ rest)))
     (elim qualifiers as (λ _. ℕ) [ [] ↦ name.at | y ∷ ys ↦ y.at ])
 begins rest name [] = Contains-append_left (name.at ∷ []) (places_of rest) name.at (is_here name.at)
 begins rest name (y ∷ ys) = Contains-append_left (y.at ∷ []) _ y.at (is_here y.at)
 
-reference_clear : (x : Reference ℕ) → Clear (reference_parts x) (unknown_reference x)
+reference_clear : (x : Reference ℕ) → OnePerPlace (reference_parts x) (unknown_reference x)
 reference_clear x = clear_one (reference_parts x) (Unknown (spelled_reference x) (reference_at x))
     (begins (parts_if (behind k.Dot identifier_parts) x.implementation) x.type_name x.qualifiers)
 
-end_clear : (x : ConnectionEnd ℕ) → Clear (end_parts x) (unknown_end x)
+end_clear : (x : ConnectionEnd ℕ) → OnePerPlace (end_parts x) (unknown_end x)
 end_clear x = clear_one (end_parts x) (Unknown (spelled_end x) x.first.at)
     (Contains-append_left (x.first.at ∷ []) (places_of (parts_if (behind k.Dot identifier_parts) x.second)) x.first.at
     (is_here x.first.at))
 
 -- ---- what is declared in a declaration
-feature_clear : (x : Feature ℕ) → Clear (feature_parts x) (of_feature x)
+feature_clear : (x : Feature ℕ) → OnePerPlace (feature_parts x) (of_feature x)
 feature_clear x =
     clear_append (identifier_clear x.name)
     (clear_tail {p = plain k.Colon} (clear_tail {p = plain (direction_mark x.direction)}
     (clear_tail {p = plain k.Data} (clear_tail {p = plain k.Port} (clear_back (parts_if reference_parts x.data_type)
     (clear_front (plain k.Semicolon ∷ []) (properties_clear x.properties)))))))
 
-subcomponent_clear : (x : Subcomponent ℕ) → Clear (subcomponent_parts x) (of_subcomponent x)
+subcomponent_clear : (x : Subcomponent ℕ) → OnePerPlace (subcomponent_parts x) (of_subcomponent x)
 subcomponent_clear x =
     clear_append (identifier_clear x.name)
     (clear_tail {p = plain k.Colon} (clear_tail {p = plain (category_mark x.category)}
     (clear_append (reference_clear x.classifier)
     (clear_front (plain k.Semicolon ∷ []) (properties_clear x.properties)))))
 
-connection_clear : (x : Connection ℕ) → Clear (connection_parts x) (of_connection x)
+connection_clear : (x : Connection ℕ) → OnePerPlace (connection_parts x) (of_connection x)
 connection_clear x =
     clear_append (identifier_clear x.name) (clear_tail {p = plain k.Colon} (clear_tail {p = plain k.Port}
     (clear_append (end_clear x.source) (clear_tail {p = plain k.Arrow} (clear_append (end_clear x.target)
     (clear_front (plain k.Semicolon ∷ []) (properties_clear x.properties)))))))
 
 -- ---- declarations
-heading_clear : (kind : Kind) (name : List ℕ) (at : ℕ) → Clear (token kind (at ∷ []) ∷ []) (Twice name at ∷ [])
+heading_clear : (kind : PlainTerminal) (name : List ℕ) (at : ℕ) → OnePerPlace (token kind (at ∷ []) ∷ []) (Twice name at ∷ [])
 heading_clear kind name at = clear_one (token kind (at ∷ []) ∷ []) (Twice name at) (is_here at)
 
-no_transitions : (x : AnnexTree ℕ) → Clear (transitions_of x) []
+no_transitions : (x : AnnexTree ℕ) → OnePerPlace (transitions_of x) []
 no_transitions x = clear_none (transitions_of x)
 
-type_clear : (x : TypeDeclaration ℕ) → Clear (type_parts x) (of_type x)
+type_clear : (x : TypeDeclaration ℕ) → OnePerPlace (type_parts x) (of_type x)
 type_clear x =
     clear_append (heading_clear (mark (category_mark x.category)) x.name.spelling x.at)
     (clear_back (identifier_parts x.name)
@@ -82,7 +82,7 @@ type_clear x =
     (clear_flat annex_parts (of_annex none_of) (annex_clear none_of no_transitions) x.annexes)))))
 
 implementation_clear : (tree : PackageTree ℕ) (x : Implementation ℕ)
-    → Clear (implementation_parts x) (of_implementation tree x)
+    → OnePerPlace (implementation_parts x) (of_implementation tree x)
 implementation_clear tree x =
     clear_append (heading_clear (mark (category_mark x.category)) (spelled_implementation x.name) x.at)
     (clear_tail {p = plain k.Implementation}
@@ -96,11 +96,11 @@ implementation_clear tree x =
     (clear_flat annex_parts (of_annex (behaviour_faults tree x))
     (annex_clear (behaviour_faults tree x) (behaviour_clear tree x)) x.annexes)))))))
 
-declaration_clear : (tree : PackageTree ℕ) (x : Declaration ℕ) → Clear (declaration_parts x) (of_declaration tree x)
+declaration_clear : (tree : PackageTree ℕ) (x : Declaration ℕ) → OnePerPlace (declaration_parts x) (of_declaration tree x)
 declaration_clear tree (type x) = type_clear x
 declaration_clear tree (implementation x) = implementation_clear tree x
 
-pub possible_clear : (tree : PackageTree ℕ) → Clear (package_parts tree) (possible tree)
+pub possible_clear : (tree : PackageTree ℕ) → OnePerPlace (package_parts tree) (possible tree)
 possible_clear tree =
     clear_tail {p = plain k.Package} (clear_back (name_parts tree.name) (clear_tail {p = plain k.Public}
     (clear_back (flat_map with_parts tree.withs) (clear_front (ending_parts (name_parts tree.end_name))

@@ -10,7 +10,7 @@ use Rattle.list_lemmas.proofs.ListOperations.{append_is_nil_right, append_is_nil
 use Rattle.list_lemmas.proofs.ElementPositions.{flat_map-nil_at}
 use Rattle.list_lemmas.proofs.Numbers.{ne_from_lt}
 use Rattle.list_lemmas.proofs.PairwiseProperties.{Pairs, pairs_append, pairs_weaker, all_pairs_from}
-use Rattle.aadl_tree.specs.SpellingParts.{Part}
+use Rattle.aadl_tree.specs.SpellingParts.{SpellingPart}
 use Rattle.aadl_tree.specs.Names.{Identifier}
 use Rattle.aadl_tree.specs.Annexes.{AnnexTree}
 use Rattle.aadl_tree.specs.Declarations.{Feature, Subcomponent, Connection, TypeDeclaration, Implementation}
@@ -37,10 +37,10 @@ use Rattle.design_laws.proofs.DeclaredNameOrder.{rise_declarations, rise_one}
 abbrev Earlier : SpelledName → SpelledName → Type 0
 Earlier x y = x.at < y.at
 
-abbrev Within : List (Part ℕ) → SpelledName → Type 0
+abbrev Within : List (SpellingPart ℕ) → SpelledName → Type 0
 Within parts x = Contains (places_of parts) x.at
 
-record Entered (parts : List (Part ℕ)) (xs : List SpelledName) : Type 0 where
+record Entered (parts : List (SpellingPart ℕ)) (xs : List SpelledName) : Type 0 where
   rising : Pairs Earlier xs
   inside : AllByRecursion (Within parts) xs
 
@@ -56,12 +56,12 @@ module _ (R : Identifier ℕ → Identifier ℕ → Type 0) (S : SpelledName →
   pairs_entries [] h = tt
   pairs_entries (x ∷ xs) h = (all_entries x xs h.0, pairs_entries xs h.1)
 
-inside_entries : (parts : List (Part ℕ)) (xs : List (Identifier ℕ)) → AllByRecursion (IsIn parts) xs
+inside_entries : (parts : List (SpellingPart ℕ)) (xs : List (Identifier ℕ)) → AllByRecursion (IsIn parts) xs
     → AllByRecursion (Within parts) (map entry_of xs)
 inside_entries parts [] h = tt
 inside_entries parts (x ∷ xs) h = (h.0, inside_entries parts xs h.1)
 
-entered : (parts : List (Part ℕ)) (xs : List (Identifier ℕ)) → Placed parts xs → Entered parts (map entry_of xs)
+entered : (parts : List (SpellingPart ℕ)) (xs : List (Identifier ℕ)) → Placed parts xs → Entered parts (map entry_of xs)
 entered parts xs h = record {
   rising = pairs_entries (λ x y. x.at < y.at) Earlier
       (λ x y lt. lt) xs h.rising;

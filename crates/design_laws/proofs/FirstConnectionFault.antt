@@ -7,22 +7,22 @@ use Rattle.aadl_tree.specs.declared.declarations.Direction.{Direction}
 use Rattle.aadl_tree.specs.declared.declarations.Direction.TheVariants as directions
 use Rattle.aadl_tree.specs.Declarations.{Connection, PackageTree}
 use Rattle.aadl_names.specs.declared.fault.PackageFault.{PackageFault}
-use Rattle.aadl_names.specs.declared.port_place.PortPlace.{PortPlace}
+use Rattle.aadl_names.specs.declared.port_place.NumberedPort.{NumberedPort}
 use Rattle.aadl_names.specs.proof.FirstFaultSoFar.{found}
 use Rattle.aadl_names.specs.ReferenceResolution.{implementation_at, connections_of}
 use Rattle.aadl_uses.specs.proof.PackageContainment.{containment}
 use Rattle.aadl_uses.specs.proof.FirstRecursion.{FirstIn}
 use Rattle.aadl_uses.specs.Uses.{IsInUse}
-use Rattle.aadl_uses.specs.declared.connections_by_target.Wire.{Wire}
+use Rattle.aadl_uses.specs.declared.connections_by_target.ConnectionPorts.{ConnectionPorts}
 use Rattle.aadl_uses.specs.SecondConnections.{IsDuplicate, target_in}
 use Rattle.aadl_uses.specs.proof.FirstConnections.{is_before, first_into}
-use Rattle.aadl_uses.specs.Wiring.{wires_at}
+use Rattle.aadl_uses.specs.Wiring.{connection_ports_at}
 use Rattle.aadl_uses.proofs.FirstConnectionTables.{is_second-tells, no_second}
 use Rattle.aadl_uses.specs.proof.ContainmentOrders.{IsOrder}
 use Rattle.aadl_chains.specs.proof.PortsJoinedOutside.{opposite, LeadsFrom, leads_from}
 use Rattle.aadl_chains.proofs.JoinedOutsideByConnection.{leads_to, leads_found}
 use Rattle.aadl_chains.specs.ChainFaults.{IsEndFault}
-use Rattle.aadl_chains.specs.proof.DeclaredEnds.{AreDeclared}
+use Rattle.aadl_chains.specs.proof.DeclaredEnds.{ArePermitted}
 use Rattle.aadl_chains.specs.proof.ConnectionsOnChains.{IsOnChain}
 use Rattle.aadl_chains.specs.proof.ConnectionFaults.{IsFoundAt, IsFoundIn, dead_end, second}
 use Rattle.aadl_chains.proofs.EndFaults.{both_found, nothing_at, ways_tell, no_source, no_target, end_fault}
@@ -35,7 +35,7 @@ record Told (P : Type 0) : Type 0 where
   answer : Bool
   tells : IsTrue answer ↔ P
 
-second_by : (wires : List Wire) (k : ℕ) (o : Option PortPlace) → target_in wires k ≡ o → Told (IsDuplicate wires k)
+second_by : (wires : List ConnectionPorts) (k : ℕ) (o : Option NumberedPort) → target_in wires k ≡ o → Told (IsDuplicate wires k)
 second_by wires k None e = record { answer = false; tells = no_second wires k e }
 second_by wires k (Some target) e =
     record {
@@ -43,11 +43,11 @@ second_by wires k (Some target) e =
       tells = is_second-tells wires k target (is_before (first_into wires target) k) e refl;
     }
 
-module _ (tree : PackageTree ℕ) (root : ℕ) (sound : AreDeclared tree) (keys : List ℕ)
+module _ (tree : PackageTree ℕ) (root : ℕ) (sound : ArePermitted tree) (keys : List ℕ)
     (order : IsOrder (containment tree) keys)
     (used : List ℕ) (tells : (n : ℕ) → Contains used n ↔ IsInUse tree root n) where
   -- connections lead from the end to a thread or the root
-  leads : (d : Direction) (n : ℕ) (site : PortPlace) → Told (LeadsFrom tree root d n site)
+  leads : (d : Direction) (n : ℕ) (site : NumberedPort) → Told (LeadsFrom tree root d n site)
   leads d n site =
       let i = inside tree (opposite d) keys order in
       let o = outside tree root d i.0 i.1 keys order (is_used tree root used tells) in
@@ -59,7 +59,7 @@ module _ (tree : PackageTree ℕ) (root : ℕ) (sound : AreDeclared tree) (keys 
         );
       }
 
-  by_target : (n : ℕ) (wire : Wire) (s : PortPlace) (o : Option PortPlace) → wire.source ≡ Some s → wire.target ≡ o
+  by_target : (n : ℕ) (wire : ConnectionPorts) (s : NumberedPort) (o : Option NumberedPort) → wire.source ≡ Some s → wire.target ≡ o
       → Told (IsOnChain tree root n wire)
   by_target n wire s None e f = record { answer = false; tells = no_target tree root n wire f }
   by_target n wire s (Some t) e f =
@@ -70,7 +70,7 @@ module _ (tree : PackageTree ℕ) (root : ℕ) (sound : AreDeclared tree) (keys 
         tells = ways_tell tree root n wire s t a.answer b.answer e f a.tells b.tells;
       }
 
-  by_source : (n : ℕ) (wire : Wire) (o : Option PortPlace) → wire.source ≡ o → Told (IsOnChain tree root n wire)
+  by_source : (n : ℕ) (wire : ConnectionPorts) (o : Option NumberedPort) → wire.source ≡ o → Told (IsOnChain tree root n wire)
   by_source n wire None e = record { answer = false; tells = no_source tree root n wire e }
   by_source n wire (Some s) e = by_target n wire s wire.target e refl
 
@@ -81,7 +81,7 @@ module _ (tree : PackageTree ℕ) (root : ℕ) (sound : AreDeclared tree) (keys 
   by_link n k old (Some link) e =
       let w = wire_if tree (implementation_at tree n) k link e in
       let b = by_source n w.0 w.0.source refl in
-      let c = second_by (wires_at tree n) k (target_in (wires_at tree n) k) refl in
+      let c = second_by (connection_ports_at tree n) k (target_in (connection_ports_at tree n) k) refl in
       record {
         new = found (found old (dead_end b.answer link)) (second c.answer link);
         all =

@@ -15,13 +15,13 @@ use Rattle.aadl_uses.specs.ThreadsBelow.{Lists, MoreThan, IsThreadOf, IsThreadAt
 use Rattle.aadl_uses.proofs.ThreadCounts.{more_threads}
 use Rattle.aadl_uses.specs.proof.OrderedLists.{Among}
 use Rattle.aadl_chains.specs.proof.LimitedCounts.{Distinct}
-use Rattle.aadl_chains.specs.LinksFeedsAndTaps.{Ends, IsLink, TargetBefore, OtherTarget}
+use Rattle.aadl_chains.specs.LinksFeedsAndTaps.{CarriedChain, IsLink, TargetBefore, OtherTarget}
 use Rattle.aadl_chains.proofs.LimitedCounts.{no_more}
 use Rattle.aadl_uses.specs.ThreadLocations.{ThreadWith, spelled_path}
 use Rattle.aadl_instance.specs.BehaviourSizes.{variable_count, state_count}
 use Rattle.aadl_instance.specs.declared.limits.Limit.{Limit}
 use Rattle.aadl_instance.specs.declared.limits.Limit.TheVariants.{Components, Links, Ports, Variables, States, Path}
-use Rattle.aadl_instance.specs.proof.Limits.{line_of, IsPassed}
+use Rattle.aadl_instance.specs.proof.Limits.{line_of, IsExceeded}
 use Rattle.aadl_instance.proofs.FaultPrecedence.{limit_lines}
 use Rattle.design_laws.proofs.LinkOrderAndNames.{other_target}
 
@@ -57,27 +57,27 @@ in_list (y ∷ xs) x h = by (λ k. in_list xs x k) (Contains-cons_cases y xs x h
     by rest (inl e) = inl (sym e)
     by rest (inr k) = inr (rest k)
 
-distinct_from : (xs : List Ends) → AllPairs OtherTarget xs → Distinct xs
+distinct_from : (xs : List CarriedChain) → AllPairs OtherTarget xs → Distinct xs
 distinct_from [] a = tt
 distinct_from (x ∷ xs) a = (
   apart xs (λ k d lt. a 0 (suc k) d (omega arith) (omega arith)),
   distinct_from xs (λ i j d less lt. a (suc i) (suc j) d (omega arith) (omega arith)),
 )
   where
-    apart : (ys : List Ends) → ((k : ℕ) (d : Ends) → k < length ys → OtherTarget x (get_or ys k d))
+    apart : (ys : List CarriedChain) → ((k : ℕ) (d : CarriedChain) → k < length ys → OtherTarget x (get_or ys k d))
         → AllByRecursion (λ y. x ≡ y → ⊥) ys
     apart [] h = tt
     apart (y ∷ ys) h =
-        ((λ e. h 0 y (omega arith) (ap (λ (z : Ends). z.to) e)), apart ys (λ k d lt. h (suc k) d (omega arith)))
+        ((λ e. h 0 y (omega arith) (ap (λ (z : CarriedChain). z.to) e)), apart ys (λ k d lt. h (suc k) d (omega arith)))
 
-among_all : (all xs : List Ends) → ((k : ℕ) (d : Ends) → k < length xs → Among all (get_or xs k d))
+among_all : (all xs : List CarriedChain) → ((k : ℕ) (d : CarriedChain) → k < length xs → Among all (get_or xs k d))
     → AllByRecursion (Among all) xs
 among_all all [] h = tt
 among_all all (x ∷ xs) h = (h 0 x (omega arith), among_all all xs (λ k d lt. h (suc k) d (omega arith)))
 
 module _ (tree : PackageTree ℕ) (root : ℕ) (paths : List (List ℕ))
     (threads : Lists (IsThreadAt tree root) PathBefore paths)
-    (ends : List Ends) (links : Lists (IsLink tree root) TargetBefore ends) where
+    (ends : List CarriedChain) (links : Lists (IsLink tree root) TargetBefore ends) where
   -- ---- components and links
   by_count : (limit count : ℕ) → count ≡ min (limit + 1) (length paths)
       → MoreThan limit (IsThreadAt tree root) PathBefore ⊎ (MoreThan limit (IsThreadAt tree root) PathBefore → ⊥)
@@ -143,7 +143,7 @@ module _ (tree : PackageTree ℕ) (root : ℕ) (paths : List (List ℕ))
     tell_with : ThreadWith tree root P ⊎ (ThreadWith tree root P → ⊥)
     tell_with = by_list (some_in Has (λ path. by_component path (component_at tree root path) refl) paths)
 
-  tell : (limit : Limit) → IsPassed tree root limit ⊎ (IsPassed tree root limit → ⊥)
+  tell : (limit : Limit) → IsExceeded tree root limit ⊎ (IsExceeded tree root limit → ⊥)
   tell Components = tell_components
   tell Links = tell_links LINKS (told_more LINKS (length ends))
   tell Ports =
@@ -157,24 +157,24 @@ module _ (tree : PackageTree ℕ) (root : ℕ) (paths : List (List ℕ))
   -- ---- the first
   pub record First : Type 0 where
     pub limit : Limit
-    pub passed : IsPassed tree root limit
-    pub before : (other : Limit) → line_of other < line_of limit → IsPassed tree root other → ⊥
+    pub passed : IsExceeded tree root limit
+    pub before : (other : Limit) → line_of other < line_of limit → IsExceeded tree root other → ⊥
 
   abbrev NotPassed : Limit → Type 0
-  NotPassed limit = IsPassed tree root limit → ⊥
+  NotPassed limit = IsExceeded tree root limit → ⊥
 
   abbrev pub FirstOrNone : Type 0
-  FirstOrNone = First ⊎ ((limit : Limit) → IsPassed tree root limit → ⊥)
+  FirstOrNone = First ⊎ ((limit : Limit) → IsExceeded tree root limit → ⊥)
 
-  under : (limit : Limit) → IsPassed tree root limit
-      → ((other : Limit) → line_of other < line_of limit → IsPassed tree root other → ⊥) → FirstOrNone
+  under : (limit : Limit) → IsExceeded tree root limit
+      → ((other : Limit) → line_of other < line_of limit → IsExceeded tree root other → ⊥) → FirstOrNone
   under limit passed before = inl (record { limit = limit; passed = passed; before = before })
 
   six : NotPassed Components → NotPassed Links → NotPassed Ports → NotPassed Variables → NotPassed States
-      → IsPassed tree root Path ⊎ NotPassed Path → FirstOrNone
+      → IsExceeded tree root Path ⊎ NotPassed Path → FirstOrNone
   six a b c d e (inl p) = under Path p earlier
     where
-      earlier : (other : Limit) → line_of other < 10 → IsPassed tree root other → ⊥
+      earlier : (other : Limit) → line_of other < 10 → IsExceeded tree root other → ⊥
       earlier Components lt h = a h
       earlier Links lt h = b h
       earlier Ports lt h = c h
@@ -183,7 +183,7 @@ module _ (tree : PackageTree ℕ) (root : ℕ) (paths : List (List ℕ))
       earlier Path lt h = absurd (omega arith)
   six a b c d e (inr f) = inr none
     where
-      none : (limit : Limit) → IsPassed tree root limit → ⊥
+      none : (limit : Limit) → IsExceeded tree root limit → ⊥
       none Components h = a h
       none Links h = b h
       none Ports h = c h
@@ -192,11 +192,11 @@ module _ (tree : PackageTree ℕ) (root : ℕ) (paths : List (List ℕ))
       none Path h = f h
 
   five : NotPassed Components → NotPassed Links → NotPassed Ports → NotPassed Variables
-      → IsPassed tree root States ⊎ NotPassed States → FirstOrNone
+      → IsExceeded tree root States ⊎ NotPassed States → FirstOrNone
   five a b c d (inr e) = six a b c d e (tell Path)
   five a b c d (inl p) = under States p earlier
     where
-      earlier : (other : Limit) → line_of other < 9 → IsPassed tree root other → ⊥
+      earlier : (other : Limit) → line_of other < 9 → IsExceeded tree root other → ⊥
       earlier Components lt h = a h
       earlier Links lt h = b h
       earlier Ports lt h = c h
@@ -204,12 +204,12 @@ module _ (tree : PackageTree ℕ) (root : ℕ) (paths : List (List ℕ))
       earlier States lt h = absurd (omega arith)
       earlier Path lt h = absurd (omega arith)
 
-  four : NotPassed Components → NotPassed Links → NotPassed Ports → IsPassed tree root Variables ⊎ NotPassed Variables
+  four : NotPassed Components → NotPassed Links → NotPassed Ports → IsExceeded tree root Variables ⊎ NotPassed Variables
       → FirstOrNone
   four a b c (inr d) = five a b c d (tell States)
   four a b c (inl p) = under Variables p earlier
     where
-      earlier : (other : Limit) → line_of other < 8 → IsPassed tree root other → ⊥
+      earlier : (other : Limit) → line_of other < 8 → IsExceeded tree root other → ⊥
       earlier Components lt h = a h
       earlier Links lt h = b h
       earlier Ports lt h = c h
@@ -217,11 +217,11 @@ module _ (tree : PackageTree ℕ) (root : ℕ) (paths : List (List ℕ))
       earlier States lt h = absurd (omega arith)
       earlier Path lt h = absurd (omega arith)
 
-  three : NotPassed Components → NotPassed Links → IsPassed tree root Ports ⊎ NotPassed Ports → FirstOrNone
+  three : NotPassed Components → NotPassed Links → IsExceeded tree root Ports ⊎ NotPassed Ports → FirstOrNone
   three a b (inr c) = four a b c (tell Variables)
   three a b (inl p) = under Ports p earlier
     where
-      earlier : (other : Limit) → line_of other < 7 → IsPassed tree root other → ⊥
+      earlier : (other : Limit) → line_of other < 7 → IsExceeded tree root other → ⊥
       earlier Components lt h = a h
       earlier Links lt h = b h
       earlier Ports lt h = absurd (omega arith)
@@ -229,11 +229,11 @@ module _ (tree : PackageTree ℕ) (root : ℕ) (paths : List (List ℕ))
       earlier States lt h = absurd (omega arith)
       earlier Path lt h = absurd (omega arith)
 
-  two : NotPassed Components → IsPassed tree root Links ⊎ NotPassed Links → FirstOrNone
+  two : NotPassed Components → IsExceeded tree root Links ⊎ NotPassed Links → FirstOrNone
   two a (inr b) = three a b (tell Ports)
   two a (inl p) = under Links p earlier
     where
-      earlier : (other : Limit) → line_of other < 6 → IsPassed tree root other → ⊥
+      earlier : (other : Limit) → line_of other < 6 → IsExceeded tree root other → ⊥
       earlier Components lt h = a h
       earlier Links lt h = absurd (omega arith)
       earlier Ports lt h = absurd (omega arith)
@@ -241,7 +241,7 @@ module _ (tree : PackageTree ℕ) (root : ℕ) (paths : List (List ℕ))
       earlier States lt h = absurd (omega arith)
       earlier Path lt h = absurd (omega arith)
 
-  first_by : IsPassed tree root Components ⊎ NotPassed Components → FirstOrNone
+  first_by : IsExceeded tree root Components ⊎ NotPassed Components → FirstOrNone
   first_by (inr a) = two a (tell Links)
   first_by (inl p) = under Components p (λ other lt h. let least = limit_lines other in absurd (omega arith))
 

@@ -9,9 +9,9 @@ use Rattle.aadl_uses.specs.proof.ThreadCounts.{thread_marks}
 use Rattle.aadl_uses.proofs.PackageContainment.{within}
 use Rattle.aadl_uses.proofs.ThreadCounts.{threads_listed}
 use Rattle.aadl_uses.proofs.FirstRecursion.{no_way_back}
-use Rattle.aadl_chains.specs.proof.DeclaredEnds.{AreDeclared}
+use Rattle.aadl_chains.specs.proof.DeclaredEnds.{ArePermitted}
 use Rattle.aadl_chains.proofs.PermittedConnections.{declared}
-use Rattle.aadl_chains.specs.LinksFeedsAndTaps.{Ends, IsLink, IsFeed, IsTap, TargetBefore, PortBefore}
+use Rattle.aadl_chains.specs.LinksFeedsAndTaps.{CarriedChain, IsLink, IsFeed, IsTap, TargetBefore, PortBefore}
 use Rattle.aadl_chains.specs.proof.Walks.{OneEach}
 use Rattle.aadl_uses.specs.proof.ContainmentGraphs.{LeadsBack}
 use Rattle.design_laws.specs.proof.ContainmentLists.{HasOrder}
@@ -36,7 +36,7 @@ module _ (tree : PackageTree ℕ) (name : List ℕ) (is : IsSound tree name) whe
   sequence : HasOrder (containment tree)
   sequence = order (containment tree) (within tree) acyclic
 
-  sound : AreDeclared tree
+  sound : ArePermitted tree
   sound = declared tree is.root is.names
 
   one : OneEach tree is.root
@@ -52,13 +52,13 @@ module _ (tree : PackageTree ℕ) (name : List ℕ) (is : IsSound tree name) whe
       let p = paths (containment tree) (thread_marks tree) is.root (within tree) acyclic (omega arith) in
       (map reverse p.0, threads_listed tree is.root p.0 p.1)
 
-  all_links : (ends : List Ends) × Lists (IsLink tree is.root) TargetBefore ends
+  all_links : (ends : List CarriedChain) × Lists (IsLink tree is.root) TargetBefore ends
   all_links = links tree is.root sound one no_thread sequence.0 sequence.1 threads.0 threads.1
 
-  all_feeds : (ends : List Ends) × Lists (IsFeed tree is.root) TargetBefore ends
+  all_feeds : (ends : List CarriedChain) × Lists (IsFeed tree is.root) TargetBefore ends
   all_feeds = feeds tree is.root sound one no_thread sequence.0 sequence.1 threads.0 threads.1
 
-  all_taps : (ends : List Ends) × Lists (IsTap tree is.root) PortBefore ends
+  all_taps : (ends : List CarriedChain) × Lists (IsTap tree is.root) PortBefore ends
   all_taps = taps tree is.root sound one no_thread sequence.0 sequence.1 threads.0
 
   by_limits : FirstOrNone tree is.root threads.0 threads.1 all_links.0 all_links.1

@@ -5,39 +5,39 @@ use Rattle.aadl_uses.specs.proof.PackageContainment.{containment}
 use Rattle.aadl_uses.specs.proof.ContainmentOrders.{IsOrder}
 use Rattle.aadl_chains.specs.proof.PortsJoinedInside.{is_thread_at}
 use Rattle.aadl_chains.specs.Chains.{Port, Leads}
-use Rattle.aadl_chains.specs.proof.DeclaredEnds.{AreDeclared}
+use Rattle.aadl_chains.specs.proof.DeclaredEnds.{ArePermitted}
 use Rattle.aadl_chains.specs.declared.chain_tracing.ChainStart.TheVariants as begins
-use Rattle.aadl_chains.specs.LinksFeedsAndTaps.{Ends, IsLink, IsFeed}
-use Rattle.aadl_chains.specs.proof.TracedChains.{route_ends, IsGiver}
+use Rattle.aadl_chains.specs.LinksFeedsAndTaps.{CarriedChain, IsLink, IsFeed}
+use Rattle.aadl_chains.specs.proof.TracedChains.{carried_chain, IsGiver}
 use Rattle.aadl_chains.proofs.OutermostFirstWalks.{crossing_from}
 use Rattle.aadl_chains.proofs.LinksByWalks.{link_from, link_met, feed_met}
 use Rattle.aadl_chains.proofs.TracedChains.{traces_nothing, traces_itself, traces_root, traces_none_over, ends_by}
-use Rattle.aadl_chains.specs.proof.Walks.{Climb, Crossing, nowhere, at_root, crosses, climb, OneEach, IsThreadPort}
+use Rattle.aadl_chains.specs.proof.Walks.{WalkEnd, Crossing, nowhere, at_root, crosses, walk_back, OneEach, IsThreadPort}
 use Rattle.design_laws.proofs.OutPortSources.{Gives, gives}
 
 -- the one that comes into a port
-pub record Comes (tree : PackageTree ℕ) (root : ℕ) (to : Port) : Type 0 where
-  pub one : Ends
+pub record HasIncoming (tree : PackageTree ℕ) (root : ℕ) (to : Port) : Type 0 where
+  pub one : CarriedChain
   pub there : one.to ≡ to
   pub kind : IsLink tree root one ⊎ IsFeed tree root one
-  pub only : (x : Ends) → IsLink tree root x ⊎ IsFeed tree root x → x.to ≡ to → x ≡ one
+  pub only : (x : CarriedChain) → IsLink tree root x ⊎ IsFeed tree root x → x.to ≡ to → x ≡ one
 
-abbrev pub NoneComes : PackageTree ℕ → ℕ → Port → Type 0
-NoneComes tree root to = (x : Ends) → IsLink tree root x ⊎ IsFeed tree root x → x.to ≡ to → ⊥
+abbrev pub HasNoIncoming : PackageTree ℕ → ℕ → Port → Type 0
+HasNoIncoming tree root to = (x : CarriedChain) → IsLink tree root x ⊎ IsFeed tree root x → x.to ≡ to → ⊥
 
 same_crossing : (a b : Crossing) → crosses a ≡ crosses b → a ≡ b
 same_crossing a b e = cc e
 
-module _ (tree : PackageTree ℕ) (root : ℕ) (sound : AreDeclared tree) (one : OneEach tree root)
+module _ (tree : PackageTree ℕ) (root : ℕ) (sound : ArePermitted tree) (one : OneEach tree root)
     (no_thread : is_thread_at tree root ≡ false)
     (keys : List ℕ) (order : IsOrder (containment tree) keys) (to : Port) (port : IsThreadPort tree root to) where
   -- by a crossing
-  module _ (c : Crossing) (is : climb tree root None to.path to.port ≡ crosses c) where
-    found : Port → Ends
+  module _ (c : Crossing) (is : walk_back tree root None to.path to.port ≡ crosses c) where
+    found : Port → CarriedChain
     found from = record { from = from; to = to; declaration = c.declaration; connection = c.connection }
 
     pub over : (from : Port) → IsGiver tree root (record { path = c.sub ∷ c.path; port = c.port }) from
-        → Comes tree root to
+        → HasIncoming tree root to
     unfolding found
     over from giver = record {
       one = found from;
@@ -46,18 +46,18 @@ module _ (tree : PackageTree ℕ) (root : ℕ) (sound : AreDeclared tree) (one :
       only = only;
     }
       where
-        only : (x : Ends) → IsLink tree root x ⊎ IsFeed tree root x → x.to ≡ to
+        only : (x : CarriedChain) → IsLink tree root x ⊎ IsFeed tree root x → x.to ≡ to
             → x ≡ record { from = from; to = to; declaration = c.declaration; connection = c.connection }
         only x (inr l) e =
             let m = feed_met tree root sound one no_thread x l in
-            let climbs : climb tree root None to.path to.port ≡ at_root (Some m.connection) x.from.port =
-            ap (λ (p : Port). climb tree root None p.path p.port) (sym e) ∙ m.climbs in
+            let climbs : walk_back tree root None to.path to.port ≡ at_root (Some m.connection) x.from.port =
+            ap (λ (p : Port). walk_back tree root None p.path p.port) (sym e) ∙ m.climbs in
             let none : at_root (Some m.connection) x.from.port ≡ crosses c = sym climbs ∙ is in
             absurd (cc none)
         only x (inl l) e =
             let m = link_met tree root sound one no_thread x l in
-            let climbs : climb tree root None to.path to.port ≡ crosses m.crossing =
-            ap (λ (p : Port). climb tree root None p.path p.port) (sym e) ∙ m.climbs in
+            let climbs : walk_back tree root None to.path to.port ≡ crosses m.crossing =
+            ap (λ (p : Port). walk_back tree root None p.path p.port) (sym e) ∙ m.climbs in
             let same : m.crossing ≡ c = same_crossing m.crossing c (sym climbs ∙ is) in
             let leads =
             subst (λ (y : Crossing).
@@ -68,16 +68,16 @@ module _ (tree : PackageTree ℕ) (root : ℕ) (sound : AreDeclared tree) (one :
             (m.connection_is ∙ ap (λ (y : Crossing). y.connection) same)
 
     by_giver : Gives tree root (record { path = c.sub ∷ c.path; port = c.port })
-        → Comes tree root to ⊎ NoneComes tree root to
+        → HasIncoming tree root to ⊎ HasNoIncoming tree root to
     by_giver (inl g) = inl (over g.0 g.1)
     by_giver (inr none) = inr (traces_none_over tree root sound one no_thread to c is none)
 
-    at_crossing : Comes tree root to ⊎ NoneComes tree root to
+    at_crossing : HasIncoming tree root to ⊎ HasNoIncoming tree root to
     at_crossing =
         let f = crossing_from tree root sound to.path to.port c is in
         by_giver (gives tree root sound one keys order (c.sub ∷ c.path) f.number c.port f.stands f.goes_out)
 
-  by_climb : (r : Climb) → climb tree root None to.path to.port ≡ r → Comes tree root to ⊎ NoneComes tree root to
+  by_climb : (r : WalkEnd) → walk_back tree root None to.path to.port ≡ r → HasIncoming tree root to ⊎ HasNoIncoming tree root to
   by_climb nowhere e = inr (traces_nothing tree root sound one no_thread to e)
   by_climb (at_root None q) e = inr (traces_itself tree root sound one no_thread to q e)
   by_climb (at_root (Some k) q) e =
@@ -85,12 +85,12 @@ module _ (tree : PackageTree ℕ) (root : ℕ) (sound : AreDeclared tree) (one :
       traces_root tree root sound one no_thread to k q
       (record { begin = begins.Root q; declaration = root; connection = k }) port e refl in
       inl (record {
-        one = route_ends to (record { begin = begins.Root q; declaration = root; connection = k });
+        one = carried_chain to (record { begin = begins.Root q; declaration = root; connection = k });
         there = refl;
         kind = inr t.kind;
         only = t.only;
       })
   by_climb (crosses c) e = at_crossing c e
 
-  pub comes : Comes tree root to ⊎ NoneComes tree root to
-  comes = by_climb (climb tree root None to.path to.port) refl
+  pub comes : HasIncoming tree root to ⊎ HasNoIncoming tree root to
+  comes = by_climb (walk_back tree root None to.path to.port) refl

@@ -3,7 +3,7 @@ use Rattle.std.proofs.Common.{ℕ}
 use Rattle.std.specs.Prelude.{All}
 use Rattle.aadl_tree.specs.Declarations.{PackageTree}
 use Rattle.design_laws.specs.proof.PackageNames.{AreNamed}
-use Rattle.model_violations.specs.Violations.{Shown, shown_by}
+use Rattle.model_violations.specs.Violations.{ShownInstance, shown_by}
 use Rattle.design_laws.specs.proof.AcceptedInstances.{IsShown, NothingFound}
 use Rattle.design_laws.specs.InstanceDesigns.{HasRules}
 use Rattle.design_laws.proofs.SoundInstanceParts.{all_parts}
@@ -14,18 +14,18 @@ use Rattle.std.proofs.Math.Logic.{∥∥₁_elim}
 use Rattle.pals_base.specs.BehaviourRules.{IsAcyclic}
 use Rattle.design_laws.proofs.ShownInstancesAndRules.{of_shown, to_shown}
 
-pub have_rules : ThreadLaw → (tree : PackageTree ℕ) (s : Shown) → AreNamed tree → IsShown tree s → NothingFound tree s
+pub have_rules : ThreadLaw → (tree : PackageTree ℕ) (s : ShownInstance) → AreNamed tree → IsShown tree s → NothingFound tree s
     → All (HasRules tree) s.threads
 have_rules law tree s named i nothing =
     let there = to_shown (NothingFound tree) tree s i nothing in
     let found = all_parts tree (shown_by tree i.parts) there.used there.none in
-    of_shown (λ (x : Shown). All (HasRules tree) x.threads) tree s i
+    of_shown (λ (x : ShownInstance). All (HasRules tree) x.threads) tree s i
     (ruling.have_rules i.flat there.used there.is_use found.declarations named law)
 
 
 -- all threads of an instance keep the rules, where no more is known than that a package without a fault has the
 -- instance
-pub all_rules : ThreadLaw → (tree : PackageTree ℕ) (s : Shown) → AreNamed tree → ∥ IsShown tree s ∥₁
+pub all_rules : ThreadLaw → (tree : PackageTree ℕ) (s : ShownInstance) → AreNamed tree → ∥ IsShown tree s ∥₁
     → NothingFound tree s
     → All (HasRules tree) s.threads
 unfolding IsAcyclic

@@ -20,11 +20,11 @@ use Rattle.aadl_names.specs.ReferenceResolution.{is_thread, is_system, is_root, 
 use Rattle.aadl_names.specs.ReferenceResolution.{type_numbered, type_number, ports_of, target_of, referred}
 use Rattle.aadl_names.specs.PackageFaults.{package_faults}
 use Rattle.aadl_names.specs.Spelling.{spelled_implementation}
-use Rattle.aadl_uses.specs.Uses.{sub_at, below, standing, component_at}
+use Rattle.aadl_uses.specs.Uses.{sub_at, below, number_at_path, component_at}
 use Rattle.aadl_uses.specs.ThreadsBelow.{IsThreadAt}
 use Rattle.aadl_uses.specs.declared.thread_locations.SubAt.{SubAt}
 use Rattle.aadl_uses.specs.ThreadLocations.{sub_in, subs_along, thread_at}
-use Rattle.aadl_instance.specs.FlattenedDesign.{Parts, IsFlat}
+use Rattle.aadl_instance.specs.FlattenedDesign.{InstanceParts, IsFlat}
 use Rattle.component_checks.specs.PropertyLookup.{sub_of, innermost}
 use Rattle.component_checks.specs.TypeFindings.{port_findings}
 use Rattle.model_violations.specs.ChainTargets.{component_of}
@@ -45,7 +45,7 @@ innermost_last : (tree : PackageTree ℕ) (front : List SubAt) (x : SubAt)
     → innermost tree (front ++ x ∷ []) ≡ sub_of tree x
 innermost_last tree front x = ap (option_and_then (sub_of tree)) (slice_get-last front x)
 
-component_by : (tree : PackageTree ℕ) (root s : ℕ) (path : List ℕ) (n : ℕ) → standing tree root path ≡ Some n
+component_by : (tree : PackageTree ℕ) (root s : ℕ) (path : List ℕ) (n : ℕ) → number_at_path tree root path ≡ Some n
     → innermost tree (reverse (subs_along tree root (s ∷ path))) ≡ sub_at tree n s
 component_by tree root s path n stands =
     let here : SubAt = record { declaration = n; sub = s } in
@@ -54,7 +54,7 @@ component_by tree root s path n stands =
     ∙ reverse-append (here ∷ []) (subs_along tree root path) in
     ap (innermost tree) along ∙ innermost_last tree (reverse (subs_along tree root path)) here
 
-pub component_is : (tree : PackageTree ℕ) (root s : ℕ) (path : List ℕ) (n : ℕ) → standing tree root path ≡ Some n
+pub component_is : (tree : PackageTree ℕ) (root s : ℕ) (path : List ℕ) (n : ℕ) → number_at_path tree root path ≡ Some n
     → component_of tree (thread_at tree root (s ∷ path)) ≡ component_at tree root (s ∷ path)
 component_is tree root s path n stands =
     let sub = component_by tree root s path n stands in
@@ -105,7 +105,7 @@ root_system name (implementation y) x is passes =
     subst (λ (z : Implementation ℕ). is_system z.category ≡ true) e (parts (is_system y.category)
     (same_name name (spelled_implementation y.name)) passes).0
 
-pub root_is : {tree : PackageTree ℕ} {name : List ℕ} {parts : Parts} → IsFlat tree name parts → (x : Implementation ℕ)
+pub root_is : {tree : PackageTree ℕ} {name : List ℕ} {parts : InstanceParts} → IsFlat tree name parts → (x : Implementation ℕ)
     → implementation_at tree parts.root ≡ Some x → is_system x.category ≡ true
 root_is {tree} {name} {parts} flat x is =
     let f = first_is (is_root name) 0 parts.root tree.declarations flat.root in
@@ -118,18 +118,18 @@ pub record ThreadIs (tree : PackageTree ℕ) (root : ℕ) (path : List ℕ) : Ty
   pub component : Implementation ℕ
   pub number : ℕ
   pub is_component : implementation_at tree number ≡ Some component
-  pub stands : standing tree root path ≡ Some number
+  pub stands : number_at_path tree root path ≡ Some number
   pub is_thread : is_thread component.category ≡ true
   pub seen : component_of tree (thread_at tree root path) ≡ Some component
 
-thread_by : {tree : PackageTree ℕ} {name : List ℕ} {parts : Parts} → IsFlat tree name parts
+thread_by : {tree : PackageTree ℕ} {name : List ℕ} {parts : InstanceParts} → IsFlat tree name parts
     → (path : List ℕ) (x : Implementation ℕ)
     → component_at tree parts.root path ≡ Some x → is_thread x.category ≡ true
     → ThreadIs tree parts.root path
 thread_by {tree} {name} {parts} flat [] x e thread = absurd (system_no_thread x.category (root_is flat x e) thread)
 thread_by {tree} {name} {parts} flat (s ∷ path) x e thread =
     let at = stands_at tree parts.root (s ∷ path) x e in
-    option_and_then_some (λ n. below tree n s) (standing tree parts.root path) at.number at.stands
+    option_and_then_some (λ n. below tree n s) (number_at_path tree parts.root path) at.number at.stands
     (λ n stands _. record {
       component = x;
       number = at.number;
@@ -139,7 +139,7 @@ thread_by {tree} {name} {parts} flat (s ∷ path) x e thread =
       seen = component_is tree parts.root s path n stands ∙ e;
     })
 
-pub thread_is : {tree : PackageTree ℕ} {name : List ℕ} {parts : Parts} → IsFlat tree name parts → (path : List ℕ)
+pub thread_is : {tree : PackageTree ℕ} {name : List ℕ} {parts : InstanceParts} → IsFlat tree name parts → (path : List ℕ)
     → IsThreadAt tree parts.root path → ThreadIs tree parts.root path
 thread_is flat path t = thread_by flat path t.0 t.1.0 t.1.1
 
@@ -153,7 +153,7 @@ ThreadLaw =
     → is_thread x.category ≡ true → flat_map port_findings (ports_of tree x) ≡ []
     → threads.implementation_findings tree x ≡ [] → Behaves tree x
 
-module _ {tree : PackageTree ℕ} {name : List ℕ} {parts : Parts} (flat : IsFlat tree name parts) (used : ℕ → Bool)
+module _ {tree : PackageTree ℕ} {name : List ℕ} {parts : InstanceParts} (flat : IsFlat tree name parts) (used : ℕ → Bool)
     (is_use : IsUse tree parts.root used) (none : used_findings tree (shown_by tree parts) used ≡ []) where
   ports_by : (n m : ℕ) (x : Implementation ℕ) (d : Option (Declaration ℕ)) → used n ≡ true
       → slice_get tree.declarations n ≡ Some (implementation x) → type_number tree x ≡ Some m
@@ -208,7 +208,7 @@ module _ {tree : PackageTree ℕ} {name : List ℕ} {parts : Parts} (flat : IsFl
         parts.threads flat.threads.each)
 
 -- no thread stands at the root
-pub root_no_thread : {tree : PackageTree ℕ} {name : List ℕ} {parts : Parts} → IsFlat tree name parts
+pub root_no_thread : {tree : PackageTree ℕ} {name : List ℕ} {parts : InstanceParts} → IsFlat tree name parts
     → ThreadIs tree parts.root [] → ⊥
 root_no_thread {tree} {name} {parts} flat t =
     let same : parts.root ≡ t.number = same_Some parts.root t.number t.stands in

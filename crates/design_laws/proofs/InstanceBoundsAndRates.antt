@@ -32,17 +32,17 @@ use Rattle.aadl_names.specs.PackageFaults.{may_contain, names_faults, subcompone
 use Rattle.aadl_names.specs.PackageFaults.{heading_faults, variables_faults, stray_faults, port_faults, outer_faults}
 use Rattle.aadl_names.specs.PackageFaults.{annex_faults, is_same_number, package_faults}
 use Rattle.aadl_names.specs.PackageFaults as naming
-use Rattle.aadl_uses.specs.Uses.{sub_at, below, standing}
+use Rattle.aadl_uses.specs.Uses.{sub_at, below, number_at_path}
 use Rattle.aadl_uses.specs.declared.thread_locations.SubAt.{SubAt}
 use Rattle.aadl_uses.specs.ThreadLocations.{sub_in, subs_along, thread_at}
 use Rattle.aadl_uses.specs.proof.OrderedLists.{Among}
-use Rattle.aadl_instance.specs.FlattenedDesign.{Parts, IsFlat}
+use Rattle.aadl_instance.specs.FlattenedDesign.{InstanceParts, IsFlat}
 use Rattle.annex_resolve.specs.FindingRecords.{found_if}
 use Rattle.design_laws.proofs.EmptyFindingLists.{is_right, not_wrong}
 use Rattle.component_checks.specs.BoundsAndRates.{within_hour, range_within, not_zero, in_order, gamma_by}
 use Rattle.component_checks.specs.BoundsAndRates as numbers
 use Rattle.component_checks.specs.PeriodAndAdaptorFindings.{bound_findings, period_findings}
-use Rattle.design_laws.proofs.BoundsAndRates.{gamma_counts, IsRateOf, rate_counts, leaves_time, least_is_some}
+use Rattle.design_laws.proofs.BoundsAndRates.{gamma_fits, IsRateOf, one_rate_fits, leaves_time, least_is_some}
 use Rattle.design_laws.proofs.BoundsAndRates.{rate_from}
 use Rattle.annex_resolve.specs.declared.violation.TheConstants.{NO_PERIOD, NOT_PERIODIC, GAMMA_MISSING, GAMMA_ORDER}
 use Rattle.component_checks.specs.PropertyLookup.{type_lists, own_lists, sub_lists, lists_at, root_lists, lists_along}
@@ -120,7 +120,7 @@ type_properties tree root m t none is =
     (append_is_nil_right _ l front)
 
 -- ---- some association
-module _ {tree : PackageTree ℕ} {name : List ℕ} {parts : Parts} (flat : IsFlat tree name parts) (used : ℕ → Bool)
+module _ {tree : PackageTree ℕ} {name : List ℕ} {parts : InstanceParts} (flat : IsFlat tree name parts) (used : ℕ → Bool)
     (is_use : IsUse tree parts.root used) (none : used_findings tree (shown_by tree parts) used ≡ []) where
   -- ---- what an implementation in use, and its type, give
   module _ (p : PropertyName) (n : ℕ) (x : Implementation ℕ) (in_use : used n ≡ true)
@@ -202,8 +202,8 @@ module _ {tree : PackageTree ℕ} {name : List ℕ} {parts : Parts} (flat : IsFl
   sub_by n k m (Some x) sub in_use is sub_is = sub_good n k x sub in_use is sub_is
 
   -- ---- along a path
-  at_good : (n k m : ℕ) (path : List ℕ) → standing tree parts.root path ≡ Some n → below tree n k ≡ Some m
-      → standing tree parts.root (k ∷ path) ≡ Some m
+  at_good : (n k m : ℕ) (path : List ℕ) → number_at_path tree parts.root path ≡ Some n → below tree n k ≡ Some m
+      → number_at_path tree parts.root (k ∷ path) ≡ Some m
       → AllByRecursion (LooksGood Period) (lists_at tree (record { declaration = n; sub = k }))
   at_good n k m path stands step next =
       option_and_then_some (λ (sub : Subcomponent ℕ). referred tree sub.classifier) (sub_at tree n k) m step
@@ -216,11 +216,11 @@ module _ {tree : PackageTree ℕ} {name : List ℕ} {parts : Parts} (flat : IsFl
       subst (λ o. AllByRecursion (LooksGood Period) (sub_lists tree o)) (sym sub_is)
       (here, subst (λ o. AllByRecursion (LooksGood Period) (own_lists tree o)) (sym same) inner))
 
-  along_good : (path : List ℕ) (n : ℕ) → standing tree parts.root path ≡ Some n
+  along_good : (path : List ℕ) (n : ℕ) → number_at_path tree parts.root path ≡ Some n
       → AllByRecursion (LooksGood Period) (flat_map (lists_at tree) (subs_along tree parts.root path))
   along_good [] n stands = tt
   along_good (k ∷ path) n stands =
-      option_and_then_some (λ m. below tree m k) (standing tree parts.root path) n stands
+      option_and_then_some (λ m. below tree m k) (number_at_path tree parts.root path) n stands
       (λ m before step.
       let here : SubAt = record { declaration = m; sub = k } in
       let rest = subs_along tree parts.root path in
@@ -407,7 +407,7 @@ module _ {tree : PackageTree ℕ} {name : List ℕ} {parts : Parts} (flat : IsFl
         network_is.1
 
     pub bounds_keep : IsGamma root_bounds.0
-    bounds_keep = gamma_counts (time_at (at_root tree parts.root Skew)) (range_at (at_root tree parts.root Execution))
+    bounds_keep = gamma_fits (time_at (at_root tree parts.root Skew)) (range_at (at_root tree parts.root Execution))
         (range_at (at_root tree parts.root Network)) root_bounds.0 root_bounds.1
 
     pub enough : least_period root_bounds.0 rate ≤ root_time.0
@@ -423,7 +423,7 @@ module _ {tree : PackageTree ℕ} {name : List ℕ} {parts : Parts} (flat : IsFl
     some_time = let least = least_is_some root_bounds.0 rate bounds_keep in let h = enough in omega (arith, least, h)
 
     -- ---- the rate of a thread
-    own_is : (path : List ℕ) (n : ℕ) → standing tree parts.root path ≡ Some n
+    own_is : (path : List ℕ) (n : ℕ) → number_at_path tree parts.root path ≡ Some n
         → (p : ℕ) × (own_period tree parts.root (reverse (subs_along tree parts.root path)) ≡ Some p)
     own_is path n stands =
         let lists = flat_map (lists_at tree) (subs_along tree parts.root path) ++ root_lists tree parts.root in
@@ -444,7 +444,7 @@ module _ {tree : PackageTree ℕ} {name : List ℕ} {parts : Parts} (flat : IsFl
               ∙ (ap (λ o. option_and_then within_hour (time_at o)) a.1 ∙ t.2.is),
         )
 
-    pub rate_is : (path : List ℕ) (n : ℕ) → standing tree parts.root path ≡ Some n
+    pub rate_is : (path : List ℕ) (n : ℕ) → number_at_path tree parts.root path ≡ Some n
         → thread_findings tree parts.root (thread_at tree parts.root path) ≡ []
         → (k : ℕ) × (thread_rate tree parts.root (thread_at tree parts.root path) ≡ Some k) × IsRateOf root_time.0 k
     rate_is path n stands none_here' =
@@ -462,5 +462,5 @@ module _ {tree : PackageTree ℕ} {name : List ℕ} {parts : Parts} (flat : IsFl
           t.0 / p.0,
           ap (λ o. numbers.rate_of o (own_period tree parts.root thread.subs)) t.1.is
               ∙ (ap (numbers.rate_of (Some t.0)) p.1 ∙ rate_of'),
-          rate_counts t.0 (Some p.0) (t.0 / p.0) rate_of',
+          one_rate_fits t.0 (Some p.0) (t.0 / p.0) rate_of',
         )

@@ -9,8 +9,8 @@ use Rattle.aadl_uses.specs.ThreadsBelow.{Lists, IsThreadAt, PathBefore}
 use Rattle.aadl_uses.specs.proof.ContainmentOrders.{IsOrder}
 use Rattle.aadl_chains.specs.proof.PortsJoinedInside.{is_thread_at}
 use Rattle.aadl_chains.specs.Chains.{is_in}
-use Rattle.aadl_chains.specs.proof.DeclaredEnds.{AreDeclared}
-use Rattle.aadl_chains.specs.LinksFeedsAndTaps.{Ends, IsLink, IsFeed, TargetBefore}
+use Rattle.aadl_chains.specs.proof.DeclaredEnds.{ArePermitted}
+use Rattle.aadl_chains.specs.LinksFeedsAndTaps.{CarriedChain, IsLink, IsFeed, TargetBefore}
 use Rattle.aadl_chains.specs.proof.Walks.{OneEach}
 use Rattle.aadl_instance.specs.declared.chain_search.Incoming.{Incoming}
 use Rattle.aadl_instance.specs.Instances.{chain_in}
@@ -19,9 +19,9 @@ use Rattle.aadl_instance.proofs.ChainsSoFar.{into_start, into_thread, into_skip,
 use Rattle.aadl_instance.proofs.ChainsSoFar.{feeds_whole, thread_listed}
 use Rattle.aadl_instance.proofs.AddedChains.{out_added}
 use Rattle.aadl_instance.proofs.ChainEndNumbers.{stands}
-use Rattle.design_laws.proofs.IncomingLinks.{Comes, NoneComes, comes}
+use Rattle.design_laws.proofs.IncomingLinks.{HasIncoming, HasNoIncoming, comes}
 
-module _ (tree : PackageTree ℕ) (root : ℕ) (sound : AreDeclared tree) (one : OneEach tree root)
+module _ (tree : PackageTree ℕ) (root : ℕ) (sound : ArePermitted tree) (one : OneEach tree root)
     (no_thread : is_thread_at tree root ≡ false)
     (keys : List ℕ) (order : IsOrder (containment tree) keys) (paths : List (List ℕ))
     (threads : Lists (IsThreadAt tree root) PathBefore paths) where
@@ -31,7 +31,7 @@ module _ (tree : PackageTree ℕ) (root : ℕ) (sound : AreDeclared tree) (one :
 
   -- ---- a port
   module _ (node port : ℕ) (path : List ℕ) (at : slice_get paths node ≡ Some path) where
-    by_kind : (c : Comes tree root (record { path = path; port = port })) → Into node port
+    by_kind : (c : HasIncoming tree root (record { path = path; port = port })) → Into node port
         → IsLink tree root c.one ⊎ IsFeed tree root c.one → Into node (port + 1)
     by_kind c i (inl l) = record {
       incoming = record { links = i.incoming.links ++ chain_in tree root paths c.one ∷ []; feeds = i.incoming.feeds };
@@ -47,8 +47,8 @@ module _ (tree : PackageTree ℕ) (root : ℕ) (sound : AreDeclared tree) (one :
     }
 
     by_coming : Into node port
-        → Comes tree root (record { path = path; port = port })
-        ⊎ NoneComes tree root (record { path = path; port = port }) → Into node (port + 1)
+        → HasIncoming tree root (record { path = path; port = port })
+        ⊎ HasNoIncoming tree root (record { path = path; port = port }) → Into node (port + 1)
     by_coming i (inl c) = by_kind c i c.kind
     by_coming i (inr none) =
         record {
@@ -105,10 +105,10 @@ module _ (tree : PackageTree ℕ) (root : ℕ) (sound : AreDeclared tree) (one :
   whole : Into (length paths) 0
   whole = all_threads (length paths) (omega arith)
 
-  pub links : (ends : List Ends) × Lists (IsLink tree root) TargetBefore ends
+  pub links : (ends : List CarriedChain) × Lists (IsLink tree root) TargetBefore ends
   links = let s = links_whole tree root paths no_thread (length paths) (omega arith) threads whole.incoming whole.are in
       (s.ends, s.listed)
 
-  pub feeds : (ends : List Ends) × Lists (IsFeed tree root) TargetBefore ends
+  pub feeds : (ends : List CarriedChain) × Lists (IsFeed tree root) TargetBefore ends
   feeds = let s = feeds_whole tree root paths no_thread (length paths) (omega arith) threads whole.incoming whole.are in
       (s.ends, s.listed)

@@ -18,9 +18,9 @@ use Rattle.aadl_names.specs.DuplicatesByNamespace.{port_entries, member_entries}
 use Rattle.aadl_uses.specs.Uses.{component_at}
 use Rattle.aadl_uses.specs.ThreadsBelow.{IsThreadAt, path_before}
 use Rattle.aadl_chains.specs.Chains.{Port, port_of, is_in}
-use Rattle.aadl_chains.specs.LinksFeedsAndTaps.{OtherTarget, Ends, same_path, TargetBefore}
+use Rattle.aadl_chains.specs.LinksFeedsAndTaps.{OtherTarget, CarriedChain, same_path, TargetBefore}
 use Rattle.aadl_chains.proofs.SamePaths.{same_path-true}
-use Rattle.aadl_instance.specs.FlattenedDesign.{Parts, IsFlat}
+use Rattle.aadl_instance.specs.FlattenedDesign.{InstanceParts, IsFlat}
 use Rattle.aadl_instance.specs.Instances.{node_at, port_number}
 use Rattle.component_checks.specs.TypeFindings as types
 use Rattle.design_laws.specs.proof.PackageNames.{NamesDiffer}
@@ -29,7 +29,7 @@ use Rattle.design_laws.proofs.PartitionedPairs.{pairs_at, pairs_first, pairs_unm
 use Rattle.design_laws.proofs.MatchedLists.{Zipped}
 use Rattle.design_laws.proofs.PathTexts.{before_other}
 use Rattle.design_laws.proofs.PortAndThreadNumbers.{count_less, numbers_rise}
-use Rattle.design_laws.proofs.ChainEndPorts.{Sits, in_port, in_number, port_is, in_way}
+use Rattle.design_laws.proofs.ChainEndPorts.{IsComponentAt, in_port, in_number, port_is, in_way}
 use Rattle.design_laws.proofs.LinksFromChains.{node_of}
 
 -- ---- places of in ports
@@ -42,8 +42,8 @@ place_by_port m n a b e lt = omega (arith, e, lt)
 one_place : (m n a b : ℕ) → a < PORTS → b < PORTS → PORTS * m + a ≡ PORTS * n + b → (m ≡ n) × (a ≡ b)
 one_place m n a b first second e = (omega (arith, first, second, e), omega (arith, first, second, e))
 
-module _ {tree : PackageTree ℕ} {name : List ℕ} {parts : Parts} (flat : IsFlat tree name parts) (design : DesignParts)
-    (sits : Zipped (Sits tree parts.root) parts.threads design.components) where
+module _ {tree : PackageTree ℕ} {name : List ℕ} {parts : InstanceParts} (flat : IsFlat tree name parts) (design : DesignParts)
+    (sits : Zipped (IsComponentAt tree parts.root) parts.threads design.components) where
   -- an in port of a thread
   pub record InPort (p : Port) : Type 0 where
     pub thread : IsThreadAt tree parts.root p.path
@@ -99,7 +99,7 @@ module _ {tree : PackageTree ℕ} {name : List ℕ} {parts : Parts} (flat : IsFl
       (by_ports p.path p.port q.port i turned lt)
 
   -- ---- in order of targets
-  pub targets_rise : (a b : Ends) → InPort a.to → InPort b.to → TargetBefore a b
+  pub targets_rise : (a b : CarriedChain) → InPort a.to → InPort b.to → TargetBefore a b
       → model.port_place (node_at parts.threads a.to.path).0 (port_number tree parts.root a.to) < model.port_place
       (node_at parts.threads b.to.path).0 (port_number tree parts.root b.to)
   targets_rise a b i j before =
@@ -150,7 +150,7 @@ module _ {tree : PackageTree ℕ} {name : List ℕ} {parts : Parts} (flat : IsFl
       first ∙ ap (λ n. record { path = q.path; port = n }) port
 
 -- ---- what stands in the order of targets has different ones
-pub other_target : (a b : Ends) → TargetBefore a b → OtherTarget a b
+pub other_target : (a b : CarriedChain) → TargetBefore a b → OtherTarget a b
 other_target a b before same =
     elim (or_and_cases (path_before (reverse a.to.path) (reverse b.to.path)) (same_path a.to.path b.to.path)
     (nat_lt a.to.port b.to.port) before) as (λ _. ⊥) [

@@ -15,10 +15,10 @@ use Rattle.pals_model.specs.DesignRules as model
 use Rattle.aadl_tree.specs.Declarations.{Feature, PackageTree}
 use Rattle.aadl_names.specs.ReferenceResolution.{connections_of}
 use Rattle.aadl_uses.specs.ThreadsBelow.{IsThreadAt}
-use Rattle.aadl_chains.specs.Chains.{Port, Place, Leads, port_of, is_in, IsStart, IsEnd}
+use Rattle.aadl_chains.specs.Chains.{Port, ConnectionAt, Leads, port_of, is_in, IsStart, IsEnd}
 use Rattle.aadl_instance.specs.declared.chain.ChainEnd.TheVariants.{Thread, Root}
-use Rattle.aadl_chains.specs.LinksFeedsAndTaps.{Ends, Carries}
-use Rattle.aadl_instance.specs.FlattenedDesign.{Parts, IsFlat}
+use Rattle.aadl_chains.specs.LinksFeedsAndTaps.{CarriedChain, Carries}
+use Rattle.aadl_instance.specs.FlattenedDesign.{InstanceParts, IsFlat}
 use Rattle.aadl_chains.specs.LinksFeedsAndTaps as walks
 use Rattle.aadl_instance.specs.Instances.{node_at, port_number, port_name, end_by, end_in, chain_at}
 use Rattle.annex_resolve.specs.ExpressionTypesAndFindings.{kind_in}
@@ -34,7 +34,7 @@ use Rattle.design_laws.specs.InstanceDesigns.{tap_in}
 use Rattle.design_laws.proofs.InstanceBehaviours.{thread_is, root_no_thread}
 use Rattle.design_laws.proofs.MatchedLists.{Zipped}
 use Rattle.design_laws.proofs.ChainTypes.{first_there, last_there, kind_there, kinds_along}
-use Rattle.design_laws.proofs.ChainEndPorts.{Sits, AtNode, at_node, in_port, out_port, component_there}
+use Rattle.design_laws.proofs.ChainEndPorts.{IsComponentAt, AtNode, at_node, in_port, out_port, component_there}
 
 -- ---- the adaptor between two rates
 pub rated_fits : (at : ℕ) (word : List ℕ) (text : Option (List ℕ)) (kind : Option Kind) (a b : Option ℕ) (p q : ℕ)
@@ -46,13 +46,13 @@ rated_fits at word text kind (Some a) (Some b) p q first second none =
     subst (λ n. Fits text kind n q) (same_Some a p first)
     (subst (λ n. Fits text kind a n) (same_Some b q second) (fits at word text kind a b none))
 
-thread_end_by : (tree : PackageTree ℕ) (parts : Parts) (p : Port) (path : List ℕ) → (path ≡ [] → ⊥)
+thread_end_by : (tree : PackageTree ℕ) (parts : InstanceParts) (p : Port) (path : List ℕ) → (path ≡ [] → ⊥)
     → end_by tree parts.root parts.threads p path
     ≡ Thread (node_at parts.threads p.path) (port_number tree parts.root p)
 thread_end_by tree parts p [] some = absurd (some refl)
 thread_end_by tree parts p (s ∷ path) some = refl
 
-module _ {tree : PackageTree ℕ} {name : List ℕ} {parts : Parts} (flat : IsFlat tree name parts) where
+module _ {tree : PackageTree ℕ} {name : List ℕ} {parts : InstanceParts} (flat : IsFlat tree name parts) where
   pub not_root : (p : Port) → IsThreadAt tree parts.root p.path → p.path ≡ [] → ⊥
   not_root p thread e = root_no_thread flat (thread_is flat [] (subst (IsThreadAt tree parts.root) e thread))
 
@@ -87,7 +87,7 @@ module _ {tree : PackageTree ℕ} {name : List ℕ} {parts : Parts} (flat : IsFl
 
   module _ (used : ℕ → Bool) (is_use : IsUse tree parts.root used)
       (none : used_findings tree (shown_by tree parts) used ≡ []) where
-    pub joins : (chain : List Place) (from to : Port) → Leads tree parts.root chain from to → (from ≡ to → ⊥)
+    pub joins : (chain : List ConnectionAt) (from to : Port) → Leads tree parts.root chain from to → (from ≡ to → ⊥)
         → Joins used from to
     joins [] from to leads apart = absurd (apart leads)
     joins (c ∷ cs) from to leads apart =
@@ -107,36 +107,36 @@ module _ {tree : PackageTree ℕ} {name : List ℕ} {parts : Parts} (flat : IsFl
         }
 
     -- a link's ends, a feed's and a tap's are apart
-    pub link_joins : (e : Ends) → walks.IsLink tree parts.root e → Joins used e.from e.to
+    pub link_joins : (e : CarriedChain) → walks.IsLink tree parts.root e → Joins used e.from e.to
     link_joins e (chain, is, from, to, carries) =
         joins chain e.from e.to is.leads (λ same. false≢true (sym (start_goes_out e.from is.start from)
         ∙ (ap (is_in tree parts.root) same ∙ end_goes_in e.to is.ends to)))
 
-    pub feed_joins : (e : Ends) → walks.IsFeed tree parts.root e → Joins used e.from e.to
+    pub feed_joins : (e : CarriedChain) → walks.IsFeed tree parts.root e → Joins used e.from e.to
     feed_joins e (chain, is, from, to, carries) = joins chain e.from e.to is.leads
         (λ same. not_root e.to to (sym (ap (λ (p : Port). p.path) same) ∙ from))
 
-    pub tap_joins : (e : Ends) → walks.IsTap tree parts.root e → Joins used e.from e.to
+    pub tap_joins : (e : CarriedChain) → walks.IsTap tree parts.root e → Joins used e.from e.to
     tap_joins e (chain, is, from, to, carries) =
         joins chain e.from e.to is.leads (λ same. not_root e.from from (ap (λ (p : Port). p.path) same ∙ to))
 
   -- ---- the carrier
-  pub connection_is : (crossing : Bool) (chain : List Place) (e : Ends) → (c : Carries tree parts.root crossing chain e)
+  pub connection_is : (crossing : Bool) (chain : List ConnectionAt) (e : CarriedChain) → (c : Carries tree parts.root crossing chain e)
       → connection_of tree (chain_at tree parts e).carrier ≡ Some c.link
   connection_is crossing chain e c = ap (λ o. slice_get (connections_of o) e.connection) c.is_component ∙ c.is_link
 
-  pub adaptor_is : (crossing : Bool) (chain : List Place) (e : Ends) → (c : Carries tree parts.root crossing chain e)
+  pub adaptor_is : (crossing : Bool) (chain : List ConnectionAt) (e : CarriedChain) → (c : Carries tree parts.root crossing chain e)
       → chain_adaptor tree (chain_at tree parts e) ≡ option_and_then adaptor_named (adaptor_text c.link)
   adaptor_is crossing chain e c = ap (option_and_then given_adaptor) (connection_is crossing chain e c)
 
   -- ---- with the components of a design
-  module _ (design : DesignParts) (sits : Zipped (Sits tree parts.root) parts.threads design.components) where
+  module _ (design : DesignParts) (sits : Zipped (IsComponentAt tree parts.root) parts.threads design.components) where
     pub node_of : (path : List ℕ) → IsThreadAt tree parts.root path
         → AtNode tree parts.root parts.threads design.components path
     node_of path thread =
         at_node tree parts.root parts.threads design.components sits path (flat.threads.complete path thread)
 
-    abbrev pub link_of : Ends → Link
+    abbrev pub link_of : CarriedChain → Link
     link_of e = record {
       source = node_at parts.threads e.from.path;
       out_port = port_number tree parts.root e.from;
@@ -145,7 +145,7 @@ module _ {tree : PackageTree ℕ} {name : List ℕ} {parts : Parts} (flat : IsFl
       adaptor = chain_adaptor tree (chain_at tree parts e);
     }
 
-    abbrev pub feed_of : Ends → Feed
+    abbrev pub feed_of : CarriedChain → Feed
     feed_of e = record {
       name = port_name (port_of tree parts.root e.from);
       target = node_at parts.threads e.to.path;
@@ -153,7 +153,7 @@ module _ {tree : PackageTree ℕ} {name : List ℕ} {parts : Parts} (flat : IsFl
       adaptor = chain_adaptor tree (chain_at tree parts e);
     }
 
-    abbrev pub tap_of : Ends → Tap
+    abbrev pub tap_of : CarriedChain → Tap
     tap_of e = record {
       name = port_name (port_of tree parts.root e.to);
       source = node_at parts.threads e.from.path;
@@ -161,21 +161,21 @@ module _ {tree : PackageTree ℕ} {name : List ℕ} {parts : Parts} (flat : IsFl
           parts.root e.from;
     }
 
-    pub link_is : (e : Ends) → walks.IsLink tree parts.root e → link_in tree (chain_at tree parts e) ≡ Some (link_of e)
+    pub link_is : (e : CarriedChain) → walks.IsLink tree parts.root e → link_in tree (chain_at tree parts e) ≡ Some (link_of e)
     link_is e (chain, is, from, to, carries) =
         ap (λ a. link_by (chain_adaptor tree (chain_at tree parts e)) a (end_in tree parts.root parts.threads e.to))
         (thread_end e.from from)
         ∙ ap (link_by (chain_adaptor tree (chain_at tree parts e)) (Thread (node_at parts.threads e.from.path)
         (port_number tree parts.root e.from))) (thread_end e.to to)
 
-    pub feed_is : (e : Ends) → walks.IsFeed tree parts.root e → feed_in tree (chain_at tree parts e) ≡ Some (feed_of e)
+    pub feed_is : (e : CarriedChain) → walks.IsFeed tree parts.root e → feed_in tree (chain_at tree parts e) ≡ Some (feed_of e)
     feed_is e (chain, is, from, to, carries) =
         ap (λ a. feed_by (chain_adaptor tree (chain_at tree parts e)) a (end_in tree parts.root parts.threads e.to))
         (root_end e.from from)
         ∙ ap (feed_by (chain_adaptor tree (chain_at tree parts e)) (Root (port_name (port_of tree parts.root e.from))))
         (thread_end e.to to)
 
-    pub tap_is : (e : Ends) → walks.IsTap tree parts.root e → tap_in (chain_at tree parts e) ≡ Some (tap_of e)
+    pub tap_is : (e : CarriedChain) → walks.IsTap tree parts.root e → tap_in (chain_at tree parts e) ≡ Some (tap_of e)
     tap_is e (chain, is, from, to, carries) =
         ap (λ a. tap_by a (end_in tree parts.root parts.threads e.to)) (thread_end e.from from)
         ∙ ap (tap_by (Thread (node_at parts.threads e.from.path) (port_number tree parts.root e.from)))

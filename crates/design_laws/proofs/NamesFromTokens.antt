@@ -16,10 +16,10 @@ use Rattle.aadl_lex.proofs.TokenSpellings.{words_of}
 use Rattle.aadl_tree.specs.declared.mark.Mark.{Mark}
 use Rattle.aadl_tree.specs.declared.mark.Mark.TheVariants as k
 use Rattle.aadl_tree.specs.KeywordsAndSymbols.{keyword_of, symbol_of}
-use Rattle.aadl_tree.specs.Terminals.{Kind, word, whole, real, quoted, unread, mark, other, word_kind, symbol_kind}
-use Rattle.aadl_tree.specs.Terminals.{class_kind, Spot, spots_from, spots, inside_behind}
+use Rattle.aadl_tree.specs.Terminals.{PlainTerminal, word, whole, real, quoted, unread, mark, other, word_kind, symbol_kind}
+use Rattle.aadl_tree.specs.Terminals.{class_kind, PlacedTerminal, spots_from, placed_terminals, inside_behind}
 use Rattle.aadl_tree.specs.SpellingParts.{Section, feature_section, subcomponent_section, connection_section}
-use Rattle.aadl_tree.specs.SpellingParts.{property_section, extra_kinds, Part, token, may, plain, parts_if, behind}
+use Rattle.aadl_tree.specs.SpellingParts.{property_section, extra_kinds, SpellingPart, token, may, plain, parts_if, behind}
 use Rattle.aadl_tree.specs.SpellingParts.{HaveKinds, Written}
 use Rattle.aadl_tree.specs.Names.{Identifier, Identifiers, identifier_parts, identifiers_parts, name_parts, identifiers}
 use Rattle.aadl_tree.specs.Names.{listed_in}
@@ -37,7 +37,7 @@ use Rattle.design_laws.specs.proof.PackageNames.{IsNamed, HasWords}
 use Rattle.design_laws.proofs.IdentifiersAreWords.{same_words}
 
 -- ---- terminals that are words
-abbrev IsWordKind : Kind → Type 0
+abbrev IsWordKind : PlainTerminal → Type 0
 IsWordKind (word bytes) = IsTrue (is_word bytes)
 IsWordKind (whole number) = Unit {0}
 IsWordKind (real bytes) = Unit {0}
@@ -46,7 +46,7 @@ IsWordKind (unread bytes) = Unit {0}
 IsWordKind (mark m) = Unit {0}
 IsWordKind (other bytes) = Unit {0}
 
-abbrev IsWordSpot : Spot → Type 0
+abbrev IsWordSpot : PlacedTerminal → Type 0
 IsWordSpot s = IsWordKind s.kind
 
 by_keyword : (bytes : List ℕ) (m : Option Mark) → IsTrue (is_word bytes) → IsWordKind (word_kind bytes m)
@@ -75,19 +75,19 @@ spots_words inside text (t ∷ ts) h =
     (by_class inside t.kind (bytes_of text t) h.0, spots_words (inside_behind inside t.kind) text ts h.1)
 
 -- ---- the parts that are written there
-abbrev IsWordPart : Part ℕ → Type 0
+abbrev IsWordPart : SpellingPart ℕ → Type 0
 IsWordPart (token kind places) = IsWordKind kind
 IsWordPart (may extra) = Unit {0}
 
-record AreWords (parts : List (Part ℕ)) : Type 0 where
+record AreWords (parts : List (SpellingPart ℕ)) : Type 0 where
   each : AllByRecursion IsWordPart parts
 
-kinds_passed : (ks : List Kind) (ss rest : List Spot) → HaveKinds ks ss rest → AllByRecursion IsWordSpot ss
+kinds_passed : (ks : List PlainTerminal) (ss rest : List PlacedTerminal) → HaveKinds ks ss rest → AllByRecursion IsWordSpot ss
     → AllByRecursion IsWordSpot rest
 kinds_passed [] ss rest have h = subst (AllByRecursion IsWordSpot) have h
 kinds_passed (k ∷ ks) ss rest have h = kinds_passed ks have.1 rest have.4 (subst (AllByRecursion IsWordSpot) have.2 h).1
 
-written_words : (parts : List (Part ℕ)) (ss rest : List Spot) → Written parts ss rest → AllByRecursion IsWordSpot ss
+written_words : (parts : List (SpellingPart ℕ)) (ss rest : List PlacedTerminal) → Written parts ss rest → AllByRecursion IsWordSpot ss
     → AllByRecursion IsWordPart parts
 written_words [] ss rest w h = tt
 written_words (token kind places ∷ parts) ss rest w h =
@@ -98,28 +98,28 @@ written_words (may extra ∷ parts) ss rest (inr w) h =
     (tt, written_words parts w.0 rest w.2 (kinds_passed (extra_kinds extra) ss w.0 w.1 h))
 
 -- ---- some of them
-front_by : (a b : List (Part ℕ)) → AllByRecursion IsWordPart (a ++ b) → AllByRecursion IsWordPart a
+front_by : (a b : List (SpellingPart ℕ)) → AllByRecursion IsWordPart (a ++ b) → AllByRecursion IsWordPart a
 front_by [] b h = tt
 front_by (x ∷ a) b h = (h.0, front_by a b h.1)
 
-back_by : (a b : List (Part ℕ)) → AllByRecursion IsWordPart (a ++ b) → AllByRecursion IsWordPart b
+back_by : (a b : List (SpellingPart ℕ)) → AllByRecursion IsWordPart (a ++ b) → AllByRecursion IsWordPart b
 back_by [] b h = h
 back_by (x ∷ a) b h = back_by a b h.1
 
-front : (a b : List (Part ℕ)) → AreWords (a ++ b) → AreWords a
+front : (a b : List (SpellingPart ℕ)) → AreWords (a ++ b) → AreWords a
 front a b h = record { each = front_by a b h.each }
 
-back : (a b : List (Part ℕ)) → AreWords (a ++ b) → AreWords b
+back : (a b : List (SpellingPart ℕ)) → AreWords (a ++ b) → AreWords b
 back a b h = record { each = back_by a b h.each }
 
-tail : (a : Part ℕ) (b : List (Part ℕ)) → AreWords (a ∷ b) → AreWords b
+tail : (a : SpellingPart ℕ) (b : List (SpellingPart ℕ)) → AreWords (a ∷ b) → AreWords b
 tail a b h = record { each = h.each.1 }
 
-in_section : (s : Section) (ps : List (Part ℕ)) → AreWords (section_parts s ps) → AreWords ps
+in_section : (s : Section) (ps : List (SpellingPart ℕ)) → AreWords (section_parts s ps) → AreWords ps
 in_section s [] h = record { each = tt }
 in_section s (p ∷ ps) h = tail (plain k.Semicolon) (p ∷ ps) (record { each = (tt, h.each.1) })
 
-module _ {V : Type 0} (f : V → List (Part ℕ)) (P : V → Type 0) (from : (v : V) → AreWords (f v) → P v) where
+module _ {V : Type 0} (f : V → List (SpellingPart ℕ)) (P : V → Type 0) (from : (v : V) → AreWords (f v) → P v) where
   each_of : (vs : List V) → AreWords (flat_map f vs) → AllByRecursion P vs
   each_of [] h = tt
   each_of (v ∷ vs) h = (from v (front (f v) (flat_map f vs) h), each_of vs (back (f v) (flat_map f vs) h))
@@ -152,7 +152,7 @@ all_in : {V : Type 0} (g : V → List (Identifier ℕ)) (vs : List V)
 all_in g [] h = tt
 all_in g (v ∷ vs) h = AllByRecursion-append IsNamed (g v) (flat_map g vs) h.0 (all_in g vs h.1)
 
-module _ {V : Type 0} (m : Mark) (f : V → List (Part ℕ)) (g : V → List (Identifier ℕ))
+module _ {V : Type 0} (m : Mark) (f : V → List (SpellingPart ℕ)) (g : V → List (Identifier ℕ))
     (from : (v : V) → AreWords (f v) → AllByRecursion IsNamed (g v)) where
   declared_named : (o : Option (List V)) → AreWords (parts_if (declared_parts m f) o)
       → AllByRecursion IsNamed (flat_map g (listed_in o))
@@ -203,16 +203,16 @@ first_tree (x ∷ xs) b is h = first_of x.at x.language x.content xs b (first_tr
 
 -- ---- an implementation
 module _ (x : Implementation ℕ) (h : AreWords (implementation_parts x)) where
-  abbrev subs : List (Part ℕ)
+  abbrev subs : List (SpellingPart ℕ)
   subs = section_parts subcomponent_section (flat_map subcomponent_parts x.subcomponents)
 
-  abbrev connections : List (Part ℕ)
+  abbrev connections : List (SpellingPart ℕ)
   connections = section_parts connection_section (flat_map connection_parts x.connections)
 
-  abbrev properties : List (Part ℕ)
+  abbrev properties : List (SpellingPart ℕ)
   properties = section_parts property_section (associations_parts x.properties)
 
-  abbrev behind_subs : List (Part ℕ)
+  abbrev behind_subs : List (SpellingPart ℕ)
   behind_subs =
       connections ++ (properties
       ++ (flat_map annex_parts x.annexes ++ ending_parts (implementation_name_parts x.end_name)))
@@ -271,5 +271,5 @@ has_words text tree given =
     let words = recursion_from_All (IsWordAt text) ts (words_of text ts given.lexed) in
     package_words tree (record {
       each =
-          written_words (package_parts tree) (spots text ts) [] given.written (spots_words false text ts words);
+          written_words (package_parts tree) (placed_terminals text ts) [] given.written (spots_words false text ts words);
     })

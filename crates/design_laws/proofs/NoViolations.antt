@@ -4,7 +4,7 @@ use Rattle.std.specs.List.Sorted.{IsStableBy, ties}
 use Rattle.std.proofs.lemmas.Bool.Decides.{nat_tests}
 use Rattle.aadl_tree.specs.Declarations.{PackageTree}
 use Rattle.annex_resolve.specs.declared.violation.Violation.{Violation}
-use Rattle.model_violations.specs.Violations.{Shown, findings, goes_before, AreViolations}
+use Rattle.model_violations.specs.Violations.{ShownInstance, findings, goes_before, AreViolations}
 use Rattle.design_laws.specs.proof.AcceptedInstances.{NothingFound}
 
 none_stable : {X : Type 0} (lt : X → X → Bool) → ((x : X) → ties lt x x ≡ true) → (xs : List X)
@@ -15,7 +15,7 @@ none_stable lt itself (x ∷ xs) same = let first = rw (itself x) at (same x) in
 ties_itself : (x : Violation) → ties goes_before x x ≡ true
 ties_itself x = grind (arith, nat_tests)
 
-pub nothing_found : (tree : PackageTree ℕ) (s : Shown) → AreViolations tree s [] → NothingFound tree s
+pub nothing_found : (tree : PackageTree ℕ) (s : ShownInstance) → AreViolations tree s [] → NothingFound tree s
 nothing_found tree s none = record {
   used = none.used;
   is_use = none.is_use;

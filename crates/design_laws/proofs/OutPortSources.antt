@@ -5,18 +5,18 @@ use Rattle.std.proofs.lemmas.Bool.{true≢false}
 use Rattle.std.proofs.lemmas.List.{reverse-reverse}
 use Rattle.std.specs.Option.{option_and_then}
 use Rattle.aadl_tree.specs.Declarations.{Implementation, PackageTree}
-use Rattle.aadl_names.specs.declared.port_place.PortPlace.{PortPlace}
-use Rattle.aadl_names.specs.declared.port_place.PortPlace.TheVariants.{Own}
+use Rattle.aadl_names.specs.declared.port_place.NumberedPort.{NumberedPort}
+use Rattle.aadl_names.specs.declared.port_place.NumberedPort.TheVariants.{Own}
 use Rattle.aadl_names.specs.ReferenceResolution.{implementation_at}
-use Rattle.aadl_uses.specs.Uses.{standing}
+use Rattle.aadl_uses.specs.Uses.{number_at_path}
 use Rattle.aadl_uses.specs.proof.PackageContainment.{containment}
 use Rattle.aadl_uses.specs.ThreadsBelow.{IsThreadAt}
 use Rattle.aadl_uses.specs.proof.ThreadCounts.{is_thread_in}
 use Rattle.aadl_uses.specs.proof.IncomingConnections.{connection_into}
 use Rattle.aadl_uses.specs.proof.ContainmentOrders.{IsOrder}
 use Rattle.aadl_chains.specs.proof.PortsJoinedInside.{is_thread_at, is_in_at}
-use Rattle.aadl_chains.specs.Chains.{Port, Place, Leads, IsStart}
-use Rattle.aadl_chains.specs.proof.DeclaredEnds.{AreDeclared}
+use Rattle.aadl_chains.specs.Chains.{Port, ConnectionAt, Leads, IsStart}
+use Rattle.aadl_chains.specs.proof.DeclaredEnds.{ArePermitted}
 use Rattle.aadl_chains.specs.proof.Walks.{OneEach}
 use Rattle.aadl_chains.specs.proof.TracedChains.{IsGiver}
 use Rattle.aadl_chains.proofs.FirstIncomingConnections.{inner_of}
@@ -25,13 +25,13 @@ use Rattle.aadl_chains.proofs.TracedChains.{Descending, descend_first, descend_m
 
 -- no chain leads to a port
 abbrev pub NoneLeads : PackageTree ℕ → ℕ → Port → Type 0
-NoneLeads tree root end = (cs : List Place) (from : Port) → IsStart tree root from → Leads tree root cs from end → ⊥
+NoneLeads tree root end = (cs : List ConnectionAt) (from : Port) → IsStart tree root from → Leads tree root cs from end → ⊥
 
 -- one does, from a thread
 abbrev pub Gives : PackageTree ℕ → ℕ → Port → Type 0
 Gives tree root end = ((from : Port) × IsGiver tree root end from) ⊎ NoneLeads tree root end
 
-pub thread_here : (tree : PackageTree ℕ) (root : ℕ) (path : List ℕ) (here : ℕ) → standing tree root path ≡ Some here
+pub thread_here : (tree : PackageTree ℕ) (root : ℕ) (path : List ℕ) (here : ℕ) → number_at_path tree root path ≡ Some here
     → is_thread_at tree here ≡ true → IsThreadAt tree root path
 thread_here tree root path here stands thread = by (implementation_at tree here) refl
   where
@@ -39,7 +39,7 @@ thread_here tree root path here stands thread = by (implementation_at tree here)
     by None e = absurd (true≢false (sym thread ∙ ap is_thread_in e))
     by (Some x) e = (x, (ap (option_and_then (implementation_at tree)) stands ∙ e, sym (ap is_thread_in e) ∙ thread))
 
-module _ (tree : PackageTree ℕ) (root : ℕ) (sound : AreDeclared tree) (one : OneEach tree root) (keys : List ℕ)
+module _ (tree : PackageTree ℕ) (root : ℕ) (sound : ArePermitted tree) (one : OneEach tree root) (keys : List ℕ)
     (order : IsOrder (containment tree) keys) where
   abbrev Ends : ℕ → Type 0
   Ends fuel =
@@ -48,17 +48,17 @@ module _ (tree : PackageTree ℕ) (root : ℕ) (sound : AreDeclared tree) (one :
 
   by_inner : (fuel : ℕ) → Ends fuel → (end : Port) (path : List ℕ) (here out : ℕ) → rank keys here < suc fuel
       → Descending tree root end path here out
-      → (k : ℕ) (source : PortPlace) → connection_into tree here (Own out) ≡ Some (k, source) → Gives tree root end
+      → (k : ℕ) (source : NumberedPort) → connection_into tree here (Own out) ≡ Some (k, source) → Gives tree root end
   by_inner fuel rest end path here out less d k source e =
       let i = inner_of tree sound here out k source d.goes_out e in
       let falls = rank_falls tree keys order here i.0 i.2 i.4 in
       rest end (path ++ i.0 ∷ []) i.2 i.1 (omega arith)
       (descend_more tree root sound one end path here out k i.0 i.1 i.2
-      (e ∙ ap (λ (s : PortPlace). Some (k, s)) i.3) i.4 d)
+      (e ∙ ap (λ (s : NumberedPort). Some (k, s)) i.3) i.4 d)
 
   by_into : (fuel : ℕ) → Ends fuel → (end : Port) (path : List ℕ) (here out : ℕ) → rank keys here < suc fuel
       → is_thread_at tree here ≡ false
-      → Descending tree root end path here out → (o : Option (ℕ × PortPlace)) → connection_into tree here (Own out) ≡ o
+      → Descending tree root end path here out → (o : Option (ℕ × NumberedPort)) → connection_into tree here (Own out) ≡ o
       → Gives tree root end
   by_into fuel rest end path here out less thread d None e =
       inr (descend_none tree root sound one end path here out thread e d)
@@ -83,11 +83,11 @@ module _ (tree : PackageTree ℕ) (root : ℕ) (sound : AreDeclared tree) (one :
       by_thread fuel (ends fuel) end path here out less d (is_thread_at tree here) refl
 
   -- from an out port of the component at a path
-  pub gives : (path : List ℕ) (here out : ℕ) → standing tree root path ≡ Some here → is_in_at tree here out ≡ false
+  pub gives : (path : List ℕ) (here out : ℕ) → number_at_path tree root path ≡ Some here → is_in_at tree here out ≡ false
       → Gives tree root (record { path = path; port = out })
   gives path here out stands goes_out =
       let turned : reverse (reverse path) ≡ path = reverse-reverse path in
       subst (λ (p : List ℕ). Gives tree root (record { path = p; port = out })) turned
       (ends (suc (rank keys here)) (record { path = reverse (reverse path); port = out }) (reverse path) here out
       (omega arith)
-      (descend_first tree root sound one (reverse path) here out (ap (standing tree root) turned ∙ stands) goes_out))
+      (descend_first tree root sound one (reverse path) here out (ap (number_at_path tree root) turned ∙ stands) goes_out))

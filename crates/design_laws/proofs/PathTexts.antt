@@ -19,7 +19,7 @@ use Rattle.aadl_tree.specs.Declarations.{Subcomponent, Connection, Implementatio
 use Rattle.aadl_names.specs.DuplicateNames.{entry_of}
 use Rattle.aadl_names.specs.ReferenceResolution.{implementation_at, subcomponents_of, referred, ports_of}
 use Rattle.aadl_names.specs.DuplicatesByNamespace.{port_entries, member_entries}
-use Rattle.aadl_uses.specs.Uses.{sub_at, below, standing}
+use Rattle.aadl_uses.specs.Uses.{sub_at, below, number_at_path}
 use Rattle.aadl_uses.specs.ThreadsBelow.{path_before}
 use Rattle.aadl_uses.specs.ThreadLocations.{name_at, names_along, dotted_names, spelled_path}
 use Rattle.aadl_uses.proofs.PathOrder.{never_before}
@@ -90,13 +90,13 @@ module _ (tree : PackageTree ℕ) (words : HasWords tree) (root : ℕ) where
   pub record Innermost (s : ℕ) (path : List ℕ) : Type 0 where
     pub number : ℕ
     pub sub : Subcomponent ℕ
-    pub stands : standing tree root path ≡ Some number
+    pub stands : number_at_path tree root path ≡ Some number
     pub is_sub : sub_at tree number s ≡ Some sub
     pub names : names_along tree root (s ∷ path) ≡ sub.name.spelling ∷ names_along tree root path
 
-  pub innermost : (s : ℕ) (path : List ℕ) (n : ℕ) → standing tree root (s ∷ path) ≡ Some n → Innermost s path
+  pub innermost : (s : ℕ) (path : List ℕ) (n : ℕ) → number_at_path tree root (s ∷ path) ≡ Some n → Innermost s path
   innermost s path n stands =
-      option_and_then_some (λ m. below tree m s) (standing tree root path) n stands
+      option_and_then_some (λ m. below tree m s) (number_at_path tree root path) n stands
       (λ m before step. option_and_then_some (λ (x : Subcomponent ℕ). referred tree x.classifier)
       (sub_at tree m s) n step
       (λ sub sub_is _. record {
@@ -108,7 +108,7 @@ module _ (tree : PackageTree ℕ) (words : HasWords tree) (root : ℕ) where
             ∙ ap (λ o. name_at o ++ names_along tree root path) sub_is;
       }))
 
-  names_words : (path : List ℕ) (n : ℕ) → standing tree root path ≡ Some n
+  names_words : (path : List ℕ) (n : ℕ) → number_at_path tree root path ≡ Some n
       → AllByRecursion (λ w. is_word w ≡ true) (names_along tree root path)
   names_words [] n stands = tt
   names_words (s ∷ path) n stands =
@@ -124,7 +124,7 @@ module _ (tree : PackageTree ℕ) (words : HasWords tree) (root : ℕ) where
   not_empty : (x : List ℕ) (xs : List (List ℕ)) → reverse (x ∷ xs) ≡ [] → ⊥
   not_empty x xs e = let back : x ∷ xs ≡ [] = sym (reverse-reverse (x ∷ xs)) ∙ ap reverse e in absurd (cc back)
 
-  split_path : (s : ℕ) (path : List ℕ) (n : ℕ) → standing tree root (s ∷ path) ≡ Some n
+  split_path : (s : ℕ) (path : List ℕ) (n : ℕ) → number_at_path tree root (s ∷ path) ≡ Some n
       → slice_split is_dot (spelled_path tree root (s ∷ path)) ≡ reverse (names_along tree root (s ∷ path))
   split_path s path n stands =
       let i = innermost s path n stands in
@@ -133,7 +133,7 @@ module _ (tree : PackageTree ℕ) (words : HasWords tree) (root : ℕ) where
       (names_words (s ∷ path) n stands))
       (λ e. not_empty i.sub.name.spelling (names_along tree root path) (ap reverse (sym i.names) ∙ e))
 
-  pub path_is : (s : ℕ) (path : List ℕ) (n : ℕ) → standing tree root (s ∷ path) ≡ Some n
+  pub path_is : (s : ℕ) (path : List ℕ) (n : ℕ) → number_at_path tree root (s ∷ path) ≡ Some n
       → IsTrue (is_path (spelled_path tree root (s ∷ path)))
   path_is s path n stands =
       ap (list_all is_word) (split_path s path n stands)
@@ -175,7 +175,7 @@ module _ (tree : PackageTree ℕ) (words : HasWords tree) (root : ℕ) where
     sub_one n s t (Some x) a b is first second same =
         one_sub x.subcomponents s t a b (cases_order s t) (subs_differ n x is) first second same
 
-    same_paths : (p q : List ℕ) (m n : ℕ) → standing tree root p ≡ Some m → standing tree root q ≡ Some n
+    same_paths : (p q : List ℕ) (m n : ℕ) → number_at_path tree root p ≡ Some m → number_at_path tree root q ≡ Some n
         → names_along tree root p ≡ names_along tree root q → p ≡ q
     same_paths [] [] m n first second same = refl
     same_paths [] (t ∷ q) m n first second same = let j = innermost t q n second in
@@ -193,13 +193,13 @@ module _ (tree : PackageTree ℕ) (words : HasWords tree) (root : ℕ) where
         let tail : names_along tree root p ≡ names_along tree root q = cc e in
         let path = same_paths p q i.number j.number i.stands j.stands tail in
         let number : i.number ≡ j.number =
-        same_Some i.number j.number (sym i.stands ∙ (ap (standing tree root) path ∙ j.stands)) in
+        same_Some i.number j.number (sym i.stands ∙ (ap (number_at_path tree root) path ∙ j.stands)) in
         let there : sub_at tree i.number t ≡ Some j.sub = ap (λ k. sub_at tree k t) number ∙ j.is_sub in
         let one = sub_one i.number s t (implementation_at tree i.number) i.sub j.sub refl i.is_sub there head in
         ap (λ k. k ∷ p) one ∙ ap (λ l. t ∷ l) path
 
-    pub paths_differ : (s t : ℕ) (p q : List ℕ) (m n : ℕ) → standing tree root (s ∷ p) ≡ Some m
-        → standing tree root (t ∷ q) ≡ Some n
+    pub paths_differ : (s t : ℕ) (p q : List ℕ) (m n : ℕ) → number_at_path tree root (s ∷ p) ≡ Some m
+        → number_at_path tree root (t ∷ q) ≡ Some n
         → spelled_path tree root (s ∷ p) ≡ spelled_path tree root (t ∷ q) → s ∷ p ≡ t ∷ q
     paths_differ s t p q m n first second same =
         let turned = sym (split_path s p m first) ∙ (ap (slice_split is_dot) same ∙ split_path t q n second) in

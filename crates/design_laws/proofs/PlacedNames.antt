@@ -9,28 +9,28 @@ use Rattle.list_lemmas.proofs.Elements.{AllByRecursion-append, AllByRecursion-we
 use Rattle.list_lemmas.proofs.PairwiseProperties.{Pairs, pairs_append}
 use Rattle.aadl_tree.specs.declared.mark.Mark.{Mark}
 use Rattle.aadl_tree.specs.declared.mark.Mark.TheVariants as k
-use Rattle.aadl_tree.specs.SpellingParts.{Part, Section, section_mark, empty_section, plain, may, behind, parts_if}
+use Rattle.aadl_tree.specs.SpellingParts.{SpellingPart, Section, section_mark, empty_section, plain, may, behind, parts_if}
 use Rattle.aadl_tree.specs.Names.{Identifier, Identifiers, identifier_parts, identifiers_parts}
 use Rattle.aadl_tree.specs.Annexes.{declared_parts}
 use Rattle.aadl_tree.specs.Declarations.{section_parts}
 use Rattle.aadl_names.specs.proof.PlaceOrder.{places_in, places_of, StandsBefore}
 
 -- ---- parts along which places rise
-pub record Rise (parts : List (Part ℕ)) : Type 0 where
+pub record Rise (parts : List (SpellingPart ℕ)) : Type 0 where
   pub each : (p q : ℕ) → StandsBefore parts p q → p < q
 
-pub places_append : (a b : List (Part ℕ)) → places_of (a ++ b) ≡ places_of a ++ places_of b
+pub places_append : (a b : List (SpellingPart ℕ)) → places_of (a ++ b) ≡ places_of a ++ places_of b
 places_append a b = flat_map-append places_in a b
 
-pub in_front : (a b : List (Part ℕ)) (p : ℕ) → Contains (places_of a) p → Contains (places_of (a ++ b)) p
+pub in_front : (a b : List (SpellingPart ℕ)) (p : ℕ) → Contains (places_of a) p → Contains (places_of (a ++ b)) p
 in_front a b p h =
     subst (λ l. Contains l p) (sym (places_append a b)) (Contains-append_left (places_of a) (places_of b) p h)
 
-pub in_back : (a b : List (Part ℕ)) (p : ℕ) → Contains (places_of b) p → Contains (places_of (a ++ b)) p
+pub in_back : (a b : List (SpellingPart ℕ)) (p : ℕ) → Contains (places_of b) p → Contains (places_of (a ++ b)) p
 in_back a b p h =
     subst (λ l. Contains l p) (sym (places_append a b)) (Contains-append_right (places_of a) (places_of b) p h)
 
-pub rise_front : (a b : List (Part ℕ)) → Rise (a ++ b) → Rise a
+pub rise_front : (a b : List (SpellingPart ℕ)) → Rise (a ++ b) → Rise a
 rise_front a b r = record {
   each = λ p q s. r.each p q (record {
     front = s.front;
@@ -41,7 +41,7 @@ rise_front a b r = record {
   });
 }
 
-pub rise_back : (a b : List (Part ℕ)) → Rise (a ++ b) → Rise b
+pub rise_back : (a b : List (SpellingPart ℕ)) → Rise (a ++ b) → Rise b
 rise_back a b r = record {
   each = λ p q s. r.each p q (record {
     front = a ++ s.front;
@@ -52,10 +52,10 @@ rise_back a b r = record {
   });
 }
 
-pub rise_tail : (a : Part ℕ) (b : List (Part ℕ)) → Rise (a ∷ b) → Rise b
+pub rise_tail : (a : SpellingPart ℕ) (b : List (SpellingPart ℕ)) → Rise (a ∷ b) → Rise b
 rise_tail a b r = rise_back (a ∷ []) b r
 
-pub rise_section : (s : Section) (ps : List (Part ℕ)) → Rise (section_parts s ps) → Rise ps
+pub rise_section : (s : Section) (ps : List (SpellingPart ℕ)) → Rise (section_parts s ps) → Rise ps
 rise_section s [] r = rise_tail (may (empty_section s)) [] r
 rise_section s (p ∷ ps) r = rise_tail (plain (section_mark s)) (p ∷ ps) r
 
@@ -63,36 +63,36 @@ rise_section s (p ∷ ps) r = rise_tail (plain (section_mark s)) (p ∷ ps) r
 abbrev pub Before : Identifier ℕ → Identifier ℕ → Type 0
 Before x y = x.at < y.at
 
-abbrev pub IsIn : List (Part ℕ) → Identifier ℕ → Type 0
+abbrev pub IsIn : List (SpellingPart ℕ) → Identifier ℕ → Type 0
 IsIn parts x = Contains (places_of parts) x.at
 
-pub record Placed (parts : List (Part ℕ)) (xs : List (Identifier ℕ)) : Type 0 where
+pub record Placed (parts : List (SpellingPart ℕ)) (xs : List (Identifier ℕ)) : Type 0 where
   pub rising : Pairs Before xs
   pub inside : AllByRecursion (IsIn parts) xs
 
-pub placed_front : (a b : List (Part ℕ)) (xs : List (Identifier ℕ)) → Placed a xs → Placed (a ++ b) xs
+pub placed_front : (a b : List (SpellingPart ℕ)) (xs : List (Identifier ℕ)) → Placed a xs → Placed (a ++ b) xs
 placed_front a b xs h =
     record {
       rising = h.rising;
       inside = AllByRecursion-weaker (IsIn a) (IsIn (a ++ b)) (λ x. in_front a b x.at) xs h.inside;
     }
 
-pub placed_back : (a b : List (Part ℕ)) (xs : List (Identifier ℕ)) → Placed b xs → Placed (a ++ b) xs
+pub placed_back : (a b : List (SpellingPart ℕ)) (xs : List (Identifier ℕ)) → Placed b xs → Placed (a ++ b) xs
 placed_back a b xs h =
     record {
       rising = h.rising;
       inside = AllByRecursion-weaker (IsIn b) (IsIn (a ++ b)) (λ x. in_back a b x.at) xs h.inside;
     }
 
-pub placed_tail : (a : Part ℕ) (b : List (Part ℕ)) (xs : List (Identifier ℕ)) → Placed b xs → Placed (a ∷ b) xs
+pub placed_tail : (a : SpellingPart ℕ) (b : List (SpellingPart ℕ)) (xs : List (Identifier ℕ)) → Placed b xs → Placed (a ∷ b) xs
 placed_tail a b xs h = placed_back (a ∷ []) b xs h
 
-pub placed_section : (s : Section) (ps : List (Part ℕ)) (xs : List (Identifier ℕ)) → Placed ps xs
+pub placed_section : (s : Section) (ps : List (SpellingPart ℕ)) (xs : List (Identifier ℕ)) → Placed ps xs
     → Placed (section_parts s ps) xs
 placed_section s [] xs h = placed_tail (may (empty_section s)) [] xs h
 placed_section s (p ∷ ps) xs h = placed_tail (plain (section_mark s)) (p ∷ ps) xs h
 
-pub placed_append : (a b : List (Part ℕ)) (xs ys : List (Identifier ℕ)) → Rise (a ++ b) → Placed a xs → Placed b ys
+pub placed_append : (a b : List (SpellingPart ℕ)) (xs ys : List (Identifier ℕ)) → Rise (a ++ b) → Placed a xs → Placed b ys
     → Placed (a ++ b) (xs ++ ys)
 placed_append a b xs ys r g h = record {
   rising = pairs_append Before xs ys g.rising h.rising
@@ -106,7 +106,7 @@ placed_append a b xs ys r g h = record {
 pub placed_none : Placed [] []
 placed_none = record { rising = tt; inside = tt }
 
-pub placed_flat : {V : Type 0} (f : V → List (Part ℕ)) (g : V → List (Identifier ℕ))
+pub placed_flat : {V : Type 0} (f : V → List (SpellingPart ℕ)) (g : V → List (Identifier ℕ))
     → ((v : V) → Rise (f v) → Placed (f v) (g v))
     → (vs : List V) → Rise (flat_map f vs)
     → Placed (flat_map f vs) (flat_map g vs)
@@ -137,7 +137,7 @@ abbrev pub listed : {V : Type 0} → Option (List V) → List V
 listed None = []
 listed (Some vs) = vs
 
-pub placed_declared : {V : Type 0} (m : Mark) (f : V → List (Part ℕ)) (g : V → List (Identifier ℕ))
+pub placed_declared : {V : Type 0} (m : Mark) (f : V → List (SpellingPart ℕ)) (g : V → List (Identifier ℕ))
     → ((v : V) → Rise (f v) → Placed (f v) (g v)) → (o : Option (List V))
     → Rise (parts_if (declared_parts m f) o) → Placed (parts_if (declared_parts m f) o) (flat_map g (listed o))
 placed_declared m f g each None r = placed_none

@@ -7,8 +7,8 @@ use Rattle.aadl_tree.specs.declared.declarations.Direction.{Direction}
 use Rattle.aadl_tree.specs.Declarations.{PackageTree}
 use Rattle.aadl_uses.specs.proof.PackageContainment.{containment}
 use Rattle.aadl_uses.specs.Uses.{IsInUse}
-use Rattle.aadl_uses.specs.declared.connections_by_target.Wire.{Wire}
-use Rattle.aadl_uses.specs.Wiring.{wires_at}
+use Rattle.aadl_uses.specs.declared.connections_by_target.ConnectionPorts.{ConnectionPorts}
+use Rattle.aadl_uses.specs.Wiring.{connection_ports_at}
 use Rattle.aadl_uses.specs.proof.ContainmentOrders.{IsOrder}
 use Rattle.aadl_uses.proofs.ContainmentSequences.{of_any, not_of_any}
 use Rattle.aadl_chains.specs.declared.port_set.PortAt.{PortAt}
@@ -29,11 +29,11 @@ is_used tree root used tells n = by (list_any (nat_eq n) used) refl
 module _ (tree : PackageTree ℕ) (root : ℕ) (d : Direction) (ins : List PortAt)
     (all : IsInside tree (opposite d) ins) where
   -- ---- a connection
-  record Leads (n : ℕ) (wire : Wire) (old : List PortAt) : Type 0 where
+  record Leads (n : ℕ) (wire : ConnectionPorts) (old : List PortAt) : Type 0 where
     new : List PortAt
     is : IsLed tree root d ins n wire old new
 
-  by_port : (n : ℕ) (wire : Wire) (old : List PortAt) (o : Option PortAt) → led_by old ins tree root d n wire ≡ o
+  by_port : (n : ℕ) (wire : ConnectionPorts) (old : List PortAt) (o : Option PortAt) → led_by old ins tree root d n wire ≡ o
       → Leads n wire old
   by_port n wire old None e = record { new = old; is = none_led tree root d ins all old n wire e }
   by_port n wire old (Some port) e =
@@ -44,16 +44,16 @@ module _ (tree : PackageTree ℕ) (root : ℕ) (d : Direction) (ins : List PortA
     new : List PortAt
     are : FrontLed tree root d n i old new
 
-  front_step : (n i : ℕ) (old : List PortAt) → IsInUse tree root n → Front n i old → (wire : Wire)
-      → slice_get (wires_at tree n) i ≡ Some wire → Front n (i + 1) old
+  front_step : (n i : ℕ) (old : List PortAt) → IsInUse tree root n → Front n i old → (wire : ConnectionPorts)
+      → slice_get (connection_ports_at tree n) i ≡ Some wire → Front n (i + 1) old
   front_step n i old used f wire e =
       let l = by_port n wire f.new (led_by f.new ins tree root d n wire) refl in
       record { new = l.new; are = one_more tree root d ins all n i wire old f.new l.new used e l.is f.are }
 
-  fronts : (n i : ℕ) (old : List PortAt) → IsInUse tree root n → i ≤ length (wires_at tree n) → Front n i old
+  fronts : (n i : ℕ) (old : List PortAt) → IsInUse tree root n → i ≤ length (connection_ports_at tree n) → Front n i old
   fronts n zero old used most = record { new = old; are = none_yet tree root d n old }
   fronts n (suc i) old used most =
-      let w = slice_get-some (wires_at tree n) i (omega arith) in
+      let w = slice_get-some (connection_ports_at tree n) i (omega arith) in
       let e : i + 1 ≡ suc i = omega arith in
       subst (λ (k : ℕ). Front n k old) e (front_step n i old used (fronts n i old used (omega arith)) w.0 w.1)
 
@@ -63,11 +63,11 @@ module _ (tree : PackageTree ℕ) (root : ℕ) (d : Direction) (ins : List PortA
 
   by_use : (n : ℕ) (old : List PortAt) → IsInUse tree root n ⊎ (IsInUse tree root n → ⊥) → Led n old
   by_use n old (inl used) =
-      let f = fronts n (length (wires_at tree n)) old used (omega arith) in
+      let f = fronts n (length (connection_ports_at tree n)) old used (omega arith) in
       record {
         new = f.new;
         are =
-            inl (used, all_led tree root d ins all n (length (wires_at tree n)) old f.new (omega arith) f.are);
+            inl (used, all_led tree root d ins all n (length (connection_ports_at tree n)) old f.new (omega arith) f.are);
       }
   by_use n old (inr never) = record { new = old; are = inr (never, refl) }
 

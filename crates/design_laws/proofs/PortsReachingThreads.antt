@@ -5,12 +5,12 @@ use Rattle.list_lemmas.proofs.ElementPositions.{slice_get-some, Contains-from_sl
 use Rattle.aadl_tree.specs.declared.declarations.Direction.{Direction}
 use Rattle.aadl_tree.specs.Declarations.{PackageTree}
 use Rattle.aadl_uses.specs.proof.PackageContainment.{containment}
-use Rattle.aadl_uses.specs.declared.connections_by_target.Wire.{Wire}
-use Rattle.aadl_uses.specs.Wiring.{wires_at}
+use Rattle.aadl_uses.specs.declared.connections_by_target.ConnectionPorts.{ConnectionPorts}
+use Rattle.aadl_uses.specs.Wiring.{connection_ports_at}
 use Rattle.aadl_uses.specs.proof.ContainmentOrders.{IsOrder}
 use Rattle.aadl_chains.specs.declared.port_set.PortAt.{PortAt}
 use Rattle.aadl_chains.specs.proof.PortSets.{with_port}
-use Rattle.aadl_chains.specs.proof.PortsJoinedInside.{is_thread_at, inner_end, outer_end, port_at, joined_by, AreJoined}
+use Rattle.aadl_chains.specs.proof.PortsJoinedInside.{is_thread_at, inner_end, outer_end, declaration_port, joined_by, AreJoined}
 use Rattle.aadl_chains.specs.proof.PortsJoinedInside.{IsJoined, IsInside}
 use Rattle.aadl_chains.proofs.JoinedInsideByConnection.{one_joined, none_joined, FrontJoined, none_yet, one_more}
 use Rattle.aadl_chains.proofs.JoinedInsideByConnection.{all_joined, thread_joined}
@@ -18,36 +18,36 @@ use Rattle.aadl_chains.proofs.JoinedInsideByDeclaration.{FrontInside, no_front, 
 
 module _ (tree : PackageTree ℕ) (d : Direction) where
   -- ---- a connection
-  record Joins (n : ℕ) (wire : Wire) (old : List PortAt) : Type 0 where
+  record Joins (n : ℕ) (wire : ConnectionPorts) (old : List PortAt) : Type 0 where
     new : List PortAt
     is : IsJoined tree d n wire old new
 
-  by_port : (n : ℕ) (wire : Wire) (old : List PortAt) (o : Option ℕ)
+  by_port : (n : ℕ) (wire : ConnectionPorts) (old : List PortAt) (o : Option ℕ)
       → joined_by old tree d n (outer_end d wire) (inner_end d wire) ≡ o → Joins n wire old
   by_port n wire old None e = record { new = old; is = none_joined tree d old n wire e }
   by_port n wire old (Some port) e =
-      record { new = with_port old (port_at n port); is = one_joined tree d old n port wire e }
+      record { new = with_port old (declaration_port n port); is = one_joined tree d old n port wire e }
 
   -- ---- the connections of a declaration
   record Front (n i : ℕ) (old : List PortAt) : Type 0 where
     new : List PortAt
     are : FrontJoined tree d n i old new
 
-  front_step : (n i : ℕ) (old : List PortAt) → is_thread_at tree n ≡ false → Front n i old → (wire : Wire)
-      → slice_get (wires_at tree n) i ≡ Some wire → Front n (i + 1) old
+  front_step : (n i : ℕ) (old : List PortAt) → is_thread_at tree n ≡ false → Front n i old → (wire : ConnectionPorts)
+      → slice_get (connection_ports_at tree n) i ≡ Some wire → Front n (i + 1) old
   front_step n i old thread f wire e =
       let j = by_port n wire f.new (joined_by f.new tree d n (outer_end d wire) (inner_end d wire)) refl in
       record {
         new = j.new;
         are =
-            one_more tree d n i wire old f.new j.new thread e (Contains-from_slice_get (wires_at tree n) i wire e)
+            one_more tree d n i wire old f.new j.new thread e (Contains-from_slice_get (connection_ports_at tree n) i wire e)
             j.is f.are;
       }
 
-  some_wire : (n i : ℕ) → i < length (wires_at tree n) → (wire : Wire) × (slice_get (wires_at tree n) i ≡ Some wire)
-  some_wire n i lt = slice_get-some (wires_at tree n) i lt
+  some_wire : (n i : ℕ) → i < length (connection_ports_at tree n) → (wire : ConnectionPorts) × (slice_get (connection_ports_at tree n) i ≡ Some wire)
+  some_wire n i lt = slice_get-some (connection_ports_at tree n) i lt
 
-  fronts : (n i : ℕ) (old : List PortAt) → is_thread_at tree n ≡ false → i ≤ length (wires_at tree n) → Front n i old
+  fronts : (n i : ℕ) (old : List PortAt) → is_thread_at tree n ≡ false → i ≤ length (connection_ports_at tree n) → Front n i old
   fronts n zero old thread most = record { new = old; are = none_yet tree d n old }
   fronts n (suc i) old thread most =
       let w = some_wire n i (omega arith) in
@@ -61,8 +61,8 @@ module _ (tree : PackageTree ℕ) (d : Direction) where
   by_thread : (n : ℕ) (old : List PortAt) (b : Bool) → is_thread_at tree n ≡ b → Joined n old
   by_thread n old true e = record { new = old; are = thread_joined tree d n old e }
   by_thread n old false e =
-      let f = fronts n (length (wires_at tree n)) old e (omega arith) in
-      record { new = f.new; are = all_joined tree d n (length (wires_at tree n)) old f.new (omega arith) f.are }
+      let f = fronts n (length (connection_ports_at tree n)) old e (omega arith) in
+      record { new = f.new; are = all_joined tree d n (length (connection_ports_at tree n)) old f.new (omega arith) f.are }
 
   -- ---- declarations in an order
   record Known (keys : List ℕ) (at : ℕ) : Type 0 where

@@ -17,8 +17,8 @@ use Rattle.aadl_uses.specs.Uses.{component_at}
 use Rattle.aadl_uses.specs.ThreadsBelow.{IsThreadAt}
 use Rattle.aadl_uses.specs.ThreadLocations.{thread_at}
 use Rattle.aadl_chains.specs.Chains.{Port, port_of, is_in}
-use Rattle.aadl_chains.specs.LinksFeedsAndTaps.{Ends}
-use Rattle.aadl_instance.specs.FlattenedDesign.{Parts, IsFlat}
+use Rattle.aadl_chains.specs.LinksFeedsAndTaps.{CarriedChain}
+use Rattle.aadl_instance.specs.FlattenedDesign.{InstanceParts, IsFlat}
 use Rattle.aadl_chains.specs.LinksFeedsAndTaps as walks
 use Rattle.aadl_instance.specs.Instances.{node_at, port_number, port_name, end_in, chain_at}
 use Rattle.annex_resolve.specs.ExpressionTypesAndFindings.{kind_in}
@@ -35,15 +35,15 @@ use Rattle.model_violations.specs.UsedDeclarations.{IsUse}
 use Rattle.model_violations.specs.Violations.{shown_by, used_findings, rates_of}
 use Rattle.design_laws.specs.InstanceDesigns.{chain_adaptor}
 use Rattle.design_laws.proofs.MatchedLists.{Zipped}
-use Rattle.design_laws.proofs.ChainEndPorts.{Sits, in_seen, rate_at}
+use Rattle.design_laws.proofs.ChainEndPorts.{IsComponentAt, in_seen, rate_at}
 use Rattle.design_laws.proofs.LinksFromChains.{rated_fits, thread_end, root_end, start_goes_out, end_goes_in}
 use Rattle.design_laws.proofs.LinksFromChains.{link_joins, feed_joins, tap_joins, connection_is, adaptor_is, node_of}
 use Rattle.design_laws.proofs.LinksFromChains.{link_of, feed_of, tap_of, is_target, in_kind_is, is_source, out_kind_is}
 use Rattle.design_laws.proofs.LinksFromChains.{rate_is}
 
-module _ {tree : PackageTree ℕ} {name : List ℕ} {parts : Parts} (flat : IsFlat tree name parts) (used : ℕ → Bool)
+module _ {tree : PackageTree ℕ} {name : List ℕ} {parts : InstanceParts} (flat : IsFlat tree name parts) (used : ℕ → Bool)
     (is_use : IsUse tree parts.root used) (none : used_findings tree (shown_by tree parts) used ≡ [])
-    (design : DesignParts) (sits : Zipped (Sits tree parts.root) parts.threads design.components) where
+    (design : DesignParts) (sits : Zipped (IsComponentAt tree parts.root) parts.threads design.components) where
   -- the type of the target, as findings see it
   seen_kind : (p : Port) (f : Feature ℕ) (k : Kind) → IsThreadAt tree parts.root p.path
       → port_of tree parts.root p ≡ Some f
@@ -64,7 +64,7 @@ module _ {tree : PackageTree ℕ} {name : List ℕ} {parts : Parts} (flat : IsFl
       ∙ ap Some (sym (rate_is flat design sits p.path at)))
 
   -- ---- links
-  link_fits : (e : Ends) → walks.IsLink tree parts.root e
+  link_fits : (e : CarriedChain) → walks.IsLink tree parts.root e
       → link_findings tree (map (thread_at tree parts.root) parts.threads)
       (rates_of tree (shown_by tree parts)) (chain_at tree parts e) ≡ []
       → (k : Kind) → end_kind tree (map (thread_at tree parts.root) parts.threads)
@@ -96,7 +96,7 @@ module _ {tree : PackageTree ℕ} {name : List ℕ} {parts : Parts} (flat : IsFl
             ∙ subst (λ o. kind_suits (option_and_then adaptor_named (adaptor_text c.link)) o ≡ true) seen f.suits,
       )
 
-  pub link_keeps : (e : Ends) → walks.IsLink tree parts.root e
+  pub link_keeps : (e : CarriedChain) → walks.IsLink tree parts.root e
       → link_findings tree (map (thread_at tree parts.root) parts.threads)
       (rates_of tree (shown_by tree parts)) (chain_at tree parts e) ≡ []
       → model.IsLink design (link_of flat design sits e)
@@ -128,7 +128,7 @@ module _ {tree : PackageTree ℕ} {name : List ℕ} {parts : Parts} (flat : IsFl
       (recursion_from_All IsPort (ports_at tree (component_at tree parts.root p.path)) all) is)
 
   -- ---- feeds
-  feed_fits : (e : Ends) → walks.IsFeed tree parts.root e
+  feed_fits : (e : CarriedChain) → walks.IsFeed tree parts.root e
       → feed_findings tree (map (thread_at tree parts.root) parts.threads)
       (rates_of tree (shown_by tree parts)) (chain_at tree parts e) ≡ []
       → (k : Kind) → end_kind tree (map (thread_at tree parts.root) parts.threads)
@@ -156,7 +156,7 @@ module _ {tree : PackageTree ℕ} {name : List ℕ} {parts : Parts} (flat : IsFl
             ∙ subst (λ o. kind_suits (option_and_then adaptor_named (adaptor_text c.link)) o ≡ true) seen f.suits,
       )
 
-  pub feed_keeps : HasWords tree → (e : Ends) → walks.IsFeed tree parts.root e
+  pub feed_keeps : HasWords tree → (e : CarriedChain) → walks.IsFeed tree parts.root e
       → feed_findings tree (map (thread_at tree parts.root) parts.threads) (rates_of tree (shown_by tree parts))
       (chain_at tree parts e) ≡ []
       → model.IsFeed design (feed_of flat design sits e)
@@ -175,7 +175,7 @@ module _ {tree : PackageTree ℕ} {name : List ℕ} {parts : Parts} (flat : IsFl
       }
 
   -- ---- taps
-  pub tap_keeps : HasWords tree → (e : Ends) → walks.IsTap tree parts.root e
+  pub tap_keeps : HasWords tree → (e : CarriedChain) → walks.IsTap tree parts.root e
       → model.IsTap design (tap_of flat design sits e)
   tap_keeps words e (chain, is, from, to, c) =
       let j = tap_joins flat used is_use none e (chain, is, from, to, c) in

@@ -28,13 +28,13 @@ use Rattle.annex_resolve.specs.ExpressionTypesAndFindings.{fits, misfit, same_ki
 use Rattle.annex_resolve.specs.ExpressionTypesAndFindings.{expression_types, kind_named}
 use Rattle.annex_resolve.specs.ResolvedTrees.{expression_of, action_of, actions_of, mores_of, elsifs_of, otherwise_of}
 use Rattle.annex_resolve.specs.ResolvedTrees.{block_of}
-use Rattle.annex_resolve.specs.ActionFindings.{turns, together, is_too_long, is_integer, branch_findings}
+use Rattle.annex_resolve.specs.ActionFindings.{turns, turns_with_outer, is_too_long, is_integer, branch_findings}
 use Rattle.annex_resolve.specs.ActionFindings.{action_findings, actions_findings, mores_findings, elsifs_findings}
 use Rattle.annex_resolve.specs.ActionFindings.{otherwise_findings, block_findings}
 use Rattle.design_laws.specs.proof.FittingAnnexNames.{FitsMeaning, FitsScope}
 use Rattle.design_laws.proofs.EmptyFindingLists.{not_wrong, is_right}
 use Rattle.design_laws.proofs.LoopScopes.{inner_fits}
-use Rattle.design_laws.proofs.TypedExpressions.{Has, is_truth, expression_sound}
+use Rattle.design_laws.proofs.TypedExpressions.{HasKind, is_truth, expression_sound}
 
 -- ---- whole expressions
 agrees : (k w : Kind) (kinds : Kinds) → same_kind k w ≡ true → allows kinds k ≡ true → allows kinds w ≡ true
@@ -45,7 +45,7 @@ agrees Boolean Boolean kinds same h = h
 
 -- a value of a type that fits a place
 given_fits : (b : BehaviourParts) (loops : ℕ) (kind wanted : Option Kind) (w : Kind) (e : plain.Expression)
-    → Has b loops kind e → wanted ≡ Some w → fits kind wanted ≡ true → allows (kinds_of e b loops) w ≡ true
+    → HasKind b loops kind e → wanted ≡ Some w → fits kind wanted ≡ true → allows (kinds_of e b loops) w ≡ true
 given_fits b loops kind wanted w e (k, is, h) is_wanted fit =
     agrees k w (kinds_of e b loops)
     (subst (λ o. fits (Some k) o ≡ true) is_wanted (subst (λ o. fits o wanted ≡ true) is fit)) h
@@ -61,7 +61,7 @@ test_sound b loops scope fit e none =
 
 -- ---- a name that is set or sent
 set_sound : (b : BehaviourParts) (loops around : ℕ) (m : Meaning) (wanted kind : Option Kind) (e : plain.Expression)
-    → FitsMeaning b loops m wanted → sets m ≡ true → Has b loops kind e → fits kind wanted ≡ true
+    → FitsMeaning b loops m wanted → sets m ≡ true → HasKind b loops kind e → fits kind wanted ≡ true
     → is_sound (given e m) b loops around ≡ true
 set_sound b loops around (InPort n) wanted kind e fit may has same = absurd (false≢true may)
 set_sound b loops around (OutPort n) wanted kind e (p, is, w) may has same =
@@ -82,7 +82,7 @@ sent_is_set None may = may
 sent_is_set (Some e) may = sent_sets e.meaning may
 
 to_entry : (b : BehaviourParts) (loops around : ℕ) (o : Option DeclaredName) (kind : Option Kind) (e : plain.Expression)
-    → ((k : DeclaredName) → o ≡ Some k → FitsMeaning b loops k.meaning k.kind) → may_set o ≡ true → Has b loops kind e
+    → ((k : DeclaredName) → o ≡ Some k → FitsMeaning b loops k.meaning k.kind) → may_set o ≡ true → HasKind b loops kind e
     → fits kind (kind_of o) ≡ true
     → is_sound (given_to e o) b loops around ≡ true
 to_entry b loops around None kind e fit may has same = absurd (false≢true may)
@@ -109,11 +109,11 @@ not_cut p small = elim (cases_lt p (NESTED_TURNS + 1)) as (λ r. p ≤ NESTED_TU
 ]
 
 pub short_enough : (around count : ℕ) → is_too_long around count ≡ false
-    → (is_short count around ≡ true) × (together around count ≡ around * count)
+    → (is_short count around ≡ true) × (turns_with_outer around count ≡ around * count)
 short_enough around count short =
     let p =
-    and_parts (nat_le count TURNS) (nat_le (together around count) NESTED_TURNS)
-    (not-false (nat_le count TURNS && nat_le (together around count) NESTED_TURNS) short) in
+    and_parts (nat_le count TURNS) (nat_le (turns_with_outer around count) NESTED_TURNS)
+    (not-false (nat_le count TURNS && nat_le (turns_with_outer around count) NESTED_TURNS) short) in
     let small = not_cut (around * count) p.1 in (
       and_from (nat_le count TURNS) (nat_le (around * count) NESTED_TURNS) p.0
           (le-leb (around * count) NESTED_TURNS small),
@@ -159,7 +159,7 @@ module _ (b : BehaviourParts) where
         let limited = found_if (is_too_long around (turns low high)) at LOOP_TOO_LONG [] in
         let p =
         append_is_nil (typed ++ limited)
-        (block_findings (with_loop scope x) (together around (turns low high)) body) none in
+        (block_findings (with_loop scope x) (turns_with_outer around (turns low high)) body) none in
         let q = append_is_nil typed limited p.0 in
         let short =
         short_enough around (turns low high)

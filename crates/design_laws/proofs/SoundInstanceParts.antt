@@ -14,10 +14,10 @@ use Rattle.aadl_names.specs.declared.fault.PackageFault.TheVariants.{TooMany, Wr
 use Rattle.aadl_names.specs.ReferenceResolution.{implementation_at, type_number, is_thread}
 use Rattle.aadl_names.specs.PackageFaults.{package_faults, behaviour_faults, annex_faults, declaration_faults}
 use Rattle.aadl_names.specs.PackageFaults.{wrong_names}
-use Rattle.aadl_uses.specs.Uses.{standing, component_at}
+use Rattle.aadl_uses.specs.Uses.{number_at_path, component_at}
 use Rattle.aadl_chains.proofs.PermittedConnections.{implementation_in-some}
 use Rattle.aadl_instance.specs.Faults.{IsOver, FoundIn}
-use Rattle.aadl_instance.specs.FlattenedDesign.{Parts, IsFlat}
+use Rattle.aadl_instance.specs.FlattenedDesign.{InstanceParts, IsFlat}
 use Rattle.design_laws.proofs.EmptyFindingLists.{none_at}
 use Rattle.design_laws.proofs.PairwiseDistinctNames.{where_true}
 use Rattle.model_violations.specs.IgnoredProperties.{is_number, is_root_type}
@@ -27,7 +27,7 @@ use Rattle.model_violations.specs.ConnectionsAndCarriers.{carries}
 use Rattle.model_violations.specs.ChainFindings.{link_findings, feed_findings, tap_findings}
 use Rattle.model_violations.specs.UsedDeclarations.{IsUse, uses_type, type_used}
 use Rattle.model_violations.specs.DeclarationFindings.{type_findings, implementation_findings, declaration_findings}
-use Rattle.model_violations.specs.Violations.{Shown, rates_of, carriers_of, chain_findings, used_findings, findings}
+use Rattle.model_violations.specs.Violations.{ShownInstance, rates_of, carriers_of, chain_findings, used_findings, findings}
 use Rattle.aadl_tree.specs.Annexes.{AnnexTree}
 use Rattle.aadl_names.specs.BehaviourAnnexes as names
 use Rattle.aadl_names.specs.DuplicatesByNamespace.{twice_names}
@@ -38,7 +38,7 @@ nothing_in : {X : Type 0} (xs : List X) → ((x : X) → Contains xs x → ⊥) 
 nothing_in [] none = refl
 nothing_in (x ∷ xs) none = absurd (none x (0, omega arith, refl))
 
-module _ {tree : PackageTree ℕ} {name : List ℕ} {parts : Parts} (flat : IsFlat tree name parts) where
+module _ {tree : PackageTree ℕ} {name : List ℕ} {parts : InstanceParts} (flat : IsFlat tree name parts) where
   pub not_found : (line : ℕ) (fault : PackageFault) → FoundIn tree parts.root line fault → ⊥
   not_found line fault found = flat.sound line fault (inr (parts.root, flat.root, found))
 
@@ -49,7 +49,7 @@ module _ {tree : PackageTree ℕ} {name : List ℕ} {parts : Parts} (flat : IsFl
   not_over line what over = not_found line (TooMany what) (inr (inr (inr (what, over, refl))))
 
 -- ---- nothing found
-pub record NoFindings (tree : PackageTree ℕ) (s : Shown) (used : ℕ → Bool) : Type 0 where
+pub record NoFindings (tree : PackageTree ℕ) (s : ShownInstance) (used : ℕ → Bool) : Type 0 where
   pub root : root_findings tree s.root (greatest_rate (rates_of tree s)) ≡ []
   pub threads : flat_map (thread_findings tree s.root) s.threads ≡ []
   pub links : flat_map (link_findings tree s.threads (rates_of tree s)) s.links ≡ []
@@ -57,7 +57,7 @@ pub record NoFindings (tree : PackageTree ℕ) (s : Shown) (used : ℕ → Bool)
   pub taps : flat_map (tap_findings tree s.threads) s.taps ≡ []
   pub declarations : used_findings tree s used ≡ []
 
-pub all_parts : (tree : PackageTree ℕ) (s : Shown) (used : ℕ → Bool) → findings tree s used ≡ []
+pub all_parts : (tree : PackageTree ℕ) (s : ShownInstance) (used : ℕ → Bool) → findings tree s used ≡ []
     → NoFindings tree s used
 unfolding findings
 all_parts tree s used none =
@@ -98,7 +98,7 @@ any_numbered p from (y ∷ xs) (suc n) x is passes =
     or_right (p (from, y)) (list_any p (enumerate_from (from + 1) xs))
     (any_numbered p (from + 1) xs n x is (ap (λ k. p (k, x)) next ∙ passes))
 
-module _ (tree : PackageTree ℕ) (s : Shown) (used : ℕ → Bool) (none : used_findings tree s used ≡ []) where
+module _ (tree : PackageTree ℕ) (s : ShownInstance) (used : ℕ → Bool) (none : used_findings tree s used ≡ []) where
   pub implementation_clean : (n : ℕ) (x : Implementation ℕ) → used n ≡ true
       → slice_get tree.declarations n ≡ Some (implementation x)
       → implementation_findings tree s.root (carries (carriers_of s)) n x ≡ []
@@ -139,17 +139,17 @@ module _ (tree : PackageTree ℕ) (s : Shown) (used : ℕ → Bool) (none : used
 -- ---- what stands at a path
 pub record StandsAt (tree : PackageTree ℕ) (root : ℕ) (path : List ℕ) (x : Implementation ℕ) : Type 0 where
   pub number : ℕ
-  pub stands : standing tree root path ≡ Some number
+  pub stands : number_at_path tree root path ≡ Some number
   pub is : implementation_at tree number ≡ Some x
 
 pub stands_at : (tree : PackageTree ℕ) (root : ℕ) (path : List ℕ) (x : Implementation ℕ)
     → component_at tree root path ≡ Some x
     → StandsAt tree root path x
-stands_at tree root path x e = option_and_then_some (implementation_at tree) (standing tree root path) x e
+stands_at tree root path x e = option_and_then_some (implementation_at tree) (number_at_path tree root path) x e
     (λ n stands is. record { number = n; stands = stands; is = is })
 
 pub is_used : (tree : PackageTree ℕ) (root : ℕ) (used : ℕ → Bool) → IsUse tree root used → (path : List ℕ) (n : ℕ)
-    → standing tree root path ≡ Some n → used n ≡ true
+    → number_at_path tree root path ≡ Some n → used n ≡ true
 is_used tree root used is_use path n stands = (is_use n).1 (path, stands)
 
 first_faults : (tree : PackageTree ℕ) (x : Implementation ℕ) (bs : List (ℕ × AnnexTree ℕ)) (b : ℕ × AnnexTree ℕ)

@@ -23,13 +23,13 @@ use Rattle.aadl_tree.specs.Actions.{Block}
 use Rattle.annex_resolve.specs.declared.scope.Scope.{Scope}
 use Rattle.annex_resolve.specs.declared.states.StateAt.{StateAt}
 use Rattle.annex_resolve.specs.declared.departures.Departure.{Departure}
-use Rattle.annex_resolve.specs.declared.departures.GuardKind.{GuardKind}
+use Rattle.annex_resolve.specs.declared.departures.GuardCase.{GuardCase}
 use Rattle.annex_resolve.specs.declared.violation.TheConstants.{DISPATCH_COUNT, NO_OTHERWISE, CYCLE_WITHOUT_COMPLETE}
 use Rattle.annex_resolve.specs.FindingRecords.{found_if}
 use Rattle.annex_resolve.specs.IncompleteStateCycles.{is_on_cycle}
 use Rattle.annex_resolve.specs.BehavioursAndFindings.{declared, state_number, trigger_of, effect_of, edge_of}
 use Rattle.annex_resolve.specs.BehavioursAndFindings.{guard_types, effect_findings, transition_findings}
-use Rattle.annex_resolve.specs.BehavioursAndFindings.{breaks_dispatch, way_of, leg_of, ways_from, is_otherwise}
+use Rattle.annex_resolve.specs.BehavioursAndFindings.{breaks_dispatch, guard_case_of, departure_of, guard_cases_from, is_otherwise}
 use Rattle.annex_resolve.specs.BehavioursAndFindings.{is_guarded, is_open, lacks_otherwise, state_rules, cycles_of}
 use Rattle.annex_resolve.proofs.StateReachability.{way_reaches}
 use Rattle.design_laws.specs.proof.FittingAnnexNames.{FitsScope, is_declared}
@@ -81,15 +81,15 @@ module _ (scope : Scope) (states : List StateAt) where
   abbrev edges : List (Transition ℕ) → List plain.Edge
   edges ts = map (edge_of scope states) ts
 
-  abbrev ways : List (Transition ℕ) → List GuardKind
-  ways ts = map (λ (leg : Departure). leg.way) (map (leg_of states) ts)
+  abbrev ways : List (Transition ℕ) → List GuardCase
+  ways ts = map (λ (leg : Departure). leg.way) (map (departure_of states) ts)
 
   none_dispatch : (d : Bool) (e : plain.Edge) (rest : List plain.Edge) → length (cond d (e ∷ rest) rest) ≡ 0
       → (d ≡ false) × (length rest ≡ 0)
   none_dispatch true e rest none = absurd (omega (arith, none))
   none_dispatch false e rest none = (refl, none)
 
-  open_guard : (g : Option (Guard ℕ)) → is_dispatch (trigger_of scope g) ≡ false → is_guarded (way_of g) ≡ false
+  open_guard : (g : Option (Guard ℕ)) → is_dispatch (trigger_of scope g) ≡ false → is_guarded (guard_case_of g) ≡ false
       → is_always (trigger_of scope g) ≡ true
   open_guard None d w = refl
   open_guard (Some dispatch) d w = absurd (false≢true (sym d))
@@ -111,8 +111,8 @@ module _ (scope : Scope) (states : List StateAt) where
       → is_open (slice_get (ways ts) (length (ways ts) - 1)) ≡ false → ends_unguarded (edges ts) ≡ true
   unguarded [] none shut = absurd (false≢true (sym shut))
   unguarded (t ∷ ts) none shut =
-      let count : length (ways ts) ≡ length ts = length-map (map (leg_of states) ts) (λ (leg : Departure). leg.way)
-      ∙ length-map ts (leg_of states) in
+      let count : length (ways ts) ≡ length ts = length-map (map (departure_of states) ts) (λ (leg : Departure). leg.way)
+      ∙ length-map ts (departure_of states) in
       let at : length (ways (t ∷ ts)) - 1 ≡ length ts = omega (arith, count) in
       last_open false t ts none (subst (λ n. is_open (slice_get (ways (t ∷ ts)) n) ≡ false) at shut)
 
@@ -138,10 +138,10 @@ module _ (b : BehaviourParts) (scope : Scope) (states : List StateAt) (ts : List
       ap (filter (λ (e : plain.Edge). nat_eq e.source n)) is_edges
       ∙ filter-map (λ (e : plain.Edge). nat_eq e.source n) (edge_of scope states) ts
 
-  ways_are : (n : ℕ) → ways_from n (map (leg_of states) ts)
-      ≡ map (λ (leg : Departure). leg.way) (map (leg_of states) (leave n))
+  ways_are : (n : ℕ) → guard_cases_from n (map (departure_of states) ts)
+      ≡ map (λ (leg : Departure). leg.way) (map (departure_of states) (leave n))
   ways_are n =
-      ap (map (λ (leg : Departure). leg.way)) (filter-map (λ (leg : Departure). nat_eq leg.source n) (leg_of states) ts)
+      ap (map (λ (leg : Departure). leg.way)) (filter-map (λ (leg : Departure). nat_eq leg.source n) (departure_of states) ts)
 
   complete_is : (n : ℕ) (s : StateAt) → slice_get states n ≡ Some s → is_complete b n ≡ s.complete
   complete_is n s is =
@@ -149,10 +149,10 @@ module _ (b : BehaviourParts) (scope : Scope) (states : List StateAt) (ts : List
       ∙ ap completes (slice_get-map declared states n ∙ ap (option_map declared) is)
 
   pub state_has_ways : (n : ℕ) (s : StateAt) → slice_get states n ≡ Some s
-      → state_rules b (map (leg_of states) ts) (cycles_of b) (n, s) ≡ [] → has_ways b n ≡ true
+      → state_rules b (map (departure_of states) ts) (cycles_of b) (n, s) ≡ [] → has_ways b n ≡ true
   state_has_ways n s is none =
       let first = found_if (breaks_dispatch b n) s.at DISPATCH_COUNT s.name in
-      let lacks = lacks_otherwise (ways_from n (map (leg_of states) ts)) in
+      let lacks = lacks_otherwise (guard_cases_from n (map (departure_of states) ts)) in
       let second = found_if lacks s.at NO_OTHERWISE s.name in
       let third = found_if (unwrap_or (slice_get (cycles_of b) n) false) s.at CYCLE_WITHOUT_COMPLETE s.name in
       let p = append_is_nil first (cond s.complete [] (second ++ third)) none in
@@ -164,21 +164,21 @@ module _ (b : BehaviourParts) (scope : Scope) (states : List StateAt) (ts : List
       append_is_nil second third
       (otherwise_empty s.complete (second ++ third) p.1 (sym (complete_is n s is) ∙ open')) in
       let shut =
-      (or_parts (is_open (slice_get (ways_from n (map (leg_of states) ts))
-      (length (ways_from n (map (leg_of states) ts)) - 1)))
-      (list_any is_otherwise (take (length (ways_from n (map (leg_of states) ts)) - 1)
-      (ways_from n (map (leg_of states) ts)))) (not_wrong lacks s.at NO_OTHERWISE s.name rest.0)).0 in
+      (or_parts (is_open (slice_get (guard_cases_from n (map (departure_of states) ts))
+      (length (guard_cases_from n (map (departure_of states) ts)) - 1)))
+      (list_any is_otherwise (take (length (guard_cases_from n (map (departure_of states) ts)) - 1)
+      (guard_cases_from n (map (departure_of states) ts)))) (not_wrong lacks s.at NO_OTHERWISE s.name rest.0)).0 in
       subst (λ l. ends_unguarded l ≡ true) (sym (leaving_is n))
       (unguarded scope states (leave n)
       (subst (λ l. dispatch_count l ≡ 0) (leaving_is n) (eqb-true (dispatch_count (leaving b n)) 0 zero'))
       (subst (λ l. is_open (slice_get l (length l - 1)) ≡ false) (ways_are n) shut)))
 
   pub state_no_cycle : (n : ℕ) (s : StateAt) → slice_get states n ≡ Some s → n < length b.states
-      → state_rules b (map (leg_of states) ts) (cycles_of b) (n, s) ≡ [] → is_complete b n ≡ false
+      → state_rules b (map (departure_of states) ts) (cycles_of b) (n, s) ≡ [] → is_complete b n ≡ false
       → is_on_cycle b n ≡ false
   state_no_cycle n s is within none open' =
       let first = found_if (breaks_dispatch b n) s.at DISPATCH_COUNT s.name in
-      let second = found_if (lacks_otherwise (ways_from n (map (leg_of states) ts))) s.at NO_OTHERWISE s.name in
+      let second = found_if (lacks_otherwise (guard_cases_from n (map (departure_of states) ts))) s.at NO_OTHERWISE s.name in
       let third = found_if (unwrap_or (slice_get (cycles_of b) n) false) s.at CYCLE_WITHOUT_COMPLETE s.name in
       let p = append_is_nil first (cond s.complete [] (second ++ third)) none in
       let rest =
@@ -192,23 +192,23 @@ module _ (b : BehaviourParts) (scope : Scope) (states : List StateAt) (ts : List
   state_of n within =
       slice_get-some states n (subst (λ k. n < k) (ap length is_states ∙ length-map states declared) within)
 
-  pub all_have_ways : flat_map (state_rules b (map (leg_of states) ts) (cycles_of b)) (enumerate_from 0 states) ≡ []
+  pub all_have_ways : flat_map (state_rules b (map (departure_of states) ts) (cycles_of b)) (enumerate_from 0 states) ≡ []
       → list_all (has_ways b) (upwards 0 (length b.states)) ≡ true
   all_have_ways none = list_all_upwards (has_ways b) 0 (length b.states) (λ n low high.
       let s = state_of n (omega (arith, high)) in
-      let rules' = none_at (state_rules b (map (leg_of states) ts) (cycles_of b)) 0 states none n s.0 s.1 in
+      let rules' = none_at (state_rules b (map (departure_of states) ts) (cycles_of b)) 0 states none n s.0 s.1 in
       let z : 0 + n ≡ n = omega arith in
       state_has_ways n s.0 s.1
-      (sym (ap (λ k. state_rules b (map (leg_of states) ts) (cycles_of b) (k, s.0)) z) ∙ rules'))
+      (sym (ap (λ k. state_rules b (map (departure_of states) ts) (cycles_of b) (k, s.0)) z) ∙ rules'))
 
-  pub no_cycles : flat_map (state_rules b (map (leg_of states) ts) (cycles_of b)) (enumerate_from 0 states) ≡ []
+  pub no_cycles : flat_map (state_rules b (map (departure_of states) ts) (cycles_of b)) (enumerate_from 0 states) ≡ []
       → IsAcyclic b
   unfolding IsAcyclic
   no_cycles none s n way =
       let within = incomplete_within b s way.0 in
       let x = state_of s within in
-      let rules' = none_at (state_rules b (map (leg_of states) ts) (cycles_of b)) 0 states none s x.0 x.1 in
+      let rules' = none_at (state_rules b (map (departure_of states) ts) (cycles_of b)) 0 states none s x.0 x.1 in
       let z : 0 + s ≡ s = omega arith in
       false≢true (sym (state_no_cycle s x.0 x.1 within
-      (sym (ap (λ k. state_rules b (map (leg_of states) ts) (cycles_of b) (k, x.0)) z) ∙ rules') way.0)
+      (sym (ap (λ k. state_rules b (map (departure_of states) ts) (cycles_of b) (k, x.0)) z) ∙ rules') way.0)
       ∙ way_reaches n b s s way)

@@ -3,8 +3,8 @@ use Rattle.std.proofs.Common.{◌≡◌, inl, inr, ℕ, zero, suc, ◌+◌, Bool
 use Rattle.std.proofs.Common.{Some, None, refl, sym, ap, subst, ◌∙◌, arith}
 use Rattle.std.proofs.lemmas.Option.{same_Some}
 use Rattle.aadl_tree.specs.Declarations.{PackageTree}
-use Rattle.aadl_names.specs.declared.port_place.PortPlace.{PortPlace}
-use Rattle.aadl_names.specs.declared.port_place.PortPlace.TheVariants.{Own, Inner}
+use Rattle.aadl_names.specs.declared.port_place.NumberedPort.{NumberedPort}
+use Rattle.aadl_names.specs.declared.port_place.NumberedPort.TheVariants.{Own, Inner}
 use Rattle.aadl_names.specs.ReferenceResolution.{implementation_at, ports_at}
 use Rattle.aadl_uses.specs.proof.PackageContainment.{containment}
 use Rattle.aadl_uses.specs.ThreadsBelow.{Lists}
@@ -12,9 +12,9 @@ use Rattle.aadl_uses.specs.proof.IncomingConnections.{connection_into}
 use Rattle.aadl_uses.specs.proof.ContainmentOrders.{IsOrder}
 use Rattle.aadl_chains.specs.proof.PortsJoinedInside.{is_thread_at, is_in_at}
 use Rattle.aadl_chains.specs.Chains.{Port, Leads}
-use Rattle.aadl_chains.specs.proof.DeclaredEnds.{AreDeclared}
+use Rattle.aadl_chains.specs.proof.DeclaredEnds.{ArePermitted}
 use Rattle.aadl_chains.proofs.ConnectionsOnChains.{is_in-at, next_at}
-use Rattle.aadl_chains.specs.LinksFeedsAndTaps.{Ends, IsTap, PortBefore}
+use Rattle.aadl_chains.specs.LinksFeedsAndTaps.{CarriedChain, IsTap, PortBefore}
 use Rattle.aadl_chains.specs.proof.Walks.{OneEach}
 use Rattle.aadl_chains.specs.proof.TracedChains.{IsGiver}
 use Rattle.aadl_chains.proofs.FirstIncomingConnections.{entered, inner_of}
@@ -27,16 +27,16 @@ use Rattle.aadl_instance.proofs.ChainsSoFar.{taps_none, taps_more, taps_skip, ta
 use Rattle.aadl_instance.proofs.AddedChains.{in_tap}
 use Rattle.design_laws.proofs.OutPortSources.{Gives, gives}
 
-abbrev pair : ℕ → ℕ → ℕ → ℕ × PortPlace
+abbrev pair : ℕ → ℕ → ℕ → ℕ × NumberedPort
 pair k s p = (k, Inner s p)
 
 same_into : (a b s p t q : ℕ) → Some (pair a s p) ≡ Some (pair b t q) → (a ≡ b) × (s ≡ t) × (p ≡ q)
 same_into a b s p t q e =
     let both : pair a s p ≡ pair b t q = same_Some (pair a s p) (pair b t q) e in
-    let site : Inner s p ≡ Inner t q = ap (λ (x : ℕ × PortPlace). x.1) both in
-    (ap (λ (x : ℕ × PortPlace). x.0) both, cc site, cc site)
+    let site : Inner s p ≡ Inner t q = ap (λ (x : ℕ × NumberedPort). x.1) both in
+    (ap (λ (x : ℕ × NumberedPort). x.0) both, cc site, cc site)
 
-module _ (tree : PackageTree ℕ) (root : ℕ) (sound : AreDeclared tree) (one : OneEach tree root)
+module _ (tree : PackageTree ℕ) (root : ℕ) (sound : ArePermitted tree) (one : OneEach tree root)
     (no_thread : is_thread_at tree root ≡ false)
     (keys : List ℕ) (order : IsOrder (containment tree) keys) (paths : List (List ℕ)) where
   record Tapped (port : ℕ) : Type 0 where
@@ -45,10 +45,10 @@ module _ (tree : PackageTree ℕ) (root : ℕ) (sound : AreDeclared tree) (one :
 
   module _ (port : ℕ) (out : is_in_at tree root port ≡ false) (k t q : ℕ)
       (is : connection_into tree root (Own port) ≡ Some (k, Inner t q)) where
-    abbrev found : Port → Ends
+    abbrev found : Port → CarriedChain
     found from = record { from = from; to = record { path = []; port = port }; declaration = root; connection = k }
 
-    there : (ends : Ends) (s p : ℕ) → connection_into tree root (Own port) ≡ Some (ends.connection, Inner s p) → (cs : List _)
+    there : (ends : CarriedChain) (s p : ℕ) → connection_into tree root (Own port) ≡ Some (ends.connection, Inner s p) → (cs : List _)
         → Leads tree root cs ends.from (record { path = s ∷ []; port = p })
         → Leads tree root cs ends.from (record { path = t ∷ []; port = q })
     there ends s p e cs leads =
@@ -67,7 +67,7 @@ module _ (tree : PackageTree ℕ) (root : ℕ) (sound : AreDeclared tree) (one :
           refl only x.are;
     }
       where
-        only : (y : Ends) → IsTap tree root y → y.to ≡ record { path = []; port = port }
+        only : (y : CarriedChain) → IsTap tree root y → y.to ≡ record { path = []; port = port }
             → y ≡ record { from = from; to = record { path = []; port = port }; declaration = root; connection = k }
         only y tap e =
             let m = tap_met tree root sound one no_thread y tap in
@@ -91,14 +91,14 @@ module _ (tree : PackageTree ℕ) (root : ℕ) (sound : AreDeclared tree) (one :
               taps_skip tree root paths port x.taps (no_tap_over tree root sound one no_thread port k t q is none) x.are;
         }
 
-  by_inner : (port : ℕ) → is_in_at tree root port ≡ false → Tapped port → (k : ℕ) (source : PortPlace)
+  by_inner : (port : ℕ) → is_in_at tree root port ≡ false → Tapped port → (k : ℕ) (source : NumberedPort)
       → connection_into tree root (Own port) ≡ Some (k, source) → Tapped (port + 1)
   by_inner port out x k source e =
       let i = inner_of tree sound root port k source out e in
-      by_giver port out k i.0 i.1 (e ∙ ap (λ (s : PortPlace). Some (k, s)) i.3) x
+      by_giver port out k i.0 i.1 (e ∙ ap (λ (s : NumberedPort). Some (k, s)) i.3) x
       (gives tree root sound one keys order (i.0 ∷ []) i.2 i.1 (next_at tree root [] root i.0 i.2 refl i.4) i.5)
 
-  by_into : (port : ℕ) → is_in_at tree root port ≡ false → Tapped port → (o : Option (ℕ × PortPlace))
+  by_into : (port : ℕ) → is_in_at tree root port ≡ false → Tapped port → (o : Option (ℕ × NumberedPort))
       → connection_into tree root (Own port) ≡ o → Tapped (port + 1)
   by_into port out x None e =
       record {
@@ -124,7 +124,7 @@ module _ (tree : PackageTree ℕ) (root : ℕ) (sound : AreDeclared tree) (one :
       let e : port + 1 ≡ suc port = omega arith in
       subst Tapped e (by_way port (all_ports port) (is_in_at tree root port) refl)
 
-  pub taps : (ends : List Ends) × Lists (IsTap tree root) PortBefore ends
+  pub taps : (ends : List CarriedChain) × Lists (IsTap tree root) PortBefore ends
   taps =
       let x = all_ports (length (ports_at tree (implementation_at tree root))) in
       let s =

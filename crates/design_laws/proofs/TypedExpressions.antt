@@ -10,7 +10,7 @@ use Rattle.pals_base.specs.declared.behaviour.Kind.TheVariants.{Integer, Boolean
 use Rattle.pals_base.specs.declared.behaviour.BehaviourParts.{BehaviourParts}
 use Rattle.pals_base.specs.declared.expression_kinds.Kinds.{Kinds}
 use Rattle.pals_base.specs.PlainTrees as plain
-use Rattle.pals_base.specs.TypingRules.{only, allows, port_kinds, declared_or, kinds_of, kinds_along, joined}
+use Rattle.pals_base.specs.TypingRules.{only, allows, port_kinds, declared_or, kinds_of, kinds_along, operator_kinds}
 use Rattle.pals_base.specs.TypingRules.{numbers_at, truths_at}
 use Rattle.aadl_tree.specs.declared.expressions.Sign.{Sign}
 use Rattle.aadl_tree.specs.declared.expressions.Sign.TheVariants as signs
@@ -42,17 +42,17 @@ use Rattle.design_laws.specs.proof.FittingAnnexNames.{FitsMeaning, FitsScope}
 use Rattle.design_laws.proofs.EmptyFindingLists.{is_right}
 
 -- an expression may have the type that it was found to have
-abbrev pub Has : BehaviourParts → ℕ → Option Kind → plain.Expression → Type 0
-Has b loops kind e = (k : Kind) × (kind ≡ Some k) × (allows (kinds_of e b loops) k ≡ true)
+abbrev pub HasKind : BehaviourParts → ℕ → Option Kind → plain.Expression → Type 0
+HasKind b loops kind e = (k : Kind) × (kind ≡ Some k) × (allows (kinds_of e b loops) k ≡ true)
 
-pub is_integer : (b : BehaviourParts) (loops at : ℕ) (kind : Option Kind) (e : plain.Expression) → Has b loops kind e
+pub is_integer : (b : BehaviourParts) (loops at : ℕ) (kind : Option Kind) (e : plain.Expression) → HasKind b loops kind e
     → misfit at (Some Integer) kind ≡ [] → (kinds_of e b loops).integer ≡ true
 is_integer b loops at kind e (Integer, is, h) m = h
 is_integer b loops at kind e (Boolean, is, h) m =
     absurd (false≢true (is_right (fits (Some Boolean) (Some Integer)) at BAD_TYPE []
     (subst (λ k. misfit at (Some Integer) k ≡ []) is m)))
 
-pub is_truth : (b : BehaviourParts) (loops at : ℕ) (kind : Option Kind) (e : plain.Expression) → Has b loops kind e
+pub is_truth : (b : BehaviourParts) (loops at : ℕ) (kind : Option Kind) (e : plain.Expression) → HasKind b loops kind e
     → misfit at (Some Boolean) kind ≡ [] → (kinds_of e b loops).boolean ≡ true
 is_truth b loops at kind e (Boolean, is, h) m = h
 is_truth b loops at kind e (Integer, is, h) m =
@@ -60,18 +60,18 @@ is_truth b loops at kind e (Integer, is, h) m =
     (subst (λ k. misfit at (Some Boolean) k ≡ []) is m)))
 
 multiplied : (o : MultiplyOperator) (l r : Kinds) → l.integer ≡ true → r.integer ≡ true
-    → (joined (multiply_op o) l r).integer ≡ true
+    → (operator_kinds (multiply_op o) l r).integer ≡ true
 multiplied multiply.Times l r e f = and_from l.integer r.integer e f
 multiplied multiply.Divide l r e f = and_from l.integer r.integer e f
 multiplied multiply.Mod l r e f = and_from l.integer r.integer e f
 multiplied multiply.Rem l r e f = and_from l.integer r.integer e f
 
-summed : (s : Sign) (l r : Kinds) → l.integer ≡ true → r.integer ≡ true → (joined (sign_op s) l r).integer ≡ true
+summed : (s : Sign) (l r : Kinds) → l.integer ≡ true → r.integer ≡ true → (operator_kinds (sign_op s) l r).integer ≡ true
 summed signs.Plus l r e f = and_from l.integer r.integer e f
 summed signs.Minus l r e f = and_from l.integer r.integer e f
 
 connected : (o : LogicOperator) (l r : Kinds) → l.boolean ≡ true → r.boolean ≡ true
-    → (joined (logic_op o) l r).boolean ≡ true
+    → (operator_kinds (logic_op o) l r).boolean ≡ true
 connected logic.And l r e f = and_from l.boolean r.boolean e f
 connected logic.Or l r e f = and_from l.boolean r.boolean e f
 connected logic.Xor l r e f = and_from l.boolean r.boolean e f
@@ -84,8 +84,8 @@ signed_integer b loops signs.Plus e h = h
 signed_integer b loops signs.Minus e h = h
 
 -- sides of one type can be compared
-compared_equal : (b : BehaviourParts) (loops at : ℕ) (k m : Option Kind) (x y : plain.Expression) → Has b loops k x
-    → Has b loops m y → misfit at k m ≡ []
+compared_equal : (b : BehaviourParts) (loops at : ℕ) (k m : Option Kind) (x y : plain.Expression) → HasKind b loops k x
+    → HasKind b loops m y → misfit at k m ≡ []
     → (numbers_at (kinds_of x b loops) (kinds_of y b loops)
     || truths_at (kinds_of x b loops) (kinds_of y b loops)) ≡ true
 compared_equal b loops at k m x y (Integer, is, h) (Integer, os, g) f =
@@ -99,8 +99,8 @@ compared_equal b loops at k m x y (Boolean, is, h) (Integer, os, g) f =
     absurd (false≢true (is_right (fits (Some Integer) (Some Boolean)) at BAD_TYPE []
     (subst (λ w. misfit at w (Some Integer) ≡ []) is (subst (λ w. misfit at k w ≡ []) os f))))
 
-ordered_sides : (b : BehaviourParts) (loops at to : ℕ) (k m : Option Kind) (x y : plain.Expression) → Has b loops k x
-    → Has b loops m y
+ordered_sides : (b : BehaviourParts) (loops at to : ℕ) (k m : Option Kind) (x y : plain.Expression) → HasKind b loops k x
+    → HasKind b loops m y
     → misfit at (Some Integer) k ++ misfit to (Some Integer) m ≡ []
     → numbers_at (kinds_of x b loops) (kinds_of y b loops) ≡ true
 ordered_sides b loops at to k m x y h g e =
@@ -109,9 +109,9 @@ ordered_sides b loops at to k m x y h g e =
     (is_integer b loops to m y g p.1)
 
 sided : (b : BehaviourParts) (loops at to : ℕ) (o : RelationOperator) (k m : Option Kind) (x y : plain.Expression)
-    → Has b loops k x → Has b loops m y
+    → HasKind b loops k x → HasKind b loops m y
     → cond (is_equality o) (misfit to k m) (misfit at (Some Integer) k ++ misfit to (Some Integer) m) ≡ []
-    → (joined (relation_op o) (kinds_of x b loops) (kinds_of y b loops)).boolean ≡ true
+    → (operator_kinds (relation_op o) (kinds_of x b loops) (kinds_of y b loops)).boolean ≡ true
 sided b loops at to compare.Equal k m x y h g e = compared_equal b loops to k m x y h g e
 sided b loops at to compare.NotEqual k m x y h g e = compared_equal b loops to k m x y h g e
 sided b loops at to compare.Less k m x y h g e = ordered_sides b loops at to k m x y h g e
@@ -125,7 +125,7 @@ only_allows Integer = refl
 only_allows Boolean = refl
 
 value_sound : (b : BehaviourParts) (loops : ℕ) (m : Meaning) (kind : Option Kind) → FitsMeaning b loops m kind
-    → is_some (value_of m) ≡ true → Has b loops kind (or_zero (value_of m))
+    → is_some (value_of m) ≡ true → HasKind b loops kind (or_zero (value_of m))
 value_sound b loops (InPort n) kind (p, is, k) h =
     (p.kind, k, subst (λ o. allows (port_kinds o) p.kind ≡ true) (sym is) (only_allows p.kind))
 value_sound b loops (OutPort n) kind fit h = absurd (false≢true h)
@@ -151,13 +151,13 @@ fresh_sound b loops (LoopVariable n) kind fit h = absurd (false≢true h)
 
 read_sound : (b : BehaviourParts) (loops : ℕ) (fresh : Bool) (o : Option DeclaredName)
     → ((e : DeclaredName) → o ≡ Some e → FitsMeaning b loops e.meaning e.kind) → is_some (read_of fresh o) ≡ true
-    → Has b loops (read_kind fresh o) (or_zero (read_of fresh o))
+    → HasKind b loops (read_kind fresh o) (or_zero (read_of fresh o))
 read_sound b loops fresh None fit h = absurd (false≢true h)
 read_sound b loops true (Some e) fit h = (Boolean, refl, fresh_sound b loops e.meaning e.kind (fit e refl) h)
 read_sound b loops false (Some e) fit h = value_sound b loops e.meaning e.kind (fit e refl) h
 
 module _ (b : BehaviourParts) (loops : ℕ) (scope : Scope) (fit : FitsScope b loops scope) where
-  truth_has : (v : Bool) → Has b loops (Some Boolean) (plain.Literal (truth_of v))
+  truth_has : (v : Bool) → HasKind b loops (Some Boolean) (plain.Literal (truth_of v))
   truth_has true = (Boolean, refl, refl)
   truth_has false = (Boolean, refl, refl)
 
@@ -165,7 +165,7 @@ module _ (b : BehaviourParts) (loops : ℕ) (scope : Scope) (fit : FitsScope b l
     unfolding primary_types primary_kind primary_of
 
     pub primary_sound : (x : Primary ℕ) → primary_types scope x ≡ []
-        → Has b loops (primary_kind scope x) (primary_of scope x)
+        → HasKind b loops (primary_kind scope x) (primary_of scope x)
     primary_sound (number at n) e = (Integer, refl, refl)
     primary_sound (truth at v) e = truth_has v
     primary_sound (named x fresh) e =
@@ -174,7 +174,7 @@ module _ (b : BehaviourParts) (loops : ℕ) (scope : Scope) (fit : FitsScope b l
     primary_sound (group at x) e = expression_sound x e
 
     pub factor_sound : (x : Factor ℕ) → factor_types scope x ≡ []
-        → Has b loops (factor_kind scope x) (factor_of scope x)
+        → HasKind b loops (factor_kind scope x) (factor_of scope x)
     factor_sound (absolute at x) e =
         let p =
         append_is_nil (primary_types scope x) (misfit (primary_at x) (Some Integer) (primary_kind scope x)) e in (
@@ -193,7 +193,7 @@ module _ (b : BehaviourParts) (loops : ℕ) (scope : Scope) (fit : FitsScope b l
         )
     factor_sound (bare x) e = primary_sound x e
 
-    pub term_sound : (x : Term ℕ) → term_types scope x ≡ [] → Has b loops (term_kind scope x) (term_of scope x)
+    pub term_sound : (x : Term ℕ) → term_types scope x ≡ [] → HasKind b loops (term_kind scope x) (term_of scope x)
     term_sound (term first no_factors) e = factor_sound first e
     term_sound (term first (factor o x rest)) e =
         let p =
@@ -219,10 +219,10 @@ module _ (b : BehaviourParts) (loops : ℕ) (scope : Scope) (fit : FitsScope b l
         let q = append_is_nil (factor_types scope x) (misfit (factor_at x) (Some Integer) (factor_kind scope x)) p.0 in
         let here =
         is_integer b loops (factor_at x) (factor_kind scope x) (factor_of scope x) (factor_sound x q.0) q.1 in
-        factors_sound rest p.1 (joined (multiply_op o) left (kinds_of (factor_of scope x) b loops))
+        factors_sound rest p.1 (operator_kinds (multiply_op o) left (kinds_of (factor_of scope x) b loops))
         (multiplied o left (kinds_of (factor_of scope x) b loops) h here)
 
-    pub sum_sound : (x : Sum ℕ) → sum_types scope x ≡ [] → Has b loops (total_kind scope x) (sum_of scope x)
+    pub sum_sound : (x : Sum ℕ) → sum_types scope x ≡ [] → HasKind b loops (total_kind scope x) (sum_of scope x)
     sum_sound (total None first no_terms) e = let p = append_is_nil (term_types scope first ++ []) [] e in
         let q = append_is_nil (term_types scope first) [] p.0 in term_sound first q.0
     sum_sound (total None first (add o x rest)) e =
@@ -272,11 +272,11 @@ module _ (b : BehaviourParts) (loops : ℕ) (scope : Scope) (fit : FitsScope b l
         (terms_types scope rest) e in
         let q = append_is_nil (term_types scope x) (misfit (term_at x) (Some Integer) (term_kind scope x)) p.0 in
         let here = is_integer b loops (term_at x) (term_kind scope x) (term_of scope x) (term_sound x q.0) q.1 in
-        terms_sound rest p.1 (joined (sign_op o) left (kinds_of (term_of scope x) b loops))
+        terms_sound rest p.1 (operator_kinds (sign_op o) left (kinds_of (term_of scope x) b loops))
         (summed o left (kinds_of (term_of scope x) b loops) h here)
 
     pub relation_sound : (x : Relation ℕ) → relation_types scope x ≡ []
-        → Has b loops (relation_kind scope x) (relation_of scope x)
+        → HasKind b loops (relation_kind scope x) (relation_of scope x)
     relation_sound (single x) e = sum_sound x e
     relation_sound (compared x o y) e =
         let p =
@@ -292,7 +292,7 @@ module _ (b : BehaviourParts) (loops : ℕ) (scope : Scope) (fit : FitsScope b l
         )
 
     pub expression_sound : (x : Expression ℕ) → expression_types scope x ≡ []
-        → Has b loops (expression_kind scope x) (expression_of scope x)
+        → HasKind b loops (expression_kind scope x) (expression_of scope x)
     expression_sound (expression first no_relations) e = relation_sound first e
     expression_sound (expression first (join o x rest)) e =
         let p =
@@ -320,5 +320,5 @@ module _ (b : BehaviourParts) (loops : ℕ) (scope : Scope) (fit : FitsScope b l
         append_is_nil (relation_types scope x) (misfit (relation_at x) (Some Boolean) (relation_kind scope x)) p.0 in
         let here =
         is_truth b loops (relation_at x) (relation_kind scope x) (relation_of scope x) (relation_sound x q.0) q.1 in
-        relations_sound rest p.1 (joined (logic_op o) left (kinds_of (relation_of scope x) b loops))
+        relations_sound rest p.1 (operator_kinds (logic_op o) left (kinds_of (relation_of scope x) b loops))
         (connected o left (kinds_of (relation_of scope x) b loops) h here)

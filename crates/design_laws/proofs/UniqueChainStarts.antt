@@ -6,43 +6,43 @@ use Rattle.std.proofs.lemmas.Bool.{cases_order}
 use Rattle.std.proofs.lemmas.Option.{slice_get-map}
 use Rattle.aadl_tree.specs.Declarations.{Connection, Implementation, PackageTree}
 use Rattle.aadl_names.specs.declared.fault.PackageFault.TheVariants.{TwoSources}
-use Rattle.aadl_names.specs.declared.port_place.PortPlace.{PortPlace}
+use Rattle.aadl_names.specs.declared.port_place.NumberedPort.{NumberedPort}
 use Rattle.aadl_names.specs.ReferenceResolution.{implementation_at, connections_of}
 use Rattle.aadl_uses.specs.Uses.{IsInUse}
-use Rattle.aadl_uses.specs.declared.connections_by_target.Wire.{Wire}
-use Rattle.aadl_uses.specs.Wiring.{wire_of, wires_of, wires_at}
+use Rattle.aadl_uses.specs.declared.connections_by_target.ConnectionPorts.{ConnectionPorts}
+use Rattle.aadl_uses.specs.Wiring.{ports_of_connection, wires_of, connection_ports_at}
 use Rattle.aadl_uses.specs.SecondConnections.{target_in}
-use Rattle.aadl_chains.specs.Chains.{Port, Place, Leads, IsStart}
+use Rattle.aadl_chains.specs.Chains.{Port, ConnectionAt, Leads, IsStart}
 use Rattle.aadl_chains.specs.ChainFaults.{IsSecondEnd}
 use Rattle.aadl_chains.proofs.PermittedConnections.{declared}
-use Rattle.aadl_chains.specs.proof.SoundConnections.{IsSound}
+use Rattle.aadl_chains.specs.proof.SoundConnections.{AreFaultless}
 use Rattle.aadl_chains.proofs.ChainsFromEnds.{one_into, none_into_start}
 use Rattle.aadl_chains.proofs.SoundConnections.{sound_by}
-use Rattle.aadl_instance.specs.FlattenedDesign.{Parts, IsFlat}
+use Rattle.aadl_instance.specs.FlattenedDesign.{InstanceParts, IsFlat}
 use Rattle.design_laws.proofs.SoundInstanceParts.{not_found, names_clean}
 
 -- a connection that goes into a port is there
-linked : (tree : PackageTree ℕ) (x : Implementation ℕ) (c : Option (Connection ℕ)) (s : PortPlace)
-    → option_and_then (λ (w : Wire). w.target) (option_map (wire_of tree x) c) ≡ Some s
+linked : (tree : PackageTree ℕ) (x : Implementation ℕ) (c : Option (Connection ℕ)) (s : NumberedPort)
+    → option_and_then (λ (w : ConnectionPorts). w.target) (option_map (ports_of_connection tree x) c) ≡ Some s
     → (k : Connection ℕ) × (c ≡ Some k)
 linked tree x None s is = absurd (cc is)
 linked tree x (Some k) s is = (k, refl)
 
-linked_by : (tree : PackageTree ℕ) (o : Option (Implementation ℕ)) (j : ℕ) (s : PortPlace)
+linked_by : (tree : PackageTree ℕ) (o : Option (Implementation ℕ)) (j : ℕ) (s : NumberedPort)
     → target_in (wires_of tree o) j ≡ Some s
     → (k : Connection ℕ) × (slice_get (connections_of o) j ≡ Some k)
 linked_by tree None j s is = absurd (cc is)
 linked_by tree (Some x) j s is =
-    linked tree x (slice_get x.connections j) s (sym (ap (option_and_then (λ (w : Wire). w.target))
-    (slice_get-map (wire_of tree x) x.connections j)) ∙ is)
+    linked tree x (slice_get x.connections j) s (sym (ap (option_and_then (λ (w : ConnectionPorts). w.target))
+    (slice_get-map (ports_of_connection tree x) x.connections j)) ∙ is)
 
-module _ {tree : PackageTree ℕ} {name : List ℕ} {parts : Parts} (flat : IsFlat tree name parts) where
+module _ {tree : PackageTree ℕ} {name : List ℕ} {parts : InstanceParts} (flat : IsFlat tree name parts) where
   no_second : (x : Connection ℕ) → IsSecondEnd tree parts.root x → ⊥
   no_second x second =
       not_found flat 4 (TwoSources x.name.spelling x.name.at) (inr (inr (inl (refl, inr (x, second, refl)))))
 
-  no_later : (n i j : ℕ) (s : PortPlace) → IsInUse tree parts.root n → target_in (wires_at tree n) i ≡ Some s
-      → target_in (wires_at tree n) j ≡ Some s → i < j → ⊥
+  no_later : (n i j : ℕ) (s : NumberedPort) → IsInUse tree parts.root n → target_in (connection_ports_at tree n) i ≡ Some s
+      → target_in (connection_ports_at tree n) j ≡ Some s → i < j → ⊥
   no_later n i j s in_use first second lt =
       let link = linked_by tree (implementation_at tree n) j s second in
       no_second link.0 (record {
@@ -53,19 +53,19 @@ module _ {tree : PackageTree ℕ} {name : List ℕ} {parts : Parts} (flat : IsFl
         is_second = record { first = i; target = s; in_order = lt; earlier = first; here = second };
       })
 
-  one_by : (n i j : ℕ) (s : PortPlace) → (i ≡ j) ⊎ ((i < j) ⊎ (j < i)) → IsInUse tree parts.root n
-      → target_in (wires_at tree n) i ≡ Some s
-      → target_in (wires_at tree n) j ≡ Some s → i ≡ j
+  one_by : (n i j : ℕ) (s : NumberedPort) → (i ≡ j) ⊎ ((i < j) ⊎ (j < i)) → IsInUse tree parts.root n
+      → target_in (connection_ports_at tree n) i ≡ Some s
+      → target_in (connection_ports_at tree n) j ≡ Some s → i ≡ j
   one_by n i j s (inl e) in_use first second = e
   one_by n i j s (inr (inl lt)) in_use first second = absurd (no_later n i j s in_use first second lt)
   one_by n i j s (inr (inr lt)) in_use first second = absurd (no_later n j i s in_use second first lt)
 
-  is_sound : IsSound tree parts.root
+  is_sound : AreFaultless tree parts.root
   is_sound = sound_by tree parts.root (declared tree parts.root (names_clean flat))
       (λ n i j s in_use first second. one_by n i j s (cases_order i j) in_use first second)
 
   -- chains that end at one port begin at one port
-  pub one_start : (cs bs : List Place) (first second to : Port) → IsStart tree parts.root first
+  pub one_start : (cs bs : List ConnectionAt) (first second to : Port) → IsStart tree parts.root first
       → IsStart tree parts.root second
       → Leads tree parts.root cs first to → Leads tree parts.root bs second to → first ≡ second
   one_start [] [] first second to a b l m = l ∙ sym m

@@ -8,10 +8,10 @@ use Rattle.pals_model.specs.declared.design.DesignParts.{DesignParts}
 use Rattle.aadl_tree.specs.Declarations.{PackageTree}
 use Rattle.aadl_uses.specs.ThreadsBelow.{Lists, IsThreadAt, PathBefore}
 use Rattle.aadl_chains.specs.LinksFeedsAndTaps.{IsLink, IsFeed, IsTap, TargetBefore, PortBefore}
-use Rattle.aadl_instance.specs.FlattenedDesign.{Parts, IsFlat}
+use Rattle.aadl_instance.specs.FlattenedDesign.{InstanceParts, IsFlat}
 use Rattle.annex_resolve.specs.declared.violation.Violation.{Violation}
 use Rattle.model_violations.specs.UsedDeclarations.{IsUse}
-use Rattle.model_violations.specs.Violations.{Shown, shown_by, findings, goes_before, AreViolations}
+use Rattle.model_violations.specs.Violations.{ShownInstance, shown_by, findings, goes_before, AreViolations}
 use Rattle.model_violations.proofs.FindingOrder.{goes_before_orders}
 use Rattle.design_laws.specs.InstanceDesigns.{IsDesignOf}
 use Rattle.design_laws.specs.PackageDesigns.{IsDesignIn}
@@ -20,7 +20,7 @@ use Rattle.design_laws.proofs.AsymmetricOrders.{paths_one_way, targets_one_way, 
 use Rattle.design_laws.proofs.UniqueSorts.{one_order}
 
 -- ---- the instance
-pub one_instance : (tree : PackageTree ℕ) (name : List ℕ) (a b : Parts) → IsFlat tree name a
+pub one_instance : (tree : PackageTree ℕ) (name : List ℕ) (a b : InstanceParts) → IsFlat tree name a
     → IsFlat tree name b → a ≡ b
 one_instance tree name a b x y =
     let root = same_Some a.root b.root (sym x.root ∙ y.root) in
@@ -46,7 +46,7 @@ one_use tree root f g a b =
     let same : (n : ℕ) → f n ≡ g n = λ n. both_ways (f n) (g n) (λ h. (b n).1 ((a n).0 h)) (λ h. (a n).1 ((b n).0 h)) in
     λ i n. same n i
 
-pub one_list : (tree : PackageTree ℕ) (s : Shown) (a b : List Violation) → AreViolations tree s a
+pub one_list : (tree : PackageTree ℕ) (s : ShownInstance) (a b : List Violation) → AreViolations tree s a
     → AreViolations tree s b → a ≡ b
 one_list tree s a b x y =
     let used = one_use tree s.root x.used y.used x.is_use y.is_use in
@@ -54,19 +54,19 @@ one_list tree s a b x y =
     (λ z. x.same z ∙ (ap (λ (f : ℕ → Bool). filter (ties goes_before z) (findings tree s f)) used ∙ sym (y.same z)))
 
 -- a package whose instance has nothing wrong with it
-pub no_list : (tree : PackageTree ℕ) (name : List ℕ) (design : DesignParts) (parts : Parts) (list : List Violation)
+pub no_list : (tree : PackageTree ℕ) (name : List ℕ) (design : DesignParts) (parts : InstanceParts) (list : List Violation)
     → IsDesignIn tree name design → IsFlat tree name parts → AreViolations tree (shown_by tree parts) list → list ≡ []
 no_list tree name design parts list d flat all =
     let same = one_instance tree name d.parts parts d.flat flat in
     one_list tree (shown_by tree parts) list [] all
-    (subst (λ (p : Parts). AreViolations tree (shown_by tree p) []) same d.nothing_wrong)
+    (subst (λ (p : InstanceParts). AreViolations tree (shown_by tree p) []) same d.nothing_wrong)
 
 -- ---- the design
-pub one_design : ((tree : PackageTree ℕ) (s : Shown) (a b : DesignParts) → IsDesignOf tree s a
+pub one_design : ((tree : PackageTree ℕ) (s : ShownInstance) (a b : DesignParts) → IsDesignOf tree s a
     → IsDesignOf tree s b → a ≡ b)
     → (tree : PackageTree ℕ) (name : List ℕ) (a b : DesignParts) → IsDesignIn tree name a
     → IsDesignIn tree name b → a ≡ b
 one_design law tree name a b x y =
     let same = one_instance tree name x.parts y.parts x.flat y.flat in
     law tree (shown_by tree y.parts) a b
-    (subst (λ (p : Parts). IsDesignOf tree (shown_by tree p) a) same x.design_of) y.design_of
+    (subst (λ (p : InstanceParts). IsDesignOf tree (shown_by tree p) a) same x.design_of) y.design_of

@@ -21,7 +21,7 @@ use Rattle.model_violations.specs.ConnectionsAndCarriers.{connection_of, adaptor
 use Rattle.model_violations.specs.ChainTargets.{component_of}
 use Rattle.model_violations.specs.ThreadBehaviours.{behaviour_in}
 use Rattle.model_violations.specs.IgnoredProperties.{ignored_names}
-use Rattle.model_violations.specs.Violations.{Shown}
+use Rattle.model_violations.specs.Violations.{ShownInstance}
 
 -- all of a list, where none of it is missing
 abbrev pub put_first : {X : Type 0} → Option X → Option (List X) → Option (List X)
@@ -82,7 +82,7 @@ abbrev pub tap_in : Chain → Option Tap
 tap_in x = tap_by x.from x.to
 
 -- ---- the whole: all its parts are there
-pub record IsDesignOf (tree : PackageTree ℕ) (s : Shown) (design : DesignParts) : Type 0 where
+pub record IsDesignOf (tree : PackageTree ℕ) (s : ShownInstance) (design : DesignParts) : Type 0 where
   pub period : root_period tree s.root ≡ Some design.period
   pub gamma : root_gamma tree s.root ≡ Some design.gamma
   pub components : all_of (map (component_in tree s.root) s.threads) ≡ Some design.components

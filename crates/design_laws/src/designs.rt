@@ -4,7 +4,7 @@ ghost use Rattle.aadl_tree.specs.Declarations.{PackageTree};
 ghost use Rattle.pals_model.specs.declared.design.DesignParts.{DesignParts};
 ghost use Rattle.pals_model.specs.DesignRules.{IsDesign};
 ghost use Rattle.design_laws.specs.proof.PackageNames.{AreNamed};
-ghost use Rattle.model_violations.specs.Violations.{Shown};
+ghost use Rattle.model_violations.specs.Violations.{ShownInstance};
 ghost use Rattle.design_laws.specs.proof.AcceptedInstances.{IsShown, NothingFound, HasDesign};
 ghost use Rattle.design_laws.specs.InstanceDesigns.{IsDesignOf};
 
@@ -13,20 +13,20 @@ use crate::thread_behaviours::no_findings_make_a_thread_behave;
 /// An instance of a package whose names are words and differ, in which nothing is found, has a design,
 /// which keeps the rules of designs.
 pub fn accepted_instances_have_designs()
-    ensures { (tree : PackageTree ℕ) (s : Shown) → AreNamed tree → IsShown tree s → NothingFound tree s → HasDesign tree s }
+    ensures { (tree : PackageTree ℕ) (s : ShownInstance) → AreNamed tree → IsShown tree s → NothingFound tree s → HasDesign tree s }
 {
     no_findings_make_a_thread_behave();
 }
 
 /// An instance has one design at most.
 pub fn designs_are_one()
-    ensures { (tree : PackageTree ℕ) (s : Shown) (a b : DesignParts) → IsDesignOf tree s a → IsDesignOf tree s b → a ≡ b }
+    ensures { (tree : PackageTree ℕ) (s : ShownInstance) (a b : DesignParts) → IsDesignOf tree s a → IsDesignOf tree s b → a ≡ b }
 {}
 
 /// It is not so that an instance of a package whose names are words and differ, in which nothing is
 /// found, has no design.
 pub fn designs_are_there()
-    ensures { (tree : PackageTree ℕ) (s : Shown) → AreNamed tree → ∥ IsShown tree s ∥₁ → NothingFound tree s
+    ensures { (tree : PackageTree ℕ) (s : ShownInstance) → AreNamed tree → ∥ IsShown tree s ∥₁ → NothingFound tree s
         → ((design : DesignParts) → IsDesignOf tree s design → ⊥) → ⊥ }
 {
     no_findings_make_a_thread_behave();
@@ -35,7 +35,7 @@ pub fn designs_are_there()
 /// The design of an instance of a package whose names are words and differ, in which nothing is
 /// found, keeps the rules of designs.
 pub fn designs_keep_their_rules()
-    ensures { (tree : PackageTree ℕ) (s : Shown) → AreNamed tree → ∥ IsShown tree s ∥₁ → NothingFound tree s
+    ensures { (tree : PackageTree ℕ) (s : ShownInstance) → AreNamed tree → ∥ IsShown tree s ∥₁ → NothingFound tree s
         → (design : DesignParts) → IsDesignOf tree s design → IsDesign design }
 {
     no_findings_make_a_thread_behave();

@@ -4,7 +4,7 @@ ghost use Rattle.aadl_tree.specs.Declarations.{PackageTree};
 ghost use Rattle.aadl_names.specs.declared.fault.PackageFault.{PackageFault};
 ghost use Rattle.aadl_names.specs.declared.fault.PackageFault.TheVariants.{Memory};
 ghost use Rattle.aadl_instance.specs.Faults.{IsFault};
-ghost use Rattle.aadl_instance.specs.FlattenedDesign.{Parts, IsFlat};
+ghost use Rattle.aadl_instance.specs.FlattenedDesign.{InstanceParts, IsFlat};
 ghost use Rattle.design_laws.specs.proof.PackageOutcomes.{HasFirstFault, HasInstance, HasList};
 
 /// Below the root of a name a package has an instance, or a first fault.
@@ -19,5 +19,5 @@ pub fn first_faults_are_named()
 
 /// Of each instance there is a list of all that is wrong with it.
 pub fn each_instance_has_its_list()
-    ensures { (tree : PackageTree ℕ) (root : List ℕ) (parts : Parts) → IsFlat tree root parts → HasList tree parts }
+    ensures { (tree : PackageTree ℕ) (root : List ℕ) (parts : InstanceParts) → IsFlat tree root parts → HasList tree parts }
 {}

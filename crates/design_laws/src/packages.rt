@@ -10,9 +10,9 @@ ghost use Rattle.aadl_tree.specs.proof.GivenTrees.{IsGiven};
 ghost use Rattle.aadl_tree.specs.proof.PackageViews.{placed};
 ghost use Rattle.aadl_names.specs.declared.fault.PackageFault.{PackageFault};
 ghost use Rattle.aadl_instance.specs.Faults.{IsFault};
-ghost use Rattle.aadl_instance.specs.FlattenedDesign.{Parts, IsFlat};
+ghost use Rattle.aadl_instance.specs.FlattenedDesign.{InstanceParts, IsFlat};
 ghost use Rattle.annex_resolve.specs.declared.violation.Violation.{Violation};
-ghost use Rattle.model_violations.specs.Violations.{Shown, shown_by, AreViolations};
+ghost use Rattle.model_violations.specs.Violations.{ShownInstance, shown_by, AreViolations};
 ghost use Rattle.design_laws.specs.PackageDesigns.{IsDesignIn};
 
 use crate::designs::{accepted_instances_have_designs, designs_are_one};
@@ -20,12 +20,12 @@ use crate::names::{names_differ, texts_name};
 
 /// A package has one instance at most.
 pub fn one_instance()
-    ensures { (tree : PackageTree ℕ) (root : List ℕ) (a b : Parts) → IsFlat tree root a → IsFlat tree root b → a ≡ b }
+    ensures { (tree : PackageTree ℕ) (root : List ℕ) (a b : InstanceParts) → IsFlat tree root a → IsFlat tree root b → a ≡ b }
 {}
 
 /// An instance has one list at most of all that is wrong with it.
 pub fn one_list()
-    ensures { (tree : PackageTree ℕ) (s : Shown) (a b : List Violation) → AreViolations tree s a → AreViolations tree s b → a ≡ b }
+    ensures { (tree : PackageTree ℕ) (s : ShownInstance) (a b : List Violation) → AreViolations tree s a → AreViolations tree s b → a ≡ b }
 {}
 
 /// A package has one design at most.
@@ -39,7 +39,7 @@ pub fn one_design()
 pub fn accepted_or_refused()
     ensures no_fault { (tree : PackageTree ℕ) (root : List ℕ) (design : DesignParts) (fault : PackageFault)
         → IsDesignIn tree root design → IsFault tree root fault → ⊥ }
-    ensures nothing_wrong { (tree : PackageTree ℕ) (root : List ℕ) (design : DesignParts) (parts : Parts) (list : List Violation)
+    ensures nothing_wrong { (tree : PackageTree ℕ) (root : List ℕ) (design : DesignParts) (parts : InstanceParts) (list : List Violation)
         → IsDesignIn tree root design → IsFlat tree root parts → AreViolations tree (shown_by tree parts) list → list ≡ [] }
 {}
 
@@ -48,7 +48,7 @@ pub fn accepted_or_refused()
 /// period is at least the least one that the bound allows for the greatest rate of its components.
 pub fn designs_keep_their_rules()
     ensures rules { (tree : source.PackageTree) (root : List ℕ) (design : DesignParts) → IsDesignIn (placed tree) root design → IsDesign design }
-    ensures there { (tree : source.PackageTree) (root : List ℕ) (parts : Parts) → IsFlat (placed tree) root parts
+    ensures there { (tree : source.PackageTree) (root : List ℕ) (parts : InstanceParts) → IsFlat (placed tree) root parts
         → AreViolations (placed tree) (shown_by (placed tree) parts) [] → (design : DesignParts) × IsDesignIn (placed tree) root design }
     ensures bound { (tree : PackageTree ℕ) (root : List ℕ) (design : DesignParts) → IsDesignIn tree root design
         → least_period design.gamma (greatest_rate design.components) ≤ design.period }
@@ -62,7 +62,7 @@ pub fn designs_keep_their_rules()
 /// tree has a design where it has an instance whose list of all that is wrong is empty.
 pub fn designs_of_texts_keep_their_rules()
     ensures rules { (tree : PackageTree ℕ) (root : List ℕ) (design : DesignParts) → IsGiven tree → IsDesignIn tree root design → IsDesign design }
-    ensures there { (tree : PackageTree ℕ) (root : List ℕ) (parts : Parts) → IsGiven tree → IsFlat tree root parts
+    ensures there { (tree : PackageTree ℕ) (root : List ℕ) (parts : InstanceParts) → IsGiven tree → IsFlat tree root parts
         → AreViolations tree (shown_by tree parts) [] → (design : DesignParts) × IsDesignIn tree root design }
 {
     names_differ();

@@ -14,7 +14,7 @@ use Rattle.pals_model.specs.declared.design.Link.{Link}
 use Rattle.pals_model.specs.declared.design.DesignParts.{DesignParts}
 use Rattle.pals_model.specs.declared.flight_copy.FlightCopy.{FlightCopy}
 use Rattle.pals_model.specs.declared.environment.Env.{Env}
-use Rattle.pals_model.specs.ComponentInputs.{values_at, feed, inputs_in}
+use Rattle.pals_model.specs.ComponentInputs.{values_at, input_vectors, inputs_in}
 use Rattle.pals_model.specs.Composition.{comp, state, msg, part}
 use Rattle.pals_model.specs.DesignRules.{IsDesign}
 use Rattle.pals_model.specs.proof.FittingValues.{PortFits, TupleFits, PortsFit, FrameFits, link_kind, EnvFits}
@@ -27,7 +27,7 @@ use Rattle.pals_model.proofs.KindsOfRounds.{states_fit, messages_fit, parts_fit}
 use Rattle.pals_runs.specs.declared.phase.Phase.{Phase}
 use Rattle.pals_runs.specs.declared.phase.Phase.TheVariants.{Waiting, Running, Between, Holding, Done}
 use Rattle.bus_machine.specs.Plans.{plan_of}
-use Rattle.bus_machine.specs.Nodes.{NodeState, Work, job_of, job_in}
+use Rattle.bus_machine.specs.Nodes.{NodeState, StepWork, job_of, job_in}
 use Rattle.bus_machine.specs.States.{BusState, node_at, flight_at}
 use Rattle.bus_machine.specs.Runs.{Run}
 use Rattle.bus_machine.specs.NodeEvents.{slot_at}
@@ -50,8 +50,8 @@ waiting_fit design env (suc round) rules given number link is = messages_fit des
 
 feed_fit : (design : DesignParts) (env : Env) (node round : ℕ) (c : Component) → IsDesign design → EnvFits design env
     → slice_get design.components node ≡ Some c
-    → All (PortsFit c.behaviour.ins) (feed design env (comp design env round).messages node round)
-unfolding feed
+    → All (PortsFit c.behaviour.ins) (input_vectors design env (comp design env round).messages node round)
+unfolding input_vectors
 feed_fit design env node round c rules given is_c =
     let messages = (comp design env round).messages in
     subst (All (PortsFit c.behaviour.ins)) (sym (ap (inputs_in design (values_at env round) messages node) is_c))
@@ -72,7 +72,7 @@ module _ (run : Run) (s : BusState) (rules : IsDesign run.design) (given : EnvFi
     under_way steps way =
         let round = way.round in
         let before = state run.design run.env node round in
-        let vectors = feed run.design run.env (comp run.design run.env round).messages node round in
+        let vectors = input_vectors run.design run.env (comp run.design run.env round).messages node round in
         subst (FrameFits c.behaviour) (sym (ap (λ (x : Stepped). x.frame) way.reached))
         (frames_fit c.behaviour before (take steps vectors) (is_behaviour run.design node c rules is_c)
         (state_has_shape run.design run.env node round c rules is_c)
@@ -86,13 +86,13 @@ module _ (run : Run) (s : BusState) (rules : IsDesign run.design) (given : EnvFi
     frame_by Holding agrees' = under_way c.rate agrees'.under_way
     frame_by Done agrees' = at_rest agrees'.0
 
-    job_by : (phase : Phase) (job : Work) → PhaseAgrees run node c n phase
+    job_by : (phase : Phase) (job : StepWork) → PhaseAgrees run node c n phase
         → job_in (plan_of run.design node) n phase ≡ Some job → PortsFit c.behaviour.ins job.inputs
     job_by Waiting job agrees' out = absurd (cc)
     job_by (Running step) job agrees' out =
         let round = agrees'.under_way.round in
-        let vectors = feed run.design run.env (comp run.design run.env round).messages node round in
-        subst (λ (w : Work). PortsFit c.behaviour.ins w.inputs)
+        let vectors = input_vectors run.design run.env (comp run.design run.env round).messages node round in
+        subst (λ (w : StepWork). PortsFit c.behaviour.ins w.inputs)
         (same_Some (job_of (plan_of run.design node) n step) job out)
         (subst (λ (xs : List (List PortValue)). PortsFit c.behaviour.ins (slice_index_or xs step []))
         (sym agrees'.under_way.vectors)

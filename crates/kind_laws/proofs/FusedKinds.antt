@@ -24,7 +24,7 @@ use Rattle.pals_model.specs.declared.environment.Env.{Env}
 use Rattle.pals_model.specs.declared.port_sources.PortSource.{PortSource}
 use Rattle.pals_model.specs.declared.port_sources.PortSource.TheVariants as source
 use Rattle.pals_model.specs.ComponentInputs.{link_goes_to, feed_goes_to, from_feed, from_link, source_of, sources_of}
-use Rattle.pals_model.specs.ComponentInputs.{values_at, reading}
+use Rattle.pals_model.specs.ComponentInputs.{values_at, brought_tuple}
 use Rattle.pals_model.specs.PortKinds.{rate_of, rate_in, out_kind}
 use Rattle.pals_model.specs.Composition.{taps_of}
 use Rattle.pals_model.specs.DesignRules.{IsDesign}
@@ -36,7 +36,7 @@ use Rattle.pals_model.proofs.KindsOfSteps.{frames_fit, initial_fits}
 use Rattle.pals_model.proofs.KindsOfAdaptors.{absent_fits}
 use Rattle.pals_model.proofs.KindsOfRounds.{cut_fits}
 use Rattle.pals_runs.specs.declared.plant_pairs.Pair.{Pair}
-use Rattle.plant_fuse.specs.FusedComposition.{ArePairs, is_back, is_forth, Inputs, inputs_to, outputs_in, left_by}
+use Rattle.plant_fuse.specs.FusedComposition.{ArePairs, is_to_plant, is_to_controller, Inputs, inputs_to, outputs_in, left_by}
 use Rattle.plant_fuse.specs.FusedComposition.{left_before, round_tuple, message_on, messages_before, from_round}
 use Rattle.plant_fuse.specs.FusedComposition.{value_on, value_read, vector_of, frame_before, IsFused}
 use Rattle.plant_fuse.specs.FusedReport.{fused_part}
@@ -97,9 +97,9 @@ module _ (design : DesignParts) (pairs : List Pair) (env : Env) (ins : Inputs) (
         let tuple = round_tuple design ins link.source.0 link.out_port round in
         let sent = sent_steps design.gamma design.period (rate_of design link.source.0) in
         let fits = tuple_fits link.source.0 link.out_port round past in
-        either_fits (TupleFits kind) (is_back pairs link) tuple
-        (if is_forth pairs link then tuple else cut sent tuple) fits
-        (either_fits (TupleFits kind) (is_forth pairs link) tuple (cut sent tuple) fits (cut_fits kind sent tuple fits))
+        either_fits (TupleFits kind) (is_to_plant pairs link) tuple
+        (if is_to_controller pairs link then tuple else cut sent tuple) fits
+        (either_fits (TupleFits kind) (is_to_controller pairs link) tuple (cut sent tuple) fits (cut_fits kind sent tuple fits))
 
     messages_fit : (round : ℕ) → round * 128 ≤ m → MessagesFit design (messages_before design pairs ins round)
     messages_fit zero past number link is =
@@ -131,7 +131,7 @@ module _ (design : DesignParts) (pairs : List Pair) (env : Env) (ins : Inputs) (
         round_fits link feed is_link is_feed =
             let messages = messages_before design pairs ins (step / c.rate) in
             let tuple =
-            reading design (values_at env (step / c.rate)) messages c.rate
+            brought_tuple design (values_at env (step / c.rate)) messages c.rate
             (from_link link (from_feed design feed)) in
             index_fits (PortFits port.kind) tuple (step % c.rate) Absent
             (reading_fits design rules node p c port is_c is_port env (step / c.rate) messages given
@@ -141,7 +141,7 @@ module _ (design : DesignParts) (pairs : List Pair) (env : Env) (ins : Inputs) (
         on_fits : (number : ℕ) (link : Link) (back forth : Bool) → link.target.0 ≡ node
             → link_kind design link ≡ port.kind
             → PortFits port.kind (from_round design pairs env ins c.rate step (source.Link number))
-            → is_back pairs link ≡ back → is_forth pairs link ≡ forth
+            → is_to_plant pairs link ≡ back → is_to_controller pairs link ≡ forth
             → PortFits port.kind
             (if back then left_before design ins link.source.0 link.out_port step
             else if forth then left_by design ins link.source.0 link.out_port step
@@ -171,7 +171,7 @@ module _ (design : DesignParts) (pairs : List Pair) (env : Env) (ins : Inputs) (
             ap (λ o. from_link o (from_feed design (position (feed_goes_to node p) design.feeds))) is_link in
             let target = read_from_target design node p number read.link here read.link_is in
             subst (λ o. PortFits port.kind (value_on design pairs env ins c.rate step number o)) (sym read.link_is)
-            (on_fits number read.link (is_back pairs read.link) (is_forth pairs read.link) target read.kind
+            (on_fits number read.link (is_to_plant pairs read.link) (is_to_controller pairs read.link) target read.kind
             (round_fits (Some number) feed is_link is_feed) refl refl)
         value_fits None (Some number) is_link is_feed = round_fits None (Some number) is_link is_feed
         value_fits None None is_link is_feed = round_fits None None is_link is_feed

@@ -21,7 +21,7 @@ use Rattle.pals_model.specs.declared.design.DesignParts.{DesignParts}
 use Rattle.pals_model.specs.declared.environment.Env.{Env}
 use Rattle.pals_model.specs.declared.port_sources.PortSource.{PortSource}
 use Rattle.pals_model.specs.ComponentInputs.{root_of, values_at, link_goes_to, feed_goes_to, from_feed, from_link}
-use Rattle.pals_model.specs.ComponentInputs.{source_of, sources_of, read_feed, read_link, reading, inputs_of}
+use Rattle.pals_model.specs.ComponentInputs.{source_of, sources_of, read_feed, read_link, brought_tuple, inputs_of}
 use Rattle.pals_model.specs.PortKinds.{rate_of, kind_of, in_kind, root_kind}
 use Rattle.pals_model.specs.DesignRules.{IsDesign, IsLink, IsFeed}
 use Rattle.pals_model.specs.proof.FittingValues.{PortFits, TupleFits, PortsFit, link_kind, EnvFits}
@@ -91,7 +91,7 @@ module _ (design : DesignParts) (rules : IsDesign design) (node p : ℕ) (c : Co
     -- what it reads, where these are the link and the feed into it
     pub reading_fits : (link feed : Option ℕ) → position (link_goes_to node p) design.links ≡ link
         → position (feed_goes_to node p) design.feeds ≡ feed
-        → TupleFits port.kind (reading design (values_at env round) messages c.rate
+        → TupleFits port.kind (brought_tuple design (values_at env round) messages c.rate
         (from_link link (from_feed design feed)))
     reading_fits (Some number) feed is_link is_feed =
         let read = link_read number is_link in
@@ -109,7 +109,7 @@ pub vectors_fit : (design : DesignParts) (env : Env) (round : ℕ) (messages : L
     → IsDesign design → EnvFits design env → MessagesFit design messages → slice_get design.components node ≡ Some c
     → All (PortsFit c.behaviour.ins) (inputs_of design (values_at env round) messages node c)
 vectors_fit design env round messages node c rules given sent is_c =
-    let read : PortSource → List PortValue = reading design (values_at env round) messages c.rate in
+    let read : PortSource → List PortValue = brought_tuple design (values_at env round) messages c.rate in
     let source : ℕ → PortSource = λ p. source_of design node p in
     let count = length c.behaviour.ins in
     let lists = map read (sources_of design node c) in

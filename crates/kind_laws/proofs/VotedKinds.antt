@@ -35,10 +35,10 @@ use Rattle.pals_model.proofs.KindsOfAdaptors.{absent_fits}
 use Rattle.pals_model.proofs.KindsOfRounds.{cut_fits}
 use Rattle.pals_runs.specs.declared.vote_faults.VoteFault.{VoteFault}
 use Rattle.triple_vote.specs.Votes.{same_port, vote, votes}
-use Rattle.triple_vote.specs.Replicas.{is_replicated, copies_of, receivers_in, Voted, frame_at, heard_by, first_frame}
+use Rattle.triple_vote.specs.Replicas.{is_replicated, copies_of, receivers_in, VotedConfiguration, frame_at, heard_by, first_frame}
 use Rattle.triple_vote.specs.Replicas.{first_tuple, voted_opening, steps_in, replica_steps, tuple_at, is_fault}
-use Rattle.triple_vote.specs.Replicas.{fault_or, own_message, sent_to, vote_of, receives_on, vnext, voted_composition}
-use Rattle.triple_vote.specs.Replicas.{vshown_by, vshown}
+use Rattle.triple_vote.specs.Replicas.{fault_or, own_message, sent_to, vote_of, receives_on, next_voted, voted_composition}
+use Rattle.triple_vote.specs.Replicas.{voted_tap_by, voted_tap}
 use Rattle.triple_vote.proofs.ListTablesAndSearches.{found}
 use Rattle.triple_vote.proofs.ReplicaRounds.{has_first, has_three}
 use Rattle.kind_laws.specs.proof.VotedKinds.{FaultFits, FaultsFit, VotesFit, ShownFit}
@@ -66,7 +66,7 @@ votes_fit kind (x ∷ xs) (y ∷ ys) (z ∷ zs) first second =
 abbrev Stands : BehaviourParts → Frame → Type 0
 Stands b frame = HasShape b frame × FrameFits b frame
 
-record Keeps (design : DesignParts) (replicated : List Bool) (v : Voted) : Type 0 where
+record Keeps (design : DesignParts) (replicated : List Bool) (v : VotedConfiguration) : Type 0 where
   count : (node : ℕ) → node < length design.components
       → length (slice_index_or v.frames node []) ≡ copies_of replicated node
   frames : (node : ℕ) (c : Component) → slice_get design.components node ≡ Some c
@@ -133,7 +133,7 @@ module _ (design : DesignParts) (env : Env) (replicated : List Bool) (rules : Is
   }
 
   -- ---- one round
-  module _ (v : Voted) (round : ℕ) (keeps : Keeps design replicated v) where
+  module _ (v : VotedConfiguration) (round : ℕ) (keeps : Keeps design replicated v) where
     abbrev values : List PortValue
     values = values_at env round
 
@@ -205,7 +205,7 @@ module _ (design : DesignParts) (env : Env) (replicated : List Bool) (rules : Is
 
     shown_fits : (tap : Tap)
         → TupleFits (out_kind (slice_get design.components tap.source.0) tap.out_port)
-        (vshown_by design replicated values v tap)
+        (voted_tap_by design replicated values v tap)
     shown_fits tap = shown_by tap.source.0 tap.out_port (is_replicated replicated tap.source.0) refl
 
     -- ---- messages, with the faults of the round
@@ -252,7 +252,7 @@ module _ (design : DesignParts) (env : Env) (replicated : List Bool) (rules : Is
           (receives_on design replicated values faults v number target o)) (sym is)
           (received_by number target link (is_replicated replicated link.source.0) is refl)
 
-      next_keeps : Keeps design replicated (vnext design replicated values faults v)
+      next_keeps : Keeps design replicated (next_voted design replicated values faults v)
       next_keeps = record {
         count =
             λ node within. count_at design replicated (λ n r. (replica_steps design values v n r).frame) node within;
@@ -293,7 +293,7 @@ voted_fit design env replicated faults rounds rules given fit =
     }
 
 pub shown_fit : ShownFit
-unfolding vshown
+unfolding voted_tap
 shown_fit design env replicated faults tap round rules given fit =
     shown_fits design env replicated rules given (voted_composition design env replicated faults round) round
     (rounds_keep design env replicated rules given faults fit round) tap

@@ -123,9 +123,9 @@ copy_at xs n s within at =
     ∙ ap Some (get_or-map (λ (a : RingEntry). a.copy) xs n s ∙ ap (λ a. a.copy) (at s))
 
 -- ---- what a take gives
-pub standing_there : (xs : List RingEntry) (n : ℕ) → n < length xs → is_some (slice_get xs n) ≡ true
-standing_there [] n within = absurd (omega arith)
-standing_there (x ∷ xs) n within = ap is_some (slice_get-get_or (x ∷ xs) n x within)
+pub entry_there : (xs : List RingEntry) (n : ℕ) → n < length xs → is_some (slice_get xs n) ≡ true
+entry_there [] n within = absurd (omega arith)
+entry_there (x ∷ xs) n within = ap is_some (slice_get-get_or (x ∷ xs) n x within)
 
 twice : (o : Option RingEntry)
     → option_map (λ (a : FlightCopy). a.tuple) (option_map (λ (s : RingEntry). s.copy) o)
@@ -145,16 +145,16 @@ oldest_within xs round n at =
     omega (arith, place_within (is_of round) (copies_of xs) n at, length-map xs (λ (s : RingEntry). s.copy))
 
 -- ---- those that are due
-pub due_standings : (reading : ℕ) (xs : List RingEntry)
+pub due_ring_entries : (reading : ℕ) (xs : List RingEntry)
     → due_rounds reading (copies_of xs)
     ≡ map (λ (s : RingEntry). s.copy.round) (filter (λ (s : RingEntry). is_due reading s.copy) xs)
-due_standings reading [] = refl
-due_standings reading (x ∷ xs) =
+due_ring_entries reading [] = refl
+due_ring_entries reading (x ∷ xs) =
     let before = filter (is_due reading) (copies_of xs) in
     let after = filter (λ (s : RingEntry). is_due reading s.copy) xs in
     elim (is_due reading x.copy) as
     (λ b. map (λ (a : FlightCopy). a.round) (cond b (x.copy ∷ before) before)
     ≡ map (λ (s : RingEntry). s.copy.round) (cond b (x ∷ after) after)) [
-      | true ↦ ap (λ rounds. x.copy.round ∷ rounds) (due_standings reading xs)
-      | false ↦ due_standings reading xs
+      | true ↦ ap (λ rounds. x.copy.round ∷ rounds) (due_ring_entries reading xs)
+      | false ↦ due_ring_entries reading xs
     ]

@@ -7,12 +7,12 @@ use Rattle.pals_runs.specs.declared.events_and_faults.Event.{Event}
 use Rattle.pals_runs.specs.declared.events_and_faults.Event.TheVariants as event
 use Rattle.pals_runs.specs.declared.events_and_faults.EventFault.{EventFault}
 use Rattle.pals_runs.specs.declared.events_and_faults.EventFault.TheVariants as fault
-use Rattle.pals_bus.specs.LooseEvents.{node_of, message_of}
+use Rattle.pals_bus.specs.LooseEvents.{event_node, event_message}
 use Rattle.loose_world.specs.LooseRuns.{IsFaultOf}
 
 -- no event is of a node and of a message
-node_or_message : (e : Event) (node : NodeNo) (message : LinkNo × ℕ) → node_of e ≡ Some node
-    → message_of e ≡ Some message → ⊥
+node_or_message : (e : Event) (node : NodeNo) (message : LinkNo × ℕ) → event_node e ≡ Some node
+    → event_message e ≡ Some message → ⊥
 node_or_message (event.Pass time readings) node message one two = none-some node one
 node_or_message (event.Start j) node message one two = none-some message two
 node_or_message (event.Step j) node message one two = none-some message two

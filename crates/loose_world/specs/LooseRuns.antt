@@ -8,7 +8,7 @@ use Rattle.pals_runs.specs.declared.events_and_faults.EventFault.{EventFault}
 use Rattle.pals_runs.specs.declared.journal.Stop.{Stop}
 use Rattle.bus_machine.specs.Machine.{BusEvent}
 use Rattle.pals_bus.specs.BusValues.{BusValue}
-use Rattle.pals_bus.specs.LooseEvents.{loose_event, IsNamedIn, node_of, message_of, HappensLoose, GoesOn, IsRefused}
+use Rattle.pals_bus.specs.LooseEvents.{loose_event, IsNamedIn, event_node, event_message, HappensLoose, GoesOn, IsRefused}
 use Rattle.loose_world.specs.SentLines.{sent_lines}
 use Rattle.loose_world.specs.declared.loose_run.LooseEnd.{LooseEnd}
 use Rattle.pals_runs.specs.declared.events_and_faults.Event.TheVariants as event
@@ -56,8 +56,8 @@ pub record StopsAt (s : BusValue) (events : List Event) (why : Stop) (t : BusVal
 
 -- the fault of an event that is not allowed
 abbrev pub IsFaultOf : Event → EventFault → Type 0
-IsFaultOf e (fault.WrongPhase node) = node_of e ≡ Some node
-IsFaultOf e (fault.NoSuchMessage link round) = message_of e ≡ Some (link, round)
+IsFaultOf e (fault.WrongPhase node) = event_node e ≡ Some node
+IsFaultOf e (fault.NoSuchMessage link round) = event_message e ≡ Some (link, round)
 IsFaultOf e fault.BadName = ⊥
 IsFaultOf e fault.LossOrRepeat = ⊥
 IsFaultOf e (fault.TimeBack time) = ⊥

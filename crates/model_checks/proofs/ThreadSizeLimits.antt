@@ -8,12 +8,12 @@ use Rattle.std.proofs.Math.Logic.{∥∥₁_elim}
 use Rattle.std.proofs.lemmas.List.Elements.{All-map, All-same, All-weaker}
 use Rattle.aadl_tree.specs.Declarations.{Implementation, PackageTree}
 use Rattle.aadl_names.specs.ReferenceResolution.{implementation_at, is_thread}
-use Rattle.aadl_uses.specs.Uses.{below, standing, component_at}
+use Rattle.aadl_uses.specs.Uses.{below, number_at_path, component_at}
 use Rattle.aadl_uses.specs.ThreadsBelow.{IsThreadAt}
 use Rattle.aadl_uses.specs.declared.thread_locations.ThreadAt.{ThreadAt}
 use Rattle.aadl_uses.specs.ThreadLocations.{thread_at}
 use Rattle.aadl_instance.specs.declared.chain.Chain.{Chain}
-use Rattle.aadl_instance.specs.FlattenedDesign.{Parts, IsFlat}
+use Rattle.aadl_instance.specs.FlattenedDesign.{InstanceParts, IsFlat}
 use Rattle.aadl_instance.specs.Instances.{IsInstance}
 use Rattle.model_violations.proofs.ThreadsWithinLimits.{is_small}
 use Rattle.design_laws.proofs.InstanceBehaviours.{component_is}
@@ -24,9 +24,9 @@ is_found : (o : Option (Implementation ℕ)) (x y : Implementation ℕ) → o �
     → is_thread y.category ≡ true → is_thread x.category ≡ true
 is_found o x y here there thread = let same : y ≡ x = cc in subst (λ z. is_thread z.category ≡ true) same thread
 
-within_by : {tree : PackageTree ℕ} {name : List ℕ} {parts : Parts} → IsFlat tree name parts → (s : ℕ) (path : List ℕ)
+within_by : {tree : PackageTree ℕ} {name : List ℕ} {parts : InstanceParts} → IsFlat tree name parts → (s : ℕ) (path : List ℕ)
     → IsThreadAt tree parts.root (s ∷ path)
-    → (o : Option ℕ) → standing tree parts.root path ≡ o → IsWithinLimits tree (thread_at tree parts.root (s ∷ path))
+    → (o : Option ℕ) → number_at_path tree parts.root path ≡ o → IsWithinLimits tree (thread_at tree parts.root (s ∷ path))
 within_by {tree} {name} {parts} flat s path at None stands =
     let none : component_at tree parts.root (s ∷ path) ≡ None =
     ap (λ o. option_and_then (implementation_at tree) (option_and_then (λ m. below tree m s) o)) stands in
@@ -36,10 +36,10 @@ within_by {tree} {name} {parts} flat s path at (Some n) stands = λ x is.
     sym (component_is tree parts.root s path n stands) ∙ is in
     is_small flat (s ∷ path) x (here, is_found (component_at tree parts.root (s ∷ path)) x at.0 here at.1.0 at.1.1)
 
-within : {tree : PackageTree ℕ} {name : List ℕ} {parts : Parts} → IsFlat tree name parts → (path : List ℕ)
+within : {tree : PackageTree ℕ} {name : List ℕ} {parts : InstanceParts} → IsFlat tree name parts → (path : List ℕ)
     → IsThreadAt tree parts.root path → IsWithinLimits tree (thread_at tree parts.root path)
 within flat [] at = λ x is. absurd (cc is)
-within {tree} {name} {parts} flat (s ∷ path) at = within_by flat s path at (standing tree parts.root path) refl
+within {tree} {name} {parts} flat (s ∷ path) at = within_by flat s path at (number_at_path tree parts.root path) refl
 
 all_within : {tree : PackageTree ℕ} {root : ℕ} {threads : List ThreadAt} {links feeds taps : List Chain}
     → IsInstance tree root threads links feeds taps → All (IsWithinLimits tree) threads

@@ -8,7 +8,7 @@ use Rattle.component_checks.specs.ThreadRatesAndFindings.{greatest_rate, thread_
 use Rattle.model_violations.specs.ConnectionsAndCarriers.{carries}
 use Rattle.model_violations.specs.UsedDeclarations.{has, type_used}
 use Rattle.model_violations.specs.DeclarationFindings.{declarations_findings}
-use Rattle.model_violations.specs.Violations.{Shown, rates_of, carriers_of, chain_findings, used_findings, findings}
+use Rattle.model_violations.specs.Violations.{ShownInstance, rates_of, carriers_of, chain_findings, used_findings, findings}
 
 -- ---- tests that agree everywhere are one test
 same_test : {A : Type 0} (p q : A → Bool) → ((x : A) → p x ≡ q x) → p ≡ q
@@ -17,7 +17,7 @@ same_test p q same = λ i x. same x i
 same_pairs : {A B : Type 0} (p q : A → B → Bool) → ((x : A) (y : B) → p x y ≡ q x y) → p ≡ q
 same_pairs p q same = λ i x y. same x y i
 
-pub used_found : (tree : PackageTree ℕ) (s : Shown) (numbers types : List ℕ) (carriers : List (ℕ × ℕ))
+pub used_found : (tree : PackageTree ℕ) (s : ShownInstance) (numbers types : List ℕ) (carriers : List (ℕ × ℕ))
     (old new : List Violation)
     → ((n : ℕ) → has types n ≡ type_used tree (has numbers) n)
     → ((n i : ℕ) → carries carriers n i ≡ carries (carriers_of s) n i)
@@ -29,7 +29,7 @@ used_found tree s numbers types carriers old new types_are carriers_are added =
     ∙ ap (λ t. old ++ declarations_findings tree s.root (has numbers) (type_used tree (has numbers)) t)
     (same_pairs (carries carriers) (carries (carriers_of s)) carriers_are)
 
-pub all_found : (tree : PackageTree ℕ) (s : Shown) (rates : List (Option ℕ)) (greatest : ℕ) (used : ℕ → Bool)
+pub all_found : (tree : PackageTree ℕ) (s : ShownInstance) (rates : List (Option ℕ)) (greatest : ℕ) (used : ℕ → Bool)
     (a b c d e : List Violation) → rates ≡ rates_of tree s → greatest ≡ greatest_rate rates → a ≡ []
     → b ≡ a ++ root_findings tree s.root greatest → c ≡ b ++ flat_map (thread_findings tree s.root) s.threads
     → d ≡ c ++ chain_findings tree s rates → e ≡ d ++ used_findings tree s used

@@ -5,12 +5,12 @@ use Rattle.std.specs.Option.{option_and_then}
 use Rattle.std.proofs.lemmas.Option.{same_Some, slice_get-map}
 use Rattle.list_lemmas.proofs.Options.{option_and_then_assoc}
 use Rattle.aadl_tree.specs.Declarations.{Subcomponent, Connection, Implementation, PackageTree}
-use Rattle.aadl_names.specs.declared.port_place.PortPlace.TheVariants.{Own, Inner}
+use Rattle.aadl_names.specs.declared.port_place.NumberedPort.TheVariants.{Own, Inner}
 use Rattle.aadl_names.specs.ReferenceResolution.{features_of, implementation_at, subcomponents_of, referred, target_of}
 use Rattle.aadl_names.specs.ReferenceResolution.{type_number, type_numbered}
-use Rattle.aadl_uses.specs.declared.connections_by_target.Wire.{Wire}
+use Rattle.aadl_uses.specs.declared.connections_by_target.ConnectionPorts.{ConnectionPorts}
 use Rattle.aadl_uses.specs.Uses.{below}
-use Rattle.aadl_uses.specs.Wiring.{wire_of, wires_of, wires_at}
+use Rattle.aadl_uses.specs.Wiring.{ports_of_connection, wires_of, connection_ports_at}
 use Rattle.aadl_uses.specs.proof.ImplementationTypes.{type_number_at}
 use Rattle.model_violations.specs.ConnectionFindings.{kind_numbered, site_kind}
 use Rattle.model_violations.specs.proof.NumberedConnections.{IsConnection}
@@ -40,11 +40,11 @@ module _ (tree : PackageTree ℕ) (n : ℕ) (x : Implementation ℕ) (is : imple
 
 -- ---- a connection of a declaration joins what its ends name
 pub wire_is : (tree : PackageTree ℕ) (n i : ℕ) (x : Implementation ℕ) (c : Connection ℕ) → IsConnection tree n i x c
-    → slice_get (wires_at tree n) i ≡ Some (wire_of tree x c)
+    → slice_get (connection_ports_at tree n) i ≡ Some (ports_of_connection tree x c)
 wire_is tree n i x c is =
-    ap (λ o. slice_get (wires_of tree o) i) is.declared ∙ slice_get-map (wire_of tree x) x.connections i
-    ∙ ap (option_map (wire_of tree x)) is.listed
+    ap (λ o. slice_get (wires_of tree o) i) is.declared ∙ slice_get-map (ports_of_connection tree x) x.connections i
+    ∙ ap (option_map (ports_of_connection tree x)) is.listed
 
-pub joined : (tree : PackageTree ℕ) (n i : ℕ) (x : Implementation ℕ) (c : Connection ℕ) (w : Wire)
-    → IsConnection tree n i x c → slice_get (wires_at tree n) i ≡ Some w → w ≡ wire_of tree x c
-joined tree n i x c w is found = same_Some w (wire_of tree x c) (sym found ∙ wire_is tree n i x c is)
+pub joined : (tree : PackageTree ℕ) (n i : ℕ) (x : Implementation ℕ) (c : Connection ℕ) (w : ConnectionPorts)
+    → IsConnection tree n i x c → slice_get (connection_ports_at tree n) i ≡ Some w → w ≡ ports_of_connection tree x c
+joined tree n i x c w is found = same_Some w (ports_of_connection tree x c) (sym found ∙ wire_is tree n i x c is)

@@ -1,4 +1,4 @@
--- For `setting_of`: the lists of an implementation's ports and variables, as they were read, are those that its
+-- For `values_and_scope_of`: the lists of an implementation's ports and variables, as they were read, are those that its
 -- behaviour is made of.
 use Rattle.std.proofs.Common.{◌≡◌, ◌∙◌, ℕ, List, ap, ◌+◌, not, length, filter, refl, arith}
 use Rattle.aadl_tree.specs.Annexes.{AnnexTree}

@@ -18,11 +18,11 @@ use Rattle.aadl_names.specs.BehaviourAnnexes as names
 use Rattle.aadl_names.specs.ReferenceResolution.{is_root, is_thread, first_number, implementation_at, ports_of}
 use Rattle.aadl_names.specs.BehaviourAnnexes.{first_behaviour}
 use Rattle.aadl_instance.specs.BehaviourSizes.{count_in, variable_count}
-use Rattle.aadl_uses.specs.Uses.{standing, component_at, IsInUse}
+use Rattle.aadl_uses.specs.Uses.{number_at_path, component_at, IsInUse}
 use Rattle.aadl_uses.specs.ThreadsBelow.{IsThreadOf}
 use Rattle.aadl_uses.specs.declared.thread_locations.ThreadAt.{ThreadAt}
 use Rattle.aadl_instance.specs.declared.chain.Chain.{Chain}
-use Rattle.aadl_instance.specs.FlattenedDesign.{Parts, IsFlat}
+use Rattle.aadl_instance.specs.FlattenedDesign.{InstanceParts, IsFlat}
 use Rattle.aadl_instance.specs.Instances.{IsInstance}
 use Rattle.annex_resolve.specs.ExpressionTypesAndFindings.{kind_named}
 use Rattle.model_violations.specs.PortsAndVariables.{first_of, variable_of, variables_in, variables_of}
@@ -46,7 +46,7 @@ root_within flat = ∥∥₁_elim flat (hlevel props) (λ i. root_in i)
 
 -- ---- nothing is above a limit
 
-pub few_ports : {tree : PackageTree ℕ} {name : List ℕ} {parts : Parts} → IsFlat tree name parts
+pub few_ports : {tree : PackageTree ℕ} {name : List ℕ} {parts : InstanceParts} → IsFlat tree name parts
     → (path : List ℕ) (x : Implementation ℕ) → IsThreadOf tree parts.root path x → length (ports_of tree x) ≤ PORTS
 few_ports {tree} {name} {parts} flat path x thread =
     let what = codes "ports" in
@@ -58,7 +58,7 @@ few_ports {tree} {name} {parts} flat path x thread =
       inr (inr (inr (what, inr (inr (inl (refl, refl, (path, x, thread, more)))), refl))),
     )))
 
-pub few_variables : {tree : PackageTree ℕ} {name : List ℕ} {parts : Parts} → IsFlat tree name parts
+pub few_variables : {tree : PackageTree ℕ} {name : List ℕ} {parts : InstanceParts} → IsFlat tree name parts
     → (path : List ℕ) (x : Implementation ℕ) → IsThreadOf tree parts.root path x → variable_count x ≤ VARIABLES
 few_variables {tree} {name} {parts} flat path x thread =
     let what = codes "variables" in
@@ -96,7 +96,7 @@ counted_variables : (x : Implementation ℕ) (b : ℕ × AnnexTree ℕ) → firs
 counted_variables x b is = count_by b.1.variables ∙ sym (first_counted (names.behaviours x.annexes) b is)
 
 -- ---- threads in use are small
-pub is_small : {tree : PackageTree ℕ} {name : List ℕ} {parts : Parts} → IsFlat tree name parts
+pub is_small : {tree : PackageTree ℕ} {name : List ℕ} {parts : InstanceParts} → IsFlat tree name parts
     → (path : List ℕ) (x : Implementation ℕ) → IsThreadOf tree parts.root path x → IsSmall tree x
 is_small flat path x thread = record {
   ports = few_ports flat path x thread;
@@ -105,10 +105,10 @@ is_small flat path x thread = record {
 }
 
 pub placed_component : (tree : PackageTree ℕ) (root n : ℕ) (path : List ℕ) (x : Implementation ℕ)
-    → standing tree root path ≡ Some n → implementation_at tree n ≡ Some x → component_at tree root path ≡ Some x
+    → number_at_path tree root path ≡ Some n → implementation_at tree n ≡ Some x → component_at tree root path ≡ Some x
 placed_component tree root n path x stands is = ap (option_and_then (implementation_at tree)) stands ∙ is
 
-small_by : {tree : PackageTree ℕ} {name : List ℕ} {parts : Parts} → IsFlat tree name parts
+small_by : {tree : PackageTree ℕ} {name : List ℕ} {parts : InstanceParts} → IsFlat tree name parts
     → (n : ℕ) (x : Implementation ℕ) → IsInUse tree parts.root n → implementation_at tree n ≡ Some x
     → is_thread x.category ≡ true
     → IsSmall tree x

@@ -6,9 +6,9 @@ use Rattle.std.specs.Option.{option_and_then, is_some}
 use Rattle.pals_base.specs.declared.behaviour.Kind.{Kind}
 use Rattle.aadl_tree.specs.Names.{Identifier}
 use Rattle.aadl_tree.specs.Declarations.{Feature, Connection, ConnectionEnd, Implementation, PackageTree}
-use Rattle.aadl_names.specs.declared.port_place.PortPlace.{PortPlace}
-use Rattle.aadl_names.specs.declared.port_place.PortPlace.TheVariants.{Own, Inner}
-use Rattle.aadl_names.specs.ReferenceResolution.{port_named, ports_of, inner_ports, site}
+use Rattle.aadl_names.specs.declared.port_place.NumberedPort.{NumberedPort}
+use Rattle.aadl_names.specs.declared.port_place.NumberedPort.TheVariants.{Own, Inner}
+use Rattle.aadl_names.specs.ReferenceResolution.{port_named, ports_of, inner_ports, end_port}
 use Rattle.annex_resolve.specs.declared.violation.Violation.{Violation}
 use Rattle.annex_resolve.specs.declared.violation.TheConstants.{DELAYED_ROOT, STRAY_ADAPTOR}
 use Rattle.annex_resolve.specs.FindingRecords.{found_if}
@@ -23,15 +23,15 @@ abbrev pub kind_named : List (Feature ℕ) → List ℕ → Option Kind
 kind_named ports name = option_and_then (kind_numbered ports) (port_named ports name)
 
 -- ---- the types of both ends, where each is Integer or Boolean
-abbrev pub site_port : PackageTree ℕ → Implementation ℕ → PortPlace → Option (Feature ℕ)
+abbrev pub site_port : PackageTree ℕ → Implementation ℕ → NumberedPort → Option (Feature ℕ)
 site_port tree x (Own p) = slice_get (ports_of tree x) p
 site_port tree x (Inner s p) = slice_get (inner_ports tree x s) p
 
-abbrev pub site_kind : PackageTree ℕ → Implementation ℕ → PortPlace → Option Kind
+abbrev pub site_kind : PackageTree ℕ → Implementation ℕ → NumberedPort → Option Kind
 site_kind tree x s = option_and_then (λ f. kind_in f.data_type) (site_port tree x s)
 
 abbrev pub kind_at : PackageTree ℕ → Implementation ℕ → ConnectionEnd ℕ → Option Kind
-kind_at tree x end = option_and_then (site_kind tree x) (site tree x end)
+kind_at tree x end = option_and_then (site_kind tree x) (end_port tree x end)
 
 -- ---- an end at an own port
 abbrev pub is_own : Option (Identifier ℕ) → Bool

@@ -7,10 +7,10 @@ use Rattle.aadl_names.specs.declared.recognised_properties.PropertyName.TheVaria
 use Rattle.aadl_names.specs.RecognisedProperties.{association_named, association_value, name_of}
 use Rattle.aadl_names.specs.PropertyValueShapes.{text_of}
 use Rattle.aadl_names.specs.ReferenceResolution.{implementation_at, connections_of}
-use Rattle.aadl_instance.specs.declared.chain.ConnAt.{ConnAt}
+use Rattle.aadl_instance.specs.declared.chain.ConnectionAt.{ConnectionAt}
 use Rattle.component_checks.specs.ThreadRatesAndFindings.{says}
 
-abbrev pub connection_of : PackageTree ℕ → ConnAt → Option (Connection ℕ)
+abbrev pub connection_of : PackageTree ℕ → ConnectionAt → Option (Connection ℕ)
 connection_of tree c = slice_get (connections_of (implementation_at tree c.declaration)) c.connection
 
 abbrev pub is_delayed : Connection ℕ → Bool

@@ -4,7 +4,7 @@ use Rattle.std.specs.List.Sorted.{IsSortedBy, IsStableBy}
 use Rattle.aadl_tree.specs.Declarations.{PackageTree}
 use Rattle.aadl_uses.specs.declared.thread_locations.ThreadAt.{ThreadAt}
 use Rattle.aadl_instance.specs.declared.chain.Chain.{Chain}
-use Rattle.aadl_instance.specs.FlattenedDesign.{Parts}
+use Rattle.aadl_instance.specs.FlattenedDesign.{InstanceParts}
 use Rattle.aadl_instance.specs.Instances.{chain_at}
 use Rattle.aadl_uses.specs.ThreadLocations.{thread_at}
 use Rattle.annex_resolve.specs.declared.violation.Violation.{Violation}
@@ -16,7 +16,7 @@ use Rattle.model_violations.specs.UsedDeclarations.{IsUse, type_used}
 use Rattle.model_violations.specs.DeclarationFindings.{declarations_findings}
 
 -- what an instance shows
-pub record Shown : Type 0 where
+pub record ShownInstance : Type 0 where
   pub root : ℕ
   pub threads : List ThreadAt
   pub links : List Chain
@@ -24,7 +24,7 @@ pub record Shown : Type 0 where
   pub taps : List Chain
 
 -- what the instance of a flattened design shows
-abbrev pub shown_by : PackageTree ℕ → Parts → Shown
+abbrev pub shown_by : PackageTree ℕ → InstanceParts → ShownInstance
 shown_by tree parts = record {
   root = parts.root;
   threads = map (thread_at tree parts.root) parts.threads;
@@ -34,27 +34,27 @@ shown_by tree parts = record {
 }
 
 -- ---- each rule in component, link or connection order
-abbrev pub rates_of : PackageTree ℕ → Shown → List (Option ℕ)
+abbrev pub rates_of : PackageTree ℕ → ShownInstance → List (Option ℕ)
 rates_of tree s = map (thread_rate tree s.root) s.threads
 
-abbrev pub place_of : Chain → ℕ × ℕ
-place_of x = (x.carrier.declaration, x.carrier.connection)
+abbrev pub carrier_numbers : Chain → ℕ × ℕ
+carrier_numbers x = (x.carrier.declaration, x.carrier.connection)
 
 -- the connections that carry links, feeds or taps
-abbrev pub carriers_of : Shown → List (ℕ × ℕ)
-carriers_of s = map place_of s.links ++ map place_of s.feeds ++ map place_of s.taps
+abbrev pub carriers_of : ShownInstance → List (ℕ × ℕ)
+carriers_of s = map carrier_numbers s.links ++ map carrier_numbers s.feeds ++ map carrier_numbers s.taps
 
 -- over the rates of the threads
-abbrev pub chain_findings : PackageTree ℕ → Shown → List (Option ℕ) → List Violation
+abbrev pub chain_findings : PackageTree ℕ → ShownInstance → List (Option ℕ) → List Violation
 chain_findings tree s rates =
     flat_map (link_findings tree s.threads rates) s.links ++ flat_map (feed_findings tree s.threads rates) s.feeds
     ++ flat_map (tap_findings tree s.threads) s.taps
 
 -- with the test for what is in use
-abbrev pub used_findings : PackageTree ℕ → Shown → (ℕ → Bool) → List Violation
+abbrev pub used_findings : PackageTree ℕ → ShownInstance → (ℕ → Bool) → List Violation
 used_findings tree s used = declarations_findings tree s.root used (type_used tree used) (carries (carriers_of s))
 
-unfoldable pub findings : PackageTree ℕ → Shown → (ℕ → Bool) → List Violation
+unfoldable pub findings : PackageTree ℕ → ShownInstance → (ℕ → Bool) → List Violation
 findings tree s used =
     root_findings tree s.root (greatest_rate (rates_of tree s)) ++ flat_map (thread_findings tree s.root) s.threads
     ++ chain_findings tree s (rates_of tree s) ++ used_findings tree s used
@@ -64,7 +64,7 @@ abbrev pub goes_before : Violation → Violation → Bool
 goes_before a b = nat_lt a.at b.at || (nat_eq a.at b.at && nat_lt a.number b.number)
 
 -- all findings in this order; what agrees in place and number stays in the order in which it is found
-pub record AreViolations (tree : PackageTree ℕ) (s : Shown) (list : List Violation) : Type 0 where
+pub record AreViolations (tree : PackageTree ℕ) (s : ShownInstance) (list : List Violation) : Type 0 where
   pub used : ℕ → Bool
   pub is_use : IsUse tree s.root used
   pub in_order : IsSortedBy goes_before list

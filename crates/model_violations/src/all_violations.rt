@@ -57,7 +57,7 @@ fn add_threads_findings(
 
 // Adds the connections that carry chains.
 fn add_carriers(carriers: &mut Carriers, chains: &[Chain]) -> Result<(), NoMemory>
-    ensures { OnOk result ((n i : ℕ) → carries carriers.new n i ≡ (carries carriers.old n i || carries (map spec.place_of chains.now) n i)) }
+    ensures { OnOk result ((n i : ℕ) → carries carriers.new n i ≡ (carries carriers.old n i || carries (map spec.carrier_numbers chains.now) n i)) }
 {
     for chain in chains {
         carriers.add(chain.carrier)?;

@@ -142,7 +142,7 @@ fn scope_by(
 }
 
 /// The values of a behaviour over ports and variables, and what their names stand for.
-pub fn setting_by(
+pub fn values_and_scope_by(
     alloc: Global,
     ins: &[Declared],
     outs: &[Declared],

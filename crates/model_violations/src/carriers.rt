@@ -6,7 +6,7 @@ ghost use Rattle.aadl_tree.specs.proof.DeclarationViews.{connection_view};
 ghost use Rattle.component_checks.specs.proof.ChainProperties.{carried_by};
 ghost use Rattle.model_violations.specs.ConnectionsAndCarriers as spec;
 
-use aadl_instance::ConnAt;
+use aadl_instance::ConnectionAt;
 use aadl_names::declarations_by_number::implementation_at;
 use aadl_tree::{Connection, PackageTree};
 use component_checks::{ChainProperties, Properties};
@@ -16,7 +16,7 @@ use std::alloc::Global;
 use std::marker::Model;
 
 /// The connection of two numbers: its declaration's, and its own there.
-pub fn connection_of<'t>(tree: &'t PackageTree, place: ConnAt) -> Option<&'t Connection>
+pub fn connection_of<'t>(tree: &'t PackageTree, place: ConnectionAt) -> Option<&'t Connection>
     ensures { option_map (connection_view kept_place) (option_copied result) ≡ spec.connection_of (placed tree.now) place }
 {
     match implementation_at(tree, place.declaration) {
@@ -29,7 +29,7 @@ pub fn connection_of<'t>(tree: &'t PackageTree, place: ConnAt) -> Option<&'t Con
 #[tactic(auto, using(crate::proofs::MappedOptions::of_mapped))]
 pub fn carrier_of<'t>(
     properties: &Properties<'t>,
-    place: ConnAt,
+    place: ConnectionAt,
 ) -> Option<(&'t Connection, ChainProperties)>
     ensures connection { option_map (λ carrier. connection_view kept_place carrier.0.now) result
         ≡ spec.connection_of (placed properties.now.uses.now.names.tree.now) place }
@@ -75,7 +75,7 @@ impl Carriers {
     }
 
     /// Adds a connection.
-    pub fn add(&mut self, place: ConnAt) -> Result<(), NoMemory>
+    pub fn add(&mut self, place: ConnectionAt) -> Result<(), NoMemory>
         ensures { OnOk result ((n i : ℕ) → carries self.new n i ≡ (carries self.old n i || (nat_eq n place.declaration && nat_eq i place.connection))) }
     {
         self.places.insert((place.declaration, place.connection))?;
@@ -83,7 +83,7 @@ impl Carriers {
     }
 
     /// Whether a connection is among them.
-    pub fn has(&self, place: ConnAt) -> bool
+    pub fn has(&self, place: ConnectionAt) -> bool
         ensures { result ≡ carries self.now place.declaration place.connection }
     {
         self.places.contains(&(place.declaration, place.connection))

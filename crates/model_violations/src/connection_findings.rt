@@ -8,18 +8,18 @@ ghost use Rattle.aadl_tree.specs.proof.NameViews.{identifier_view};
 ghost use Rattle.aadl_tree.specs.proof.PackageViews.{placed};
 ghost use Rattle.aadl_tree.specs.proof.DeclarationViews.{connection_view, implementation_view};
 ghost use Rattle.aadl_names.specs.ReferenceResolution.{features_of, implementation_at, type_numbered};
-ghost use Rattle.aadl_uses.specs.Wiring.{wire_of};
+ghost use Rattle.aadl_uses.specs.Wiring.{ports_of_connection};
 ghost use Rattle.component_checks.specs.proof.ChainProperties.{carried_by};
 ghost use Rattle.model_violations.specs.ConnectionsAndCarriers.{carries};
 ghost use Rattle.model_violations.specs.ConnectionFindings as spec;
 ghost use Rattle.model_violations.specs.proof.NumberedConnections.{IsConnection};
 
 use crate::carriers::Carriers;
-use aadl_instance::ConnAt;
-use aadl_names::PortPlace;
+use aadl_instance::ConnectionAt;
+use aadl_names::NumberedPort;
 use aadl_names::declarations_by_number::type_numbered;
 use aadl_tree::{Connection, Identifier, Implementation, PackageTree};
-use aadl_uses::{Uses, Wire, Wires};
+use aadl_uses::{Uses, ConnectionPorts, PackageConnections};
 use annex_resolve::violation::{DELAYED_ROOT, STRAY_ADAPTOR};
 use annex_resolve::{Violation, expect};
 use component_checks::ChainProperties;
@@ -38,19 +38,19 @@ fn kind_numbered(tree: &PackageTree, of_type: Option<usize>, port: usize) -> Opt
 }
 
 // The type of a port of the implementation of a number, or of one of its subcomponents.
-fn site_kind(uses: &Uses<'_>, number: usize, site: PortPlace) -> Option<Kind>
+fn site_kind(uses: &Uses<'_>, number: usize, site: NumberedPort) -> Option<Kind>
     ensures { (x : trees.Implementation ℕ) → implementation_at (placed uses.now.names.tree.now) number ≡ Some x
         → result ≡ spec.site_kind (placed uses.now.names.tree.now) x site }
 {
     let tree = uses.names.tree;
     match site {
-        PortPlace::Own(port) => kind_numbered(tree, uses.type_number(number), port),
-        PortPlace::Inner(sub, port) => kind_numbered(tree, uses.type_below(number, sub), port),
+        NumberedPort::Own(port) => kind_numbered(tree, uses.type_number(number), port),
+        NumberedPort::Inner(sub, port) => kind_numbered(tree, uses.type_below(number, sub), port),
     }
 }
 
 // The type of the port at an end of a connection, if that is declared.
-fn kind_at(uses: &Uses<'_>, number: usize, end: Option<PortPlace>) -> Option<Kind>
+fn kind_at(uses: &Uses<'_>, number: usize, end: Option<NumberedPort>) -> Option<Kind>
     ensures { (x : trees.Implementation ℕ) → implementation_at (placed uses.now.names.tree.now) number ≡ Some x
         → result ≡ option_and_then (spec.site_kind (placed uses.now.names.tree.now) x) end }
 {
@@ -61,14 +61,14 @@ fn kind_at(uses: &Uses<'_>, number: usize, end: Option<PortPlace>) -> Option<Kin
 }
 
 // What a connection joins, by its place.
-fn wire_at(wires: &Wires<'_>, place: ConnAt) -> Wire
+fn wire_at(wires: &PackageConnections<'_>, place: ConnectionAt) -> ConnectionPorts
     ensures { (x : trees.Implementation ℕ) (c : trees.Connection ℕ)
         → IsConnection (placed wires.now.uses.names.tree.now) place.declaration place.connection x c
-        → result ≡ wire_of (placed wires.now.uses.names.tree.now) x c }
+        → result ≡ ports_of_connection (placed wires.now.uses.names.tree.now) x c }
 {
     match wires.wires(place.declaration).get(place.connection) {
         Some(wire) => *wire,
-        None => Wire {
+        None => ConnectionPorts {
             source: None,
             target: None,
         },
@@ -95,8 +95,8 @@ fn joins_own(connection: &Connection) -> bool
 // Adds the finding that the ends of a connection at a place are of different types.
 fn add_ends_findings(
     alloc: Global,
-    wires: &Wires<'_>,
-    place: ConnAt,
+    wires: &PackageConnections<'_>,
+    place: ConnectionAt,
     connection: &Connection,
     found: &mut Items<Violation>,
 ) -> Result<(), NoMemory>
@@ -158,9 +158,9 @@ fn add_adaptor_findings(
 // Adds what is wrong with the connection at a place.
 fn add_connection_findings(
     alloc: Global,
-    wires: &Wires<'_>,
+    wires: &PackageConnections<'_>,
     carriers: &Carriers,
-    place: ConnAt,
+    place: ConnectionAt,
     connection: &Connection,
     found: &mut Items<Violation>,
 ) -> Result<(), NoMemory>
@@ -182,7 +182,7 @@ fn add_connection_findings(
 /// a delay at an own port, an adaptor on what carries no chain.
 pub fn add_connections_findings(
     alloc: Global,
-    wires: &Wires<'_>,
+    wires: &PackageConnections<'_>,
     carriers: &Carriers,
     number: usize,
     x: &Implementation,
@@ -193,7 +193,7 @@ pub fn add_connections_findings(
         ++ spec.connections_findings (placed wires.now.uses.names.tree.now) (carries carriers.now) number (implementation_view kept_place x.now)) }
 {
     for (at, connection) in x.connections.iter().enumerate() {
-        let place = ConnAt {
+        let place = ConnectionAt {
             declaration: number,
             connection: at,
         };

@@ -18,7 +18,7 @@ use crate::ignored_in_declaration::is_number;
 use crate::resolve_implementation;
 use aadl_names::PropertyHolder;
 use aadl_tree::{Category, Declaration, Implementation, Subcomponent, TypeDeclaration};
-use aadl_uses::{Uses, Wires};
+use aadl_uses::{Uses, PackageConnections};
 use annex_resolve::Violation;
 use component_checks::times::add_times_too_big;
 use component_checks::types::add_port_findings;
@@ -30,7 +30,7 @@ use std::alloc::Global;
 /// connections that carry chains.
 #[derive(Clone, Copy)]
 pub struct UsedPackage<'t> {
-    pub wires: &'t Wires<'t>,
+    pub wires: &'t PackageConnections<'t>,
     pub root: usize,
     pub implementations: &'t IndexSet<usize>,
     pub types: &'t IndexSet<usize>,

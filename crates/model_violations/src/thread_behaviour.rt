@@ -12,7 +12,7 @@ ghost use Rattle.aadl_names.specs.ReferenceResolution.{implementation_at, ports_
 ghost use Rattle.model_violations.specs.ThreadBehaviours as spec;
 ghost use Rattle.model_violations.specs.PortsAndVariables.{variables_of, values_of, scope_of};
 
-use crate::behaviour_values_and_scope::setting_by;
+use crate::behaviour_values_and_scope::values_and_scope_by;
 use crate::declared_ports::{ins_in, outs_in};
 use crate::variables::variables_of;
 use aadl_tree::{Annex, AnnexContent, AnnexTree, Implementation};
@@ -47,7 +47,7 @@ fn first_behaviour(annexes: &[Annex]) -> Option<(usize, &AnnexTree)>
 }
 
 // The values of the behaviour of the implementation of a number, and what their names stand for.
-fn setting_of(
+fn values_and_scope_of(
     alloc: Global,
     uses: &Uses<'_>,
     number: usize,
@@ -66,7 +66,7 @@ fn setting_of(
     let ins = ins_in(alloc, ports)?;
     let outs = outs_in(alloc, ports)?;
     let variables = variables_of(alloc, annex)?;
-    let setting = setting_by(alloc, ins.as_slice(), outs.as_slice(), variables.as_slice())?;
+    let setting = values_and_scope_by(alloc, ins.as_slice(), outs.as_slice(), variables.as_slice())?;
     Ok(setting)
 }
 
@@ -91,7 +91,7 @@ fn resolve_numbered(
         return Ok(None);
     };
     add_variables_findings(alloc, annex, found)?;
-    let (values, scope) = setting_of(alloc, uses, number, x, annex)?;
+    let (values, scope) = values_and_scope_of(alloc, uses, number, x, annex)?;
     let parts = resolve_annex(alloc, values, &scope, at, annex, found)?;
     Ok(Some(parts))
 }

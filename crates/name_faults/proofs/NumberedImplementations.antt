@@ -6,16 +6,16 @@ use Rattle.list_lemmas.proofs.Options.{option_and_then_assoc}
 use Rattle.aadl_tree.specs.Declarations.{Subcomponent, Connection, Implementation, PackageTree}
 use Rattle.aadl_tree.specs.declared.declarations.Direction.{Direction}
 use Rattle.aadl_names.specs.declared.fault.PackageFault.{PackageFault}
-use Rattle.aadl_names.specs.declared.port_place.PortPlace.{PortPlace}
-use Rattle.aadl_names.specs.declared.port_place.PortPlace.TheVariants.{Own, Inner}
+use Rattle.aadl_names.specs.declared.port_place.NumberedPort.{NumberedPort}
+use Rattle.aadl_names.specs.declared.port_place.NumberedPort.TheVariants.{Own, Inner}
 use Rattle.aadl_names.specs.ReferenceResolution.{implementation_in, implementation_at, subcomponents_of, type_number}
 use Rattle.aadl_names.specs.ReferenceResolution.{type_numbered, referred, target_of, features_of, direction_in}
 use Rattle.aadl_names.specs.ReferenceResolution.{direction_of, with_direction}
 use Rattle.aadl_names.specs.proof.FirstFaultSoFar.{found}
-use Rattle.aadl_names.specs.PackageFaults.{root_type, sited, joined_faults, connection_faults}
-use Rattle.aadl_uses.specs.declared.connections_by_target.Wire.{Wire}
+use Rattle.aadl_names.specs.PackageFaults.{root_type, directed_end_port, joined_faults, connection_faults}
+use Rattle.aadl_uses.specs.declared.connections_by_target.ConnectionPorts.{ConnectionPorts}
 use Rattle.aadl_uses.specs.Uses.{below}
-use Rattle.aadl_uses.specs.Wiring.{wire_of, wires_of, wires_at}
+use Rattle.aadl_uses.specs.Wiring.{ports_of_connection, wires_of, connection_ports_at}
 use Rattle.aadl_uses.specs.proof.ImplementationTypes.{type_number_by, type_number_at}
 use Rattle.name_faults.specs.proof.NumberedImplementations.{StandsAt}
 
@@ -37,7 +37,7 @@ module _ (tree : PackageTree ℕ) (n : ℕ) (x : Implementation ℕ) (stands : S
       → below tree n s ≡ referred tree sub.classifier
   below_is s sub is = below_by s ∙ ap (option_and_then (λ (sub : Subcomponent ℕ). referred tree sub.classifier)) is
 
-  pub wires_are : wires_at tree n ≡ map (wire_of tree x) x.connections
+  pub wires_are : connection_ports_at tree n ≡ map (ports_of_connection tree x) x.connections
   wires_are = ap (λ d. wires_of tree (implementation_in d)) stands
 
   pub own_direction : (p : ℕ)
@@ -70,13 +70,13 @@ module _ (tree : PackageTree ℕ) (n : ℕ) (x : Implementation ℕ) (stands : S
   inner_direction s p = ap (λ t. direction_in (features_of (type_numbered tree t)) p) (type_below_is s)
 
 -- what is found by the ports that a connection joins
-module _ (tree : PackageTree ℕ) (x : Implementation ℕ) (c : Connection ℕ) (w : Wire) (is : w ≡ wire_of tree x c) where
-  pub joined : (old new : Option PackageFault) (source target : Option (PortPlace × Option Direction))
+module _ (tree : PackageTree ℕ) (x : Implementation ℕ) (c : Connection ℕ) (w : ConnectionPorts) (is : w ≡ ports_of_connection tree x c) where
+  pub joined : (old new : Option PackageFault) (source target : Option (NumberedPort × Option Direction))
       → source ≡ option_map (with_direction tree x) w.source
       → target ≡ option_map (with_direction tree x) w.target → new ≡ found old (joined_faults c source target)
       → new ≡ found old (connection_faults tree x c)
   joined old new source target from to more =
       more ∙ ap (λ s. found old (joined_faults c s target))
-      (from ∙ ap (λ (v : Wire). option_map (with_direction tree x) v.source) is)
-      ∙ ap (λ t. found old (joined_faults c (sited tree x c.source) t))
-      (to ∙ ap (λ (v : Wire). option_map (with_direction tree x) v.target) is)
+      (from ∙ ap (λ (v : ConnectionPorts). option_map (with_direction tree x) v.source) is)
+      ∙ ap (λ t. found old (joined_faults c (directed_end_port tree x c.source) t))
+      (to ∙ ap (λ (v : ConnectionPorts). option_map (with_direction tree x) v.target) is)

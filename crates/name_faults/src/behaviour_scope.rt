@@ -20,9 +20,9 @@ pub struct BehaviourScope<'t> {
 }
 
 impl<'t> Model for BehaviourScope<'t> {
-    ghost use Rattle.name_faults.specs.proof.BehaviourScopes.{Scoped};
+    ghost use Rattle.name_faults.specs.proof.BehaviourScopes.{ScopeTables};
 
-    ghost Value = { Scoped };
+    ghost Value = { ScopeTables };
 
     ghost view = { λ s. record { first = s.first.now; second = s.second.now; loops = s.loops } };
 }

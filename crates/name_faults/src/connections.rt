@@ -14,19 +14,19 @@ ghost use Rattle.name_faults.specs.proof.NumberedImplementations.{StandsAt};
 use crate::check_properties;
 use aadl_names::name_texts::spelled_end;
 use aadl_names::type_ports::port_direction;
-use aadl_names::{FaultFinder, PortPlace, PropertyHolder};
+use aadl_names::{FaultFinder, NumberedPort, PropertyHolder};
 use aadl_tree::{Connection, ConnectionEnd, Direction, Implementation};
-use aadl_uses::{Uses, Wires};
+use aadl_uses::{Uses, PackageConnections};
 use std::alloc::AllocError;
 
 // Which way a port goes that the implementation of a number knows.
-fn direction_of(uses: &Uses<'_>, number: usize, site: PortPlace) -> Option<Direction>
+fn direction_of(uses: &Uses<'_>, number: usize, site: NumberedPort) -> Option<Direction>
     ensures { (x : trees.Implementation ℕ) → StandsAt (placed uses.now.names.tree.now) number x
         → result ≡ resolving.direction_of (placed uses.now.names.tree.now) x site }
 {
     match site {
-        PortPlace::Own(port) => port_direction(&uses.names, uses.type_number(number), port),
-        PortPlace::Inner(sub, port) => port_direction(
+        NumberedPort::Own(port) => port_direction(&uses.names, uses.type_number(number), port),
+        NumberedPort::Inner(sub, port) => port_direction(
             &uses.names,
             uses.type_below(number, sub),
             port,
@@ -38,8 +38,8 @@ fn direction_of(uses: &Uses<'_>, number: usize, site: PortPlace) -> Option<Direc
 fn with_direction(
     uses: &Uses<'_>,
     number: usize,
-    site: Option<PortPlace>,
-) -> Option<(PortPlace, Option<Direction>)>
+    site: Option<NumberedPort>,
+) -> Option<(NumberedPort, Option<Direction>)>
     ensures { (x : trees.Implementation ℕ) → StandsAt (placed uses.now.names.tree.now) number x
         → result ≡ option_map (resolving.with_direction (placed uses.now.names.tree.now) x) site }
 {
@@ -59,12 +59,12 @@ fn goes_in(direction: Option<Direction>) -> bool
 }
 
 // Whether a connection may come out of a port.
-fn may_leave(site: PortPlace, direction: Option<Direction>) -> bool
+fn may_leave(site: NumberedPort, direction: Option<Direction>) -> bool
     ensures { result ≡ spec.may_leave (site, direction) }
 {
     match site {
-        PortPlace::Own(_) => goes_in(direction),
-        PortPlace::Inner(_, _) => !goes_in(direction),
+        NumberedPort::Own(_) => goes_in(direction),
+        NumberedPort::Inner(_, _) => !goes_in(direction),
     }
 }
 
@@ -72,7 +72,7 @@ fn check_source(
     finder: &mut FaultFinder,
     end: &ConnectionEnd,
     at: usize,
-    port: Option<(PortPlace, Option<Direction>)>,
+    port: Option<(NumberedPort, Option<Direction>)>,
 ) -> Result<(), AllocError>
     ensures { OnOk result (finder.new ≡ found finder.old (spec.end_faults spec.may_leave (end_view kept_place end.now) at port)) }
 {
@@ -89,7 +89,7 @@ fn check_target(
     finder: &mut FaultFinder,
     end: &ConnectionEnd,
     at: usize,
-    port: Option<(PortPlace, Option<Direction>)>,
+    port: Option<(NumberedPort, Option<Direction>)>,
 ) -> Result<(), AllocError>
     ensures { OnOk result (finder.new ≡ found finder.old (spec.end_faults spec.may_enter (end_view kept_place end.now) at port)) }
 {
@@ -110,12 +110,12 @@ fn unknown_end(finder: &mut FaultFinder, end: &ConnectionEnd) -> Result<(), Allo
     finder.unknown(name.as_str(), end.first.at)
 }
 
-fn is_own(port: Option<(PortPlace, Option<Direction>)>) -> bool
+fn is_own(port: Option<(NumberedPort, Option<Direction>)>) -> bool
     ensures { result ≡ spec.is_own port }
 {
     match port {
-        Some((PortPlace::Own(_), _)) => true,
-        Some((PortPlace::Inner(_, _), _)) => false,
+        Some((NumberedPort::Own(_), _)) => true,
+        Some((NumberedPort::Inner(_, _), _)) => false,
         None => false,
     }
 }
@@ -123,8 +123,8 @@ fn is_own(port: Option<(PortPlace, Option<Direction>)>) -> bool
 // Finds what is wrong with a connection that joins these ports.
 fn check_connection(
     finder: &mut FaultFinder,
-    source: Option<(PortPlace, Option<Direction>)>,
-    target: Option<(PortPlace, Option<Direction>)>,
+    source: Option<(NumberedPort, Option<Direction>)>,
+    target: Option<(NumberedPort, Option<Direction>)>,
     connection: &Connection,
 ) -> Result<(), AllocError>
     ensures { OnOk result (finder.new ≡ found finder.old (spec.joined_faults (connection_view kept_place connection.now) source target)) }
@@ -143,7 +143,7 @@ fn check_connection(
 /// Finds what is wrong with the connections of the implementation of a number.
 pub fn check_connections(
     finder: &mut FaultFinder,
-    wires: &Wires<'_>,
+    wires: &PackageConnections<'_>,
     number: usize,
     x: &Implementation,
 ) -> Result<(), AllocError>

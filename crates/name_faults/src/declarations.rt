@@ -21,7 +21,7 @@ use crate::{AllPortNames, names_at};
 use aadl_names::FaultFinder;
 use aadl_names::name_texts::spelled_name;
 use aadl_tree::{Declaration, Implementation, PackageTree};
-use aadl_uses::{Uses, Wires};
+use aadl_uses::{Uses, PackageConnections};
 use std::alloc::AllocError;
 
 // Whether the number is that of the type of the root.
@@ -38,7 +38,7 @@ fn is_root_type(uses: &Uses<'_>, root: usize, number: usize) -> bool
 // Finds what is wrong with the names in the implementation of a number.
 fn check_implementation(
     finder: &mut FaultFinder,
-    wires: &Wires<'_>,
+    wires: &PackageConnections<'_>,
     all: &AllPortNames,
     number: usize,
     of_root: bool,
@@ -63,7 +63,7 @@ fn check_implementation(
 // Finds what is wrong with the names in the declaration of a number.
 fn check_declaration(
     finder: &mut FaultFinder,
-    wires: &Wires<'_>,
+    wires: &PackageConnections<'_>,
     all: &AllPortNames,
     root: usize,
     number: usize,
@@ -101,7 +101,7 @@ fn check_end_name(finder: &mut FaultFinder, tree: &PackageTree) -> Result<(), Al
 /// Finds what is wrong with the names in all declarations, and another name at the package's end.
 pub fn check_declarations(
     finder: &mut FaultFinder,
-    wires: &Wires<'_>,
+    wires: &PackageConnections<'_>,
     all: &AllPortNames,
     root: usize,
 ) -> Result<(), AllocError>

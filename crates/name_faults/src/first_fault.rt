@@ -7,14 +7,14 @@ ghost use Rattle.aadl_names.specs.PackageFaults.{package_faults};
 use crate::declarations::check_declarations;
 use crate::{all_port_names, check_duplicates};
 use aadl_names::{FaultFinder, PackageFault};
-use aadl_uses::Wires;
+use aadl_uses::PackageConnections;
 use std::alloc::{AllocError, Global};
 
 /// The first of all that is wrong with the names of a package, where the root's implementation has a
 /// number; none where nothing is.
 pub fn first_name_fault(
     alloc: Global,
-    wires: &Wires<'_>,
+    wires: &PackageConnections<'_>,
     root: usize,
 ) -> Result<Option<PackageFault>, AllocError>
     ensures { IfOk result (FirstOf (package_faults (placed wires.now.uses.names.tree.now) root)) }

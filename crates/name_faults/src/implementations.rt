@@ -18,7 +18,7 @@ use aadl_names::declarations_by_number::type_numbered;
 use aadl_names::name_texts::spelled_implementation;
 use aadl_names::{FaultFinder, PropertyHolder};
 use aadl_tree::{Category, Implementation, PackageTree};
-use aadl_uses::Wires;
+use aadl_uses::PackageConnections;
 use std::alloc::AllocError;
 
 // Whether the type of a number is there, and of the category.
@@ -56,7 +56,7 @@ fn check_heading(
 /// does with names.
 pub fn check_outside_behaviours(
     finder: &mut FaultFinder,
-    wires: &Wires<'_>,
+    wires: &PackageConnections<'_>,
     number: usize,
     of_root: bool,
     x: &Implementation,

@@ -6,7 +6,7 @@ use Rattle.std.proofs.Math.Seq.{map-set_same}
 use Rattle.std.proofs.lemmas.Bool.{cases_eq}
 use Rattle.std.proofs.lemmas.Grind.{get_or-set_at}
 use Rattle.std.proofs.lemmas.List.{length-set, get_or-set_other}
-use Rattle.pals_base.specs.ClockPicks.{reached}
+use Rattle.pals_base.specs.ClockPicks.{remaining_from}
 use Rattle.pals_clock.specs.ClockStates.{ClockState, standing_at}
 use Rattle.pals_clock.specs.declared.clock.Clocks.{Clocks}
 use Rattle.pals_clock.specs.declared.clock.Clocks.TheVariants.{Meet, Lists}
@@ -87,7 +87,7 @@ ends_at_other bus lists later k goal same ends =
       (
         ended.0,
         ended.1,
-        ap (λ (clock : ClockState). reached clock.left (target (plan_of bus.run.design k) ended.0)) same
+        ap (λ (clock : ClockState). remaining_from clock.left (target (plan_of bus.run.design k) ended.0)) same
             ∙ ended.2,
       ),
       ends.1,

@@ -13,13 +13,13 @@ use Rattle.pals_model.specs.DesignRules.{IsDesign}
 use Rattle.pals_bus.specs.BusValues.{BusValue}
 use Rattle.pals_bus.specs.proof.OpeningNodes.{opening_bus}
 use Rattle.pals_bus.proofs.Openings.{map_more}
-use Rattle.run_laws.specs.Runs.{clock_at, no_clock, lists_in, Begin, opens}
+use Rattle.run_laws.specs.Runs.{clock_at, no_clock, lists_in, HaveFreshClocks, opens}
 use Rattle.node_threads.specs.declared.node_end.NodeNote.TheVariants as note
 use Rattle.node_threads.specs.proof.SharedCourses.{clocks_of, course_of, note_at, IsCourse, AreMany, AreClocksOf}
 use Rattle.node_threads.specs.proof.SharedCourses.{fresh_of}
 
 -- ---- the opening
-many_lists : (b : BusValue) (clocks : Clocks) → Begin b.run clocks → AreMany (length b.run.design.components) clocks
+many_lists : (b : BusValue) (clocks : Clocks) → HaveFreshClocks b.run clocks → AreMany (length b.run.design.components) clocks
 many_lists b Meet begin = tt
 many_lists b (Lists lists) begin = begin.count
 
@@ -31,7 +31,7 @@ all_open count node = elim (cases_lt node count) [
 ]
 
 opens_by : (b : BusValue) (lists : List ClockState) → IsDesign b.run.design → 1 ≤ b.run.rounds → b.run.rounds ≤ ROUNDS
-    → Begin b.run (clocks_of b.meeting lists)
+    → HaveFreshClocks b.run (clocks_of b.meeting lists)
     → IsCourse (course_of (opening_bus b.run b.codes b.meeting) lists
     (replicate (length b.run.design.components) note.Open))
 opens_by b lists design rounds few begin =
@@ -48,7 +48,7 @@ opens_by b lists design rounds few begin =
     }
 
 pub course_opens : (b : BusValue) (lists : List ClockState) → b ≡ opening_bus b.run b.codes b.meeting
-    → IsDesign b.run.design → (1 ≤ b.run.rounds) × (b.run.rounds ≤ ROUNDS) → Begin b.run (clocks_of b.meeting lists)
+    → IsDesign b.run.design → (1 ≤ b.run.rounds) × (b.run.rounds ≤ ROUNDS) → HaveFreshClocks b.run (clocks_of b.meeting lists)
     → IsCourse (course_of b lists (replicate (length b.run.design.components) note.Open))
 course_opens b lists fresh design rounds begin =
     let count = length b.run.design.components in
@@ -101,7 +101,7 @@ same_readings (c ∷ cs) = ap (λ rs. c.readings ∷ rs) (same_readings cs)
 
 begins_by : (b : BusValue) (clocks : Clocks) (meeting : Bool) → b.meeting ≡ meeting → AreClocksOf b clocks
     → All (λ (c : ClockState). IsNonDecreasing c.readings) (fresh_of clocks)
-    → Begin b.run (clocks_of meeting (fresh_of clocks))
+    → HaveFreshClocks b.run (clocks_of meeting (fresh_of clocks))
     × (lists_in (clocks_of meeting (fresh_of clocks)) ≡ lists_in clocks)
 begins_by b Meet true is are order = (tt, refl)
 begins_by b Meet false is are order = absurd (let both : false ≡ true = sym is ∙ are in cc)
@@ -117,7 +117,7 @@ begins_by b (Lists lists) false is are order = (
 
 -- the clocks begin, and have the readings of those that are handed in
 pub record Begins (b : BusValue) (clocks : Clocks) (lists : List ClockState) : Type 0 where
-  pub begin : Begin b.run (clocks_of b.meeting lists)
+  pub begin : HaveFreshClocks b.run (clocks_of b.meeting lists)
   pub same : lists_in (clocks_of b.meeting lists) ≡ lists_in clocks
 
 pub begins : (b : BusValue) (clocks : Clocks) (lists : List ClockState) → AreClocksOf b clocks → lists ≡ fresh_of clocks

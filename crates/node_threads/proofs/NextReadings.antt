@@ -8,7 +8,7 @@ use Rattle.std.proofs.lemmas.List.{get_or_read, set-get_or}
 use Rattle.std.proofs.lemmas.Option.{same_Some, none-some}
 use Rattle.pals_base.specs.declared.limits.TheConstants.{READING}
 use Rattle.pals_base.specs.declared.values.NodeNo.{NodeNo}
-use Rattle.pals_base.specs.ClockPicks.{reached}
+use Rattle.pals_base.specs.ClockPicks.{remaining_from}
 use Rattle.pals_clock.specs.ClockStates.{ClockState, standing_at}
 use Rattle.pals_clock.specs.declared.clock.Clocks.{Clocks}
 use Rattle.pals_clock.specs.declared.clock.Clocks.TheVariants.{Meet, Lists}
@@ -137,15 +137,15 @@ own_lists bus lists notes v is apart =
     (lists, ap (λ (w : CourseValue). w.clocks) (sym is) ∙ ap (λ m. clocks_of m lists) apart)
 
 head_by : (r : ℕ) (later : List ℕ) (goal at : ℕ) (b : Bool) → nat_lt r goal ≡ b
-    → (slice_get (reached later goal) 0 ≡ Some at → goal ≤ at)
-    → slice_get (cond b (reached later goal) (r ∷ later)) 0 ≡ Some at → goal ≤ at
+    → (slice_get (remaining_from later goal) 0 ≡ Some at → goal ≤ at)
+    → slice_get (cond b (remaining_from later goal) (r ∷ later)) 0 ≡ Some at → goal ≤ at
 head_by r later goal at true test rest is = rest is
 head_by r later goal at false test rest is =
     let same : r ≡ at = same_Some r at is in
     let most : goal ≤ r = grind (arith, common_steps) in
     omega arith
 
-reached_head : (left : List ℕ) (goal at : ℕ) → slice_get (reached left goal) 0 ≡ Some at → goal ≤ at
+reached_head : (left : List ℕ) (goal at : ℕ) → slice_get (remaining_from left goal) 0 ≡ Some at → goal ≤ at
 reached_head [] goal at is = absurd (none-some at is)
 reached_head (r ∷ later) goal at is = head_by r later goal at (nat_lt r goal) refl (reached_head later goal at) is
 
@@ -161,7 +161,7 @@ pub record Picked (old new : CourseValue) (node : NodeNo) (next : Next) {E : Typ
 pub record Waited (old new : ClockState) (goal : ℕ) {E : Type 0} (result : Result ℕ E) : Type 0 where
   pub pick : IfOk result (λ reading. slice_get new.left 0 ≡ Some reading)
   pub range : IfOk result (λ reading. reading ≤ READING)
-  pub stands : OnOk result (new ≡ standing_at old (reached old.left goal))
+  pub stands : OnOk result (new ≡ standing_at old (remaining_from old.left goal))
   pub ended : IsErr result ↔ All (λ reading. reading < goal) old.left
   pub same : OnErr result (new ≡ old)
 
@@ -175,15 +175,15 @@ lists_picked bus lists notes node next new (Ok reading) apart course is_open is 
     let clock = clock_at lists node.0 in
     let come = comes (course_of bus lists notes) node.0 next is in
     let action = next.action in
-    let stands : new ≡ standing_at clock (reached clock.left (target plan action)) = waited.stands
-    ∙ ap (λ (k : ℕ). standing_at clock (reached clock.left k)) come.target_is in
+    let stands : new ≡ standing_at clock (remaining_from clock.left (target plan action)) = waited.stands
+    ∙ ap (λ (k : ℕ). standing_at clock (remaining_from clock.left k)) come.target_is in
     let here =
     subst (λ (m : Bool). IsCourse (record { bus = bus; clocks = clocks_of m lists; notes = notes })) apart course in
     let goes = pick_goes bus lists notes node.0 action here is_open.within come.action_is is_open.noted in
     let inside : node.0 < length lists = (let most = is_open.within in omega (arith, here.lists)) in
     let at_node : clock_at (slice_set lists node.0 new) node.0 ≡ new =
     get_or-set_at lists node.0 node.0 new no_clock refl inside in
-    let head : slice_get (reached clock.left next.target) 0 ≡ Some reading =
+    let head : slice_get (remaining_from clock.left next.target) 0 ≡ Some reading =
     ap (λ (k : ClockState). slice_get k.left 0) (sym waited.stands) ∙ waited.pick in
     let most : next.target ≤ reading = reached_head clock.left next.target reading head in
     record {
@@ -224,7 +224,7 @@ lists_picked bus lists notes node next new (Err e) apart course is_open is waite
     let clock = clock_at lists node.0 in
     let come = comes (course_of bus lists notes) node.0 next is in
     let below = waited.ended.0 refl in
-    let none : reached clock.left (target plan next.action) ≡ [] = ap (reached clock.left) (sym come.target_is)
+    let none : remaining_from clock.left (target plan next.action) ≡ [] = ap (remaining_from clock.left) (sym come.target_is)
     ∙ reached_none clock.left next.target below in
     let same : slice_set lists node.0 new ≡ lists = ap (λ (k : ClockState). slice_set lists node.0 k) waited.same
     ∙ set-get_or lists node.0 no_clock in

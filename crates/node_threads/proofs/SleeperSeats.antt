@@ -7,7 +7,7 @@ use Rattle.node_threads.specs.declared.sleepers.ThreadSlot.{ThreadSlot}
 use Rattle.node_threads.specs.proof.Sleepers.{seat_at, free_seat}
 
 -- past the last seat
-pub none_seat : (seats : List ThreadSlot) (node : ℕ) → None ≡ slice_get seats node → seat_at seats node ≡ free_seat
+pub none_seat : (threads : List ThreadSlot) (node : ℕ) → None ≡ slice_get threads node → seat_at threads node ≡ free_seat
 none_seat [] node is = refl
 none_seat (s ∷ ss) zero is = absurd (cc)
 none_seat (s ∷ ss) (suc k) is = none_seat ss k is

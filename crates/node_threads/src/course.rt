@@ -4,7 +4,7 @@ ghost use Rattle.pals_base.specs.declared.limits.TheConstants.{COMPONENTS};
 ghost use Rattle.bus_machine.specs.proof.AgreementLaws.{IsRunOf};
 ghost use Rattle.pals_bus.specs.proof.Meeting.{HasEnded};
 ghost use Rattle.pals_bus.specs.proof.OpeningNodes.{opening_bus};
-ghost use Rattle.run_laws.specs.Runs.{target_of, Begin, Runs};
+ghost use Rattle.run_laws.specs.Runs.{target_of, HaveFreshClocks, Runs};
 ghost use Rattle.node_threads.specs.proof.SharedCourses.{clocks_of, IsCourse, Stays, IsOpen, IsDone, next_in, is_send};
 ghost use Rattle.node_threads.specs.proof.NodeEndsAndOutcomes.{AllEnded, EndsFit, end_in, phase_end, closed_end};
 
@@ -49,7 +49,7 @@ impl SharedRun {
     /// nodes meet.
     pub fn new(alloc: Global, bus: Bus, lists: Items<ListClock>) -> Result<SharedRun, NoMemory>
         requires opening { bus ≡ opening_bus bus.run bus.codes bus.meeting }
-        requires clocks { Begin bus.run (clocks_of bus.meeting lists) }
+        requires clocks { HaveFreshClocks bus.run (clocks_of bus.meeting lists) }
         ensures { IfOk result (λ c. (c.bus ≡ bus) × (c.clocks ≡ clocks_of bus.meeting lists)) }
     {
         bus.agreement();

@@ -22,7 +22,7 @@ pub struct ThreadSlot {
 /// Who sleeps, and who is to be woken once the lock is free.
 #[derive(Drop)]
 pub struct Sleepers {
-    seats: Items<ThreadSlot>,
+    threads: Items<ThreadSlot>,
     // Where the nodes meet, the least target when it was last looked for, in nanoseconds.
     hour: Nanos,
     wakes: WakeList,
@@ -31,15 +31,15 @@ pub struct Sleepers {
 impl Sleepers {
     /// Nobody sleeps, and each of `count` nodes has a thread of its own.
     pub fn new(alloc: Global, count: u32) -> Result<Sleepers, NoMemory>
-        ensures { IfOk result (λ s. s ≡ record { seats = replicate count free_seat; hour = 0; wakes = no_wakes }) }
+        ensures { IfOk result (λ s. s ≡ record { threads = replicate count free_seat; hour = 0; wakes = no_wakes }) }
     {
         let seat = ThreadSlot {
             of_caller: false,
             sleeps: false,
         };
-        let seats = vec![in alloc; seat; count as usize]?;
+        let threads = vec![in alloc; seat; count as usize]?;
         Ok(Sleepers {
-            seats: Items::from_vec(seats),
+            threads: Items::from_vec(threads),
             hour: 0,
             wakes: WakeList::none(),
         })
@@ -47,7 +47,7 @@ impl Sleepers {
 
     /// The calling thread has a node.
     pub fn give_to_caller(&mut self, node: NodeNo)
-        ensures { self.new ≡ with_seat self.old node.0 (record { of_caller = true; sleeps = (seat_at self.old.seats node.0).sleeps }) }
+        ensures { self.new ≡ with_seat self.old node.0 (record { of_caller = true; sleeps = (seat_at self.old.threads node.0).sleeps }) }
     {
         let sleeps = self.seat(node).sleeps;
         self.put(
@@ -61,14 +61,14 @@ impl Sleepers {
 
     /// Whether the calling thread has a node.
     pub fn is_of_caller(&self, node: NodeNo) -> bool
-        ensures { result ≡ (seat_at self.now.seats node.0).of_caller }
+        ensures { result ≡ (seat_at self.now.threads node.0).of_caller }
     {
         self.seat(node).of_caller
     }
 
     /// Whether the thread of a node sleeps on, which is noted.
     pub fn sleeps(&mut self, course: &SharedRun, node: NodeNo) -> bool
-        ensures noted { self.new ≡ with_seat self.old node.0 (record { of_caller = (seat_at self.old.seats node.0).of_caller; sleeps = result }) }
+        ensures noted { self.new ≡ with_seat self.old node.0 (record { of_caller = (seat_at self.old.threads node.0).of_caller; sleeps = result }) }
         ensures waits { IsTrue result → Waits course.now self.old.hour node.0 }
     {
         let sleeps = self.must_wait(course, node);
@@ -79,7 +79,7 @@ impl Sleepers {
 
     /// Whether no node of the calling thread may go on any more.
     pub fn caller_is_over(&self, course: &SharedRun) -> bool
-        ensures { IsTrue result → (node : ℕ) → IsOpen course.now node → (seat_at self.now.seats node).of_caller ≡ true → IsDone course.now node }
+        ensures { IsTrue result → (node : ℕ) → IsOpen course.now node → (seat_at self.now.threads node).of_caller ≡ true → IsDone course.now node }
     {
         for number in 0..course.count() {
             if !self.is_over(course, NodeNo(number)) {
@@ -91,7 +91,7 @@ impl Sleepers {
 
     // Whether a node is not the calling thread's, or may not go on any more.
     fn is_over(&self, course: &SharedRun, node: NodeNo) -> bool
-        ensures { IsTrue result → IsOpen course.now node.0 → (seat_at self.now.seats node.0).of_caller ≡ true → IsDone course.now node.0 }
+        ensures { IsTrue result → IsOpen course.now node.0 → (seat_at self.now.threads node.0).of_caller ≡ true → IsDone course.now node.0 }
     {
         !self.is_of_caller(node) || !course.is_open(node)
     }
@@ -120,9 +120,9 @@ impl Sleepers {
 
     // The seat of a node.
     fn seat(&self, node: NodeNo) -> ThreadSlot
-        ensures { result ≡ seat_at self.now.seats node.0 }
+        ensures { result ≡ seat_at self.now.threads node.0 }
     {
-        match self.seats.get(node.0 as usize) {
+        match self.threads.get(node.0 as usize) {
             Some(seat) => *seat,
             None => ThreadSlot {
                 of_caller: false,
@@ -135,8 +135,8 @@ impl Sleepers {
     fn put(&mut self, node: NodeNo, seat: ThreadSlot)
         ensures { self.new ≡ with_seat self.old node.0 seat }
     {
-        if (node.0 as usize) < self.seats.len() {
-            self.seats.set(node.0 as usize, seat);
+        if (node.0 as usize) < self.threads.len() {
+            self.threads.set(node.0 as usize, seat);
         }
     }
 
@@ -159,7 +159,7 @@ impl Sleepers {
 
     // Wakes the thread that has a node, where it sleeps.
     fn wake(&mut self, node: NodeNo)
-        ensures awake { (seat_at self.new.seats node.0).sleeps ≡ false }
+        ensures awake { (seat_at self.new.threads node.0).sleeps ≡ false }
         ensures rouses { Rouses self.old self.new }
     {
         let seat = self.seat(node);

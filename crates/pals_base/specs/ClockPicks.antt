@@ -2,9 +2,9 @@
 use Rattle.std.specs.Prelude.{ℕ, nat_lt, if◌then◌else◌, List, [], ◌∷◌}
 
 -- from the first reading on that is at least the target
-abbrev pub reached : List ℕ → ℕ → List ℕ
-reached [] target = []
-reached (reading ∷ later) target = if nat_lt reading target then reached later target else reading ∷ later
+abbrev pub remaining_from : List ℕ → ℕ → List ℕ
+remaining_from [] target = []
+remaining_from (reading ∷ later) target = if nat_lt reading target then remaining_from later target else reading ∷ later
 
 -- the first of the readings, if there is one, before the answers to come
 abbrev pub picked : List ℕ → List ℕ → List ℕ
@@ -15,4 +15,4 @@ picked (reading ∷ later) answers = reading ∷ answers
 -- it where it is at least the target, else the first later reading that is. It ends at the first target without one.
 abbrev pub picks : List ℕ → List ℕ → List ℕ
 picks readings [] = []
-picks readings (target ∷ targets) = picked (reached readings target) (picks (reached readings target) targets)
+picks readings (target ∷ targets) = picked (remaining_from readings target) (picks (remaining_from readings target) targets)

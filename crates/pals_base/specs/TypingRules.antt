@@ -56,24 +56,24 @@ abbrev pub truths_at : Kinds → Kinds → Bool
 truths_at a b = a.boolean && b.boolean
 
 -- what an operator gives of both sides: of two numbers a number or a comparison, of two truth values a truth value
-abbrev pub joined : Op → Kinds → Kinds → Kinds
-joined Add a b = may_be (numbers_at a b) false
-joined Sub a b = may_be (numbers_at a b) false
-joined Mul a b = may_be (numbers_at a b) false
-joined Quot a b = may_be (numbers_at a b) false
-joined Mod a b = may_be (numbers_at a b) false
-joined Rem a b = may_be (numbers_at a b) false
-joined Eq a b = may_be false (numbers_at a b || truths_at a b)
-joined Ne a b = may_be false (numbers_at a b || truths_at a b)
-joined Lt a b = may_be false (numbers_at a b)
-joined Le a b = may_be false (numbers_at a b)
-joined Gt a b = may_be false (numbers_at a b)
-joined Ge a b = may_be false (numbers_at a b)
-joined And a b = may_be false (truths_at a b)
-joined Or a b = may_be false (truths_at a b)
-joined Xor a b = may_be false (truths_at a b)
-joined AndThen a b = may_be false (truths_at a b)
-joined OrElse a b = may_be false (truths_at a b)
+abbrev pub operator_kinds : Op → Kinds → Kinds → Kinds
+operator_kinds Add a b = may_be (numbers_at a b) false
+operator_kinds Sub a b = may_be (numbers_at a b) false
+operator_kinds Mul a b = may_be (numbers_at a b) false
+operator_kinds Quot a b = may_be (numbers_at a b) false
+operator_kinds Mod a b = may_be (numbers_at a b) false
+operator_kinds Rem a b = may_be (numbers_at a b) false
+operator_kinds Eq a b = may_be false (numbers_at a b || truths_at a b)
+operator_kinds Ne a b = may_be false (numbers_at a b || truths_at a b)
+operator_kinds Lt a b = may_be false (numbers_at a b)
+operator_kinds Le a b = may_be false (numbers_at a b)
+operator_kinds Gt a b = may_be false (numbers_at a b)
+operator_kinds Ge a b = may_be false (numbers_at a b)
+operator_kinds And a b = may_be false (truths_at a b)
+operator_kinds Or a b = may_be false (truths_at a b)
+operator_kinds Xor a b = may_be false (truths_at a b)
+operator_kinds AndThen a b = may_be false (truths_at a b)
+operator_kinds OrElse a b = may_be false (truths_at a b)
 
 abbrev mutual
   -- the types that an expression may have within `loops` loops; none where it is not well typed
@@ -90,7 +90,7 @@ abbrev mutual
   -- the later operands of a chain, from the types of what stands left of them
   pub kinds_along : Operands → BehaviourParts → ℕ → Kinds → Kinds
   kinds_along NoMore b loops left = left
-  kinds_along (Then op e rest) b loops left = kinds_along rest b loops (joined op left (kinds_of e b loops))
+  kinds_along (Then op e rest) b loops left = kinds_along rest b loops (operator_kinds op left (kinds_of e b loops))
 
 -- ---- actions
 abbrev pub suits_variable : Option VarDecl → Kinds → Bool

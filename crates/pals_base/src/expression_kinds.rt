@@ -1,7 +1,7 @@
 //! The types that an expression may have.
 ghost use Rattle.std.specs.Prelude.{◌≡◌, option_copied};
 ghost use Rattle.pals_base.specs.proof.TreeViews.{tree_of, operands_along};
-ghost use Rattle.pals_base.specs.TypingRules.{may_be, only, allows, literal_kinds, port_kinds, variable_kinds, joined};
+ghost use Rattle.pals_base.specs.TypingRules.{may_be, only, allows, literal_kinds, port_kinds, variable_kinds, operator_kinds};
 ghost use Rattle.pals_base.specs.TypingRules.{kinds_of, kinds_along};
 
 use crate::behaviour::{BehaviourParts, Expr, Kind, Op, Operand, PortDecl};
@@ -60,7 +60,7 @@ impl Kinds {
 
     // What an operator gives of both sides.
     fn joined(self, op: Op, right: Kinds) -> Kinds
-        ensures { result ≡ joined op self right }
+        ensures { result ≡ operator_kinds op self right }
     {
         let numbers = self.integer && right.integer;
         let truths = self.boolean && right.boolean;

@@ -18,7 +18,7 @@ use Rattle.bus_machine.specs.Machine.{Arrive, arrival, early_stop}
 use Rattle.bus_machine.specs.Replay.{entries, stop_entry}
 use Rattle.pals_bus.specs.declared.bus_fields.BusFields.{BusFields}
 use Rattle.pals_bus.specs.BusValues.{BusValue, Happens}
-use Rattle.pals_bus.specs.proof.BusInvariant.{Keeps, owed, run_of, state_of, value_of}
+use Rattle.pals_bus.specs.proof.BusInvariant.{IsBusInvariant, owed, run_of, state_of, value_of}
 use Rattle.pals_bus.specs.proof.DueQueues.{is_copy_of}
 use Rattle.pals_bus.specs.proof.DueMessages.{TakesDue, takes_next, AreLeft}
 use Rattle.pals_bus.proofs.EqualDueReadings.{SameDue, same_dues}
@@ -27,13 +27,13 @@ use Rattle.pals_bus.proofs.FirstDueArrival.{first_flies, first_in_flight, is_nex
 
 -- the first messages have arrived, and the others are left
 pub record Arriving (first now : BusFields) (node reading at : ℕ) (due : List DueEntry) : Type 0 where
-  pub keeps : Keeps now
+  pub keeps : IsBusInvariant now
   pub going : now.stop ≡ None
   pub takes : TakesDue node reading (value_of first) (value_of now)
   pub left : AreLeft (value_of now) node reading (drop at due)
   pub room : length now.journal.items + sum_by owed now.nodes + (length due - at) + 4 ≤ vec_capacity now.journal
 
-pub flights_many : (f : BusFields) → Keeps f → length (state_of f).flights ≡ length (arc_value f.design).links
+pub flights_many : (f : BusFields) → IsBusInvariant f → length (state_of f).flights ≡ length (arc_value f.design).links
 flights_many f keeps = length-map f.flights (λ (k : FlightState). k.copies) ∙ keeps.flight_count
 
 first_link : (b : BusValue) (node reading : ℕ) (x : DueEntry) (rest : List DueEntry)
@@ -112,7 +112,7 @@ longer_by_one b c message reading happens going =
 
 pub arriving_more : (first now next : BusFields) (node reading at : ℕ) (due : List DueEntry) (message : DueEntry)
     → Arriving first now node reading at due → at < length due → message ≡ slice_index_or due at message
-    → Happens (value_of now) (Arrive message.link message.round (Some reading)) (value_of next) → Keeps next
+    → Happens (value_of now) (Arrive message.link message.round (Some reading)) (value_of next) → IsBusInvariant next
     → next.stop ≡ None → sum_by owed next.nodes ≡ sum_by owed now.nodes
     → vec_capacity next.journal ≡ vec_capacity now.journal
     → Arriving first next node reading (at + 1) due

@@ -26,7 +26,7 @@ use Rattle.pals_node.specs.proof.NodeValues.{NodeValue, with_state}
 use Rattle.pals_bus.specs.declared.bus_fields.BusFields.{BusFields}
 use Rattle.pals_bus.specs.proof.NodeLists.{node_value, node_of}
 use Rattle.pals_bus.specs.BusValues.{Happens}
-use Rattle.pals_bus.specs.proof.BusInvariant.{Keeps, owed, run_of, state_of, value_of, copies_in}
+use Rattle.pals_bus.specs.proof.BusInvariant.{IsBusInvariant, owed, run_of, state_of, value_of, copies_in}
 use Rattle.pals_bus.specs.proof.OutOfRangeDefaults.{no_flight, no_node_value}
 use Rattle.pals_bus.proofs.NodeChanges.{nodes-set, node_is, same_node}
 use Rattle.pals_bus.proofs.FlightRooms.{flight_is, rooms-set}
@@ -44,7 +44,7 @@ wide_slots None port n count within = absurd (omega (arith, within))
 wide_slots (Some c) port n count within = let is = count c refl in omega (arith, is, within)
 
 -- the target of a link has a slot for it
-pub has_slot : (f : BusFields) (link : ℕ) → Keeps f → link < length (arc_value f.design).links
+pub has_slot : (f : BusFields) (link : ℕ) → IsBusInvariant f → link < length (arc_value f.design).links
     → (slice_index_or (arc_value f.design).links link no_link).in_port
     < length (node_at (state_of f) (slice_index_or (arc_value f.design).links link no_link).target.0).slots
 has_slot f link keeps within =
@@ -71,7 +71,7 @@ owed_same n m port round tuple is =
     ap₂ (λ p b. (if is_some (running_step p) then 1 else 0) + (if b then 0 else 1))
     (ap (λ (s : NodeState). s.phase) is ∙ kept.1) (ap (λ (s : NodeState). s.sent) is ∙ kept.0)
 
-pub owed_arrived : (f : BusFields) (node : ℕ) (m : NodeValue) (port round : ℕ) (tuple : List PortValue) → Keeps f
+pub owed_arrived : (f : BusFields) (node : ℕ) (m : NodeValue) (port round : ℕ) (tuple : List PortValue) → IsBusInvariant f
     → node < length f.nodes
     → m ≡ with_state (node_value (value_of f) node) (received (node_at (state_of f) node) port round tuple)
     → sum_by owed (slice_set f.nodes node m) ≡ sum_by owed f.nodes
@@ -131,7 +131,7 @@ come_is f t g link round reading tuple m comes =
     record k { nodes = slice_set k.nodes target m; stop = g.stop; journal = g.journal } in u) comes.takes.others
 
 pub arrive_happens : (f t g : BusFields) (link : LinkNo) (round : ℕ) (reading : Option ℕ) (tuple : List PortValue)
-    (m : NodeValue) → Keeps f → f.stop ≡ None → link.0 < length (arc_value f.design).links
+    (m : NodeValue) → IsBusInvariant f → f.stop ≡ None → link.0 < length (arc_value f.design).links
     → Comes f t g link round reading tuple m
     → Happens (value_of f) (Arrive link round reading) (value_of g)
 arrive_happens f t g link round reading tuple m keeps going within comes =
@@ -161,9 +161,9 @@ one_stop None = omega arith
 one_stop (Some why) = omega arith
 
 pub arrive_keeps_bus : (f t g : BusFields) (link : LinkNo) (round : ℕ) (reading : Option ℕ) (tuple : List PortValue)
-    (m : NodeValue) → Keeps f → link.0 < length (arc_value f.design).links → Comes f t g link round reading tuple m
+    (m : NodeValue) → IsBusInvariant f → link.0 < length (arc_value f.design).links → Comes f t g link round reading tuple m
     → Happens (value_of f) (Arrive link round reading) (value_of g)
-    → length f.journal.items + sum_by owed f.nodes + 2 ≤ vec_capacity g.journal → Keeps g
+    → length f.journal.items + sum_by owed f.nodes + 2 ≤ vec_capacity g.journal → IsBusInvariant g
 arrive_keeps_bus f t g link round reading tuple m keeps within comes happens room =
     let links = (arc_value f.design).links in
     let s = state_of f in
@@ -183,7 +183,7 @@ arrive_keeps_bus f t g link round reading tuple m keeps within comes happens roo
     ∙ length-append f.journal.items
     (entry.Arrive link round reading (arrival (run_of f) s link round) ∷ stop_entry why) in
     let one = one_stop why in
-    let all : Keeps (come f t g target m) = record {
+    let all : IsBusInvariant (come f t g target m) = record {
       design = keeps.design;
       outgoing = keeps.outgoing;
       rounds = keeps.rounds;
@@ -211,7 +211,7 @@ arrive_keeps_bus f t g link round reading tuple m keeps within comes happens roo
           (goes_on (Arrive link round reading) keeps.replays step.step);
       place = omega (arith, size, one, less, room);
     } in
-    subst Keeps (sym is) all
+    subst IsBusInvariant (sym is) all
 
 -- ---- the calls of an arrival
 abbrev pub node_after : List NodeValue → ℕ → ℕ → ℕ → List PortValue → NodeValue
@@ -219,7 +219,7 @@ node_after nodes target port round tuple =
     with_state (node_of nodes target) (received (node_of nodes target).state port round tuple)
 
 -- the node that a message comes to is there
-pub reached_within : (f t : BusFields) (link : LinkNo) (round : ℕ) (tuple : Option (List PortValue)) (target : ℕ) → Keeps f
+pub reached_within : (f t : BusFields) (link : LinkNo) (round : ℕ) (tuple : Option (List PortValue)) (target : ℕ) → IsBusInvariant f
     → link.0 < length (arc_value f.design).links → Takes f t link round tuple
     → target ≡ (slice_index_or (arc_value f.design).links link.0 no_link).target.0 → target < length t.nodes
 reached_within f t link round tuple target keeps within takes target_is =
@@ -229,7 +229,7 @@ reached_within f t link round tuple target keeps within takes target_is =
     omega (arith, nodes, count, there, target_is)
 
 -- the node, as it stands then
-node_reached : (f t : BusFields) (link : LinkNo) (round : ℕ) (tuple : Option (List PortValue)) (target : ℕ) → Keeps f
+node_reached : (f t : BusFields) (link : LinkNo) (round : ℕ) (tuple : Option (List PortValue)) (target : ℕ) → IsBusInvariant f
     → link.0 < length (arc_value f.design).links → Takes f t link round tuple
     → target ≡ (slice_index_or (arc_value f.design).links link.0 no_link).target.0
     → node_of t.nodes target
@@ -243,7 +243,7 @@ node_reached f t link round tuple target keeps within takes target_is =
     ∙ node_is f goal keeps (omega (arith, count, there))
 
 pub slot_reached : (f t : BusFields) (link : LinkNo) (round : ℕ) (tuple : Option (List PortValue))
-    (target port : ℕ) → Keeps f
+    (target port : ℕ) → IsBusInvariant f
     → link.0 < length (arc_value f.design).links → Takes f t link round tuple
     → target ≡ (slice_index_or (arc_value f.design).links link.0 no_link).target.0
     → port ≡ (slice_index_or (arc_value f.design).links link.0 no_link).in_port
@@ -256,7 +256,7 @@ slot_reached f t link round tuple target port keeps within takes target_is port_
 
 -- what the node answers is what the machine says
 pub arrival_is : (f t : BusFields) (link : LinkNo) (round : ℕ) (tuple : Option (List PortValue)) (target port : ℕ)
-    (result : Arrived) → Keeps f → link.0 < length (arc_value f.design).links → Takes f t link round tuple
+    (result : Arrived) → IsBusInvariant f → link.0 < length (arc_value f.design).links → Takes f t link round tuple
     → target ≡ (slice_index_or (arc_value f.design).links link.0 no_link).target.0
     → port ≡ (slice_index_or (arc_value f.design).links link.0 no_link).in_port
     → result ≡ arrived (node_of t.nodes target).state port round
@@ -267,7 +267,7 @@ arrival_is f t link round tuple target port result keeps within takes target_is 
 
 pub comes_by : (f t g : BusFields) (link : LinkNo) (round : ℕ) (reading : Option ℕ) (tuple : List PortValue)
     (target port : ℕ)
-    (result : Arrived) (first : List JournalEntry) → Keeps f → link.0 < length (arc_value f.design).links
+    (result : Arrived) (first : List JournalEntry) → IsBusInvariant f → link.0 < length (arc_value f.design).links
     → Takes f t link round (Some tuple) → target ≡ (slice_index_or (arc_value f.design).links link.0 no_link).target.0
     → port ≡ (slice_index_or (arc_value f.design).links link.0 no_link).in_port
     → result ≡ arrived (node_of t.nodes target).state port round

@@ -21,7 +21,7 @@ use Rattle.bus_machine.specs.States.{flight_at}
 use Rattle.bus_machine.specs.Plans.{no_link}
 use Rattle.pals_node.specs.proof.NodeValues.{NodeValue}
 use Rattle.pals_bus.specs.declared.bus_fields.BusFields.{BusFields}
-use Rattle.pals_bus.specs.proof.BusInvariant.{Keeps, state_of, value_of, copies_in}
+use Rattle.pals_bus.specs.proof.BusInvariant.{IsBusInvariant, state_of, value_of, copies_in}
 use Rattle.pals_bus.specs.proof.RoundMessages.{NoLessRoom}
 use Rattle.pals_bus.specs.proof.DueQueues.{AreQueues, without_due}
 use Rattle.pals_bus.specs.proof.OutOfRangeDefaults.{no_flight, no_queue}
@@ -124,10 +124,10 @@ none_value f g link round takes =
     ∙ ap (λ (cs : List (List FlightCopy)). record (value_of f) { state = record (state_of f) { flights = cs } })
     (same_copies f g link round takes)
 
-pub none_keeps : (f g : BusFields) (link : LinkNo) (round : ℕ) → Keeps f → Takes f g link round None → Keeps g
+pub none_keeps : (f g : BusFields) (link : LinkNo) (round : ℕ) → IsBusInvariant f → Takes f g link round None → IsBusInvariant g
 none_keeps f g link round keeps takes =
     let h : BusFields = record f { flights = g.flights; queues = g.queues } in
-    subst Keeps (sym takes.others)
+    subst IsBusInvariant (sym takes.others)
     (keeps_room f h keeps refl refl (same_count f g link round None takes) (same_copies f g link round takes)
     takes.room takes.queues refl (omega arith))
 
@@ -155,7 +155,7 @@ taken_copies flights at round n flight within is same =
 
 -- the flight and the queue after the calls that take a message
 pub queues_left : (f : BusFields) (ls : List Link) (link : LinkNo) (round : ℕ) (copy : FlightCopy)
-    (n m flight : FlightState) (q queue : QueueState) → Keeps f → ls ≡ (arc_value f.design).links
+    (n m flight : FlightState) (q queue : QueueState) → IsBusInvariant f → ls ≡ (arc_value f.design).links
     → link.0 < length (arc_value f.design).links
     → n ≡ slice_index_or f.flights link.0 n → Some copy ≡ oldest round n.copies → m ≡ slice_index_or f.flights link.0 m
     → flight.copies ≡ without_oldest round m.copies

@@ -22,9 +22,9 @@ use Rattle.bus_machine.specs.Plans.{link_at, no_link}
 use Rattle.pals_model.specs.Flights.{is_of}
 use Rattle.pals_bus.specs.declared.bus_fields.BusFields.{BusFields}
 use Rattle.pals_bus.specs.BusValues.{BusValue}
-use Rattle.pals_bus.specs.proof.BusInvariant.{Keeps, value_of}
+use Rattle.pals_bus.specs.proof.BusInvariant.{IsBusInvariant, value_of}
 use Rattle.pals_bus.specs.proof.OutOfRangeDefaults.{no_queue}
-use Rattle.pals_bus.specs.proof.DueQueues.{AreDueEntries, comes_first, is_copy_of, flying}
+use Rattle.pals_bus.specs.proof.DueQueues.{AreDueEntries, comes_first, is_copy_of, copies_in_flight}
 use Rattle.pals_bus.specs.proof.DueMessages.{IsDueTo, HasDue, AreLeft}
 use Rattle.pals_bus.proofs.FlightRooms.{flight_is}
 use Rattle.pals_bus.proofs.QueueChanges.{one_or_none}
@@ -81,10 +81,10 @@ due_counts q e xs true is = kept_counts q e xs is
 due_counts q e xs false is = dropped_counts q e xs is
 
 -- as many entries of a queue are due as copies are in flight
-pub counts_at_first : (f : BusFields) (node reading : ℕ) (queue : QueueState) → Keeps f
+pub counts_at_first : (f : BusFields) (node reading : ℕ) (queue : QueueState) → IsBusInvariant f
     → queue ≡ slice_index_or f.queues node no_queue → (e : DueEntry)
     → count_by (is_entry e) (filter (is_due_at reading) queue.entries)
-    ≡ (if is_due_at reading e then flying (value_of f) node e else 0)
+    ≡ (if is_due_at reading e then copies_in_flight (value_of f) node e else 0)
 counts_at_first f node reading queue keeps is e =
     due_counts (is_due_at reading) e queue.entries (is_due_at reading e) refl
     ∙ ap (λ (n : ℕ). if is_due_at reading e then n else 0)
@@ -95,7 +95,7 @@ counts_at_first f node reading queue keeps is e =
     (sym (flight_is f.flights e.link.0)))
 
 -- all messages that are due stand in the queue
-pub left_at_first : (f : BusFields) (node reading : ℕ) (queue : QueueState) (due : List DueEntry) → Keeps f
+pub left_at_first : (f : BusFields) (node reading : ℕ) (queue : QueueState) (due : List DueEntry) → IsBusInvariant f
     → queue ≡ slice_index_or f.queues node no_queue → AreDueEntries queue reading due
     → AreLeft (value_of f) node reading due
 left_at_first f node reading queue due keeps is are = record {
@@ -176,7 +176,7 @@ link_there b link place copy many is = elim (cases_lt link (length b.run.design.
 ]
 
 pub due_of_entry : (b : BusValue) (node reading : ℕ) (e : DueEntry) → length b.state.flights ≡ length b.run.design.links
-    → is_due_at reading e ≡ true → 1 ≤ flying b node e → IsDueTo b node reading e.link.0 e.round
+    → is_due_at reading e ≡ true → 1 ≤ copies_in_flight b node e → IsDueTo b node reading e.link.0 e.round
 due_of_entry b node reading e many due some =
     let parts =
     if_some (nat_eq (link_at b.run.design e.link.0).target.0 node)
@@ -200,7 +200,7 @@ pub record IsEntryOf (b : BusValue) (node reading link round : ℕ) (e : DueEntr
   pub link_is : e.link.0 ≡ link
   pub round_is : e.round ≡ round
   pub due : is_due_at reading e ≡ true
-  pub some : 1 ≤ flying b node e
+  pub some : 1 ≤ copies_in_flight b node e
 
 pub entry_of_due : (b : BusValue) (node reading link round : ℕ) → IsDueTo b node reading link round
     → (e : DueEntry) × IsEntryOf b node reading link round e
@@ -218,7 +218,7 @@ entry_of_due b node reading link round is_due_to =
     and_from (nat_eq copy.round round) (option_map_or (nat_eq reads.0) copy.due false)
     (eq-eqb copy.round round is_due_to.of_round) due in
     let count = count_some (is_copy_of e) (flight_at b.state link) is_due_to.place copy is_due_to.is_copy passes in
-    let all : flying b node e ≡ count_by (is_copy_of e) (flight_at b.state link) =
+    let all : copies_in_flight b node e ≡ count_by (is_copy_of e) (flight_at b.state link) =
     ap (λ (t : Bool). if t then count_by (is_copy_of e) (flight_at b.state link) else 0) to in
     (e, record { link_is = refl; round_is = refl; due = reads.2; some = omega (arith, count, all) })
 
@@ -291,29 +291,29 @@ due_place (x ∷ xs) reading count place is below none =
 -- ---- whether any message is due
 some_there : (b : BusValue) (node reading : ℕ) (entries : List DueEntry)
     → length b.state.flights ≡ length b.run.design.links
-    → ((e : DueEntry) → count_by (is_entry e) entries ≡ (if is_due_at reading e then flying b node e else 0))
+    → ((e : DueEntry) → count_by (is_entry e) entries ≡ (if is_due_at reading e then copies_in_flight b node e else 0))
     → 1 ≤ length entries → HasDue b node reading
 some_there b node reading [] many counts some = absurd (omega (arith, some))
 some_there b node reading (e ∷ entries) many counts some =
     let one = count_some (is_entry e) (e ∷ entries) 0 e refl (entry_is_itself e) in
     let here = counts e in
-    let parts = if_some (is_due_at reading e) (flying b node e) (omega (arith, one, here)) in
+    let parts = if_some (is_due_at reading e) (copies_in_flight b node e) (omega (arith, one, here)) in
     record { link = e.link.0; round = e.round; is_due = due_of_entry b node reading e many parts.0 parts.1 }
 
 there_some : (b : BusValue) (node reading : ℕ) (entries : List DueEntry)
-    → ((e : DueEntry) → count_by (is_entry e) entries ≡ (if is_due_at reading e then flying b node e else 0))
+    → ((e : DueEntry) → count_by (is_entry e) entries ≡ (if is_due_at reading e then copies_in_flight b node e else 0))
     → HasDue b node reading → 1 ≤ length entries
 there_some b node reading [] counts due =
     let found = entry_of_due b node reading due.link due.round due.is_due in
     let entry : IsEntryOf b node reading due.link due.round found.0 = found.1 in
     let some = entry.some in
-    let none : 0 ≡ flying b node found.0 = counts found.0
-    ∙ ap (λ (t : Bool). if t then flying b node found.0 else 0) entry.due in
+    let none : 0 ≡ copies_in_flight b node found.0 = counts found.0
+    ∙ ap (λ (t : Bool). if t then copies_in_flight b node found.0 else 0) entry.due in
     absurd (omega (arith, some, none))
 there_some b node reading (e ∷ entries) counts due = omega arith
 
 -- some entry of the queue is due just if some message is
-pub due_by_queue : (f : BusFields) (node reading : ℕ) (queue : QueueState) → Keeps f
+pub due_by_queue : (f : BusFields) (node reading : ℕ) (queue : QueueState) → IsBusInvariant f
     → queue ≡ slice_index_or f.queues node no_queue
     → length (value_of f).state.flights ≡ length (value_of f).run.design.links
     → (count : ℕ) → count ≡ count_by (is_due_at reading) queue.entries → (0 < count) ↔ HasDue (value_of f) node reading

@@ -17,7 +17,7 @@ use Rattle.pals_bus.specs.declared.bus_fields.BusFields.{BusFields}
 use Rattle.pals_bus.specs.BusValues.{BusValue, Happens}
 use Rattle.pals_bus.specs.proof.OpeningBusAndNodeValues.{codes_in}
 use Rattle.pals_bus.specs.proof.NodeLists.{node_value}
-use Rattle.pals_bus.specs.proof.BusInvariant.{AreNodes, HasRooms, Keeps, copies_in, owed, run_of, state_of, value_of}
+use Rattle.pals_bus.specs.proof.BusInvariant.{AreNodes, HasRooms, IsBusInvariant, copies_in, owed, run_of, state_of, value_of}
 use Rattle.pals_bus.specs.proof.RoundMessages.{NoLessRoom}
 use Rattle.pals_bus.specs.proof.DueQueues.{AreQueues}
 use Rattle.pals_bus.proofs.NodeChanges.{states, states-set, codes-set, same_node}
@@ -34,7 +34,7 @@ changed f node m flights stop journal = record (value_of f) {
 -- an event that changes one node
 pub node_happens : (f : BusFields) (e : BusEvent) (node : ℕ) (m : NodeValue) (s : NodeState) (flights : List FlightState)
     (copies : List (List FlightCopy)) (stop : Option Stop) (journal : List JournalEntry)
-    → Keeps f → f.stop ≡ None → node < length f.nodes → m ≡ with_state (node_value (value_of f) node) s
+    → IsBusInvariant f → f.stop ≡ None → node < length f.nodes → m ≡ with_state (node_value (value_of f) node) s
     → copies_in flights ≡ copies → is_allowed (run_of f) (state_of f) e ≡ true
     → after (run_of f) (state_of f) e
     ≡ record { nodes = slice_set (states f.nodes) node s; flights = copies; stop = stop }
@@ -76,7 +76,7 @@ flights_happen f e flights copies journal going same allowed after_is told = rec
 }
 
 -- what a bus keeps after an event
-pub keeps_event : (f g : BusFields) (e : BusEvent) → Keeps f
+pub keeps_event : (f g : BusFields) (e : BusEvent) → IsBusInvariant f
     → g ≡ record f {
       nodes = g.nodes;
       flights = g.flights;
@@ -89,9 +89,9 @@ pub keeps_event : (f g : BusFields) (e : BusEvent) → Keeps f
     → length g.flights ≡ length f.flights → HasRooms (arc_value f.design).links g.nodes g.flights
     → AreQueues (arc_value f.design).links g.nodes g.flights g.queues
     → Happens (value_of f) e (value_of g)
-    → length g.journal.items + sum_by owed g.nodes ≤ vec_capacity g.journal → Keeps g
+    → length g.journal.items + sum_by owed g.nodes ≤ vec_capacity g.journal → IsBusInvariant g
 keeps_event f g e keeps same values nodes flights rooms queues happens place =
-    let all : Keeps (record f {
+    let all : IsBusInvariant (record f {
       nodes = g.nodes;
       flights = g.flights;
       queues = g.queues;
@@ -112,18 +112,18 @@ keeps_event f g e keeps same values nodes flights rooms queues happens place =
           subst (λ j. Replays (run_of f) j (state_of g)) (sym happens.journal) (goes_on e keeps.replays happens.step);
       place = place;
     } in
-    subst Keeps (sym same) all
+    subst IsBusInvariant (sym same) all
 
 -- what a bus keeps with more room, and with other values read
-pub keeps_room : (f g : BusFields) → Keeps f
+pub keeps_room : (f g : BusFields) → IsBusInvariant f
     → g ≡ record f { flights = g.flights; queues = g.queues; journal = g.journal; values = g.values }
     → length g.values.items ≡ length f.values.items → length g.flights ≡ length f.flights
     → copies_in g.flights ≡ copies_in f.flights
     → NoLessRoom f.flights g.flights → AreQueues (arc_value f.design).links f.nodes g.flights g.queues
-    → g.journal.items ≡ f.journal.items → vec_capacity f.journal ≤ vec_capacity g.journal → Keeps g
+    → g.journal.items ≡ f.journal.items → vec_capacity f.journal ≤ vec_capacity g.journal → IsBusInvariant g
 keeps_room f g keeps same values flights copies less queues items more =
     let t : BusState = record (state_of f) { flights = copies_in g.flights } in
-    let all : Keeps (record f {
+    let all : IsBusInvariant (record f {
       flights = g.flights;
       queues = g.queues;
       journal = g.journal;
@@ -144,7 +144,7 @@ keeps_room f g keeps same values flights copies less queues items more =
           keeps.replays);
       place = (let count = ap length items in let before = keeps.place in omega (arith, count, before, more));
     } in
-    subst Keeps (sym same) all
+    subst IsBusInvariant (sym same) all
 
 -- and its value is as before
 pub value_room : (f g : BusFields)

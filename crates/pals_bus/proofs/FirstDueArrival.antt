@@ -22,7 +22,7 @@ use Rattle.bus_machine.specs.Plans.{link_at}
 use Rattle.bus_machine.specs.Runs.{Run}
 use Rattle.bus_machine.specs.Machine.{Arrive}
 use Rattle.pals_bus.specs.BusValues.{BusValue, Happens}
-use Rattle.pals_bus.specs.proof.DueQueues.{comes_first, is_copy_of, flying}
+use Rattle.pals_bus.specs.proof.DueQueues.{comes_first, is_copy_of, copies_in_flight}
 use Rattle.pals_bus.specs.proof.DueMessages.{IsDueTo, IsNextDue, TakesDue, takes_none, takes_next, AreLeft}
 use Rattle.pals_bus.proofs.QueueFlightAgreement.{contains_counted, copy_counts, counts, counts_elsewhere, count_oldest}
 use Rattle.pals_bus.proofs.EqualDueReadings.{SameDue, due_of}
@@ -33,12 +33,12 @@ use Rattle.pals_bus.proofs.DueEntriesAndCopies.{entry_of_due, not_first}
 -- ---- the first entry that is left
 -- it is due, and its copy is in flight
 pub first_flies : (b : BusValue) (node reading : ℕ) (x : DueEntry) (rest : List DueEntry)
-    → AreLeft b node reading (x ∷ rest) → (is_due_at reading x ≡ true) × (1 ≤ flying b node x)
+    → AreLeft b node reading (x ∷ rest) → (is_due_at reading x ≡ true) × (1 ≤ copies_in_flight b node x)
 first_flies b node reading x rest left =
     let counted = left.counts x in
     let all = sum_by-cons (λ y. cond (is_entry x y) 1 0) x rest in
     let one : cond {A = ℕ} (is_entry x x) 1 0 ≡ 1 = ap (λ t. cond {A = ℕ} t 1 0) (entry_is_itself x) in
-    if_some (is_due_at reading x) (flying b node x) (omega (arith, counted, all, one))
+    if_some (is_due_at reading x) (copies_in_flight b node x) (omega (arith, counted, all, one))
 
 pub first_in_flight : (b : BusValue) (node reading : ℕ) (x : DueEntry) (rest : List DueEntry)
     → AreLeft b node reading (x ∷ rest) → is_in_flight x.round (flight_at b.state x.link.0) ≡ true
@@ -72,8 +72,8 @@ is_next b node reading x rest many left =
           let e = found.0 in
           let entry : IsEntryOf b node reading other later e = found.1 in
           let some = entry.some in
-          let counted : count_by (is_entry e) (x ∷ rest) ≡ flying b node e = left.counts e
-          ∙ ap (λ (t : Bool). if t then flying b node e else 0) entry.due in
+          let counted : count_by (is_entry e) (x ∷ rest) ≡ copies_in_flight b node e = left.counts e
+          ∙ ap (λ (t : Bool). if t then copies_in_flight b node e else 0) entry.due in
           let there = contains_counted (x ∷ rest) e (omega (arith, counted, some)) in
           let order : (comes_first (slice_index_or (x ∷ rest) there.0 e) x ≡ false) ⊎ (there.0 ≡ 0) =
           elim (cases_eq there.0 0) [
@@ -126,7 +126,7 @@ first_oldest b node reading x rest same left =
 one_less : (b c : BusValue) (node reading : ℕ) (x : DueEntry) (rest : List DueEntry) (e : DueEntry)
     → SameDue (flight_at b.state x.link.0) → x.link.0 < length b.state.flights → AreLeft b node reading (x ∷ rest)
     → Happens b (Arrive x.link x.round (Some reading)) c
-    → flying b node e ≡ cond (is_entry e x) 1 0 + flying c node e
+    → copies_in_flight b node e ≡ cond (is_entry e x) 1 0 + copies_in_flight c node e
 one_less b c node reading x rest e same within left happens =
     let copies = flight_at b.state x.link.0 in
     let after = flights_after b c x.link x.round (Some reading) happens in
@@ -142,13 +142,13 @@ one_less b c node reading x rest e same within left happens =
           (first_flies b node reading x rest left).1 in
           let to : nat_eq (link_at b.run.design e.link.0).target.0 node ≡ true =
           ap (λ (k : ℕ). nat_eq (link_at b.run.design k).target.0 node) here ∙ parts.0 in
-          let before : flying b node e ≡ count_by (is_copy_of e) copies =
+          let before : copies_in_flight b node e ≡ count_by (is_copy_of e) copies =
           ap (λ (t : Bool). if t then count_by (is_copy_of e) (flight_at b.state e.link.0) else 0) to
           ∙ ap (λ (k : ℕ). count_by (is_copy_of e) (flight_at b.state k)) here in
           let flight : flight_at c.state e.link.0 ≡ without_oldest x.round copies =
           ap (λ (fs : List (List FlightCopy)). slice_index_or fs e.link.0 []) after
           ∙ get_or-set_at b.state.flights x.link.0 e.link.0 (without_oldest x.round copies) [] here within in
-          let now : flying c node e ≡ count_by (is_copy_of e) (without_oldest x.round copies) =
+          let now : copies_in_flight c node e ≡ count_by (is_copy_of e) (without_oldest x.round copies) =
           ap (λ (t : Bool). if t then count_by (is_copy_of e) (flight_at c.state e.link.0) else 0)
           (ap (λ (k : ℕ). nat_eq k node) target_is ∙ to) ∙ ap (count_by (is_copy_of e)) flight in
           let all = count_oldest (is_copy_of e) x.round copies copy first.1 in
@@ -159,7 +159,7 @@ one_less b c node reading x rest e same within left happens =
           let flight : flight_at c.state e.link.0 ≡ flight_at b.state e.link.0 =
           ap (λ (fs : List (List FlightCopy)). slice_index_or fs e.link.0 []) after
           ∙ get_or-set_other b.state.flights x.link.0 e.link.0 (without_oldest x.round copies) [] other in
-          let kept : flying c node e ≡ flying b node e =
+          let kept : copies_in_flight c node e ≡ copies_in_flight b node e =
           ap₂ (λ (k : ℕ) (cs : List FlightCopy). if nat_eq k node then count_by (is_copy_of e) cs else 0)
           target_is flight in
           let none : cond (is_entry e x) 1 0 ≡ 0 = counts_elsewhere e (Some x.due) x.link x.round other in
@@ -184,9 +184,9 @@ pub left_after : (b c : BusValue) (node reading : ℕ) (x : DueEntry) (rest : Li
     → AreLeft c node reading rest
 left_after b c node reading x rest same within left happens = record {
   counts = λ e.
-      let before : cond (is_entry e x) 1 0 + count_by (is_entry e) rest ≡ (if is_due_at reading e then flying b node e else 0) = sym (sum_by-cons (λ y. cond (is_entry e y) 1 0) x rest) ∙ left.counts e in
-      left_counts (is_due_at reading e) (flying b node e) (cond (is_entry e x) 1 0) (count_by (is_entry e) rest)
-      (flying c node e) before (λ due. one_less b c node reading x rest e same within left happens);
+      let before : cond (is_entry e x) 1 0 + count_by (is_entry e) rest ≡ (if is_due_at reading e then copies_in_flight b node e else 0) = sym (sum_by-cons (λ y. cond (is_entry e y) 1 0) x rest) ∙ left.counts e in
+      left_counts (is_due_at reading e) (copies_in_flight b node e) (cond (is_entry e x) 1 0) (count_by (is_entry e) rest)
+      (copies_in_flight c node e) before (λ due. one_less b c node reading x rest e same within left happens);
   order = ordered_rest x rest left.order;
 }
 
@@ -197,8 +197,8 @@ none_due b node reading left link round is_due_to =
     let found = entry_of_due b node reading link round is_due_to in
     let entry : IsEntryOf b node reading link round found.0 = found.1 in
     let some = entry.some in
-    let none : 0 ≡ flying b node found.0 = left.counts found.0
-    ∙ ap (λ (t : Bool). if t then flying b node found.0 else 0) entry.due in
+    let none : 0 ≡ copies_in_flight b node found.0 = left.counts found.0
+    ∙ ap (λ (t : Bool). if t then copies_in_flight b node found.0 else 0) entry.due in
     absurd (omega (arith, some, none))
 
 -- ---- the run stays

@@ -17,25 +17,25 @@ use Rattle.bus_machine.specs.Agreement.{PhaseAgrees, Agrees}
 use Rattle.bus_machine.proofs.MessageAndRunAgreement.{replay_agrees}
 use Rattle.pals_node.specs.proof.NodeValues.{NodeValue}
 use Rattle.pals_bus.specs.declared.bus_fields.BusFields.{BusFields}
-use Rattle.pals_bus.specs.proof.BusInvariant.{Keeps, run_of, state_of}
+use Rattle.pals_bus.specs.proof.BusInvariant.{IsBusInvariant, run_of, state_of}
 use Rattle.pals_bus.proofs.NodeChanges.{node_here}
 
-pub within_nodes : (f : BusFields) (node : ℕ) → Keeps f → node < length (arc_value f.design).components
+pub within_nodes : (f : BusFields) (node : ℕ) → IsBusInvariant f → node < length (arc_value f.design).components
     → node < length f.nodes
 within_nodes f node keeps within = let count = keeps.nodes.count in omega (arith, count, within)
 
 -- the state of a node
-pub state_is : (f : BusFields) (node : ℕ) (n : NodeValue) → Keeps f → node < length (arc_value f.design).components
+pub state_is : (f : BusFields) (node : ℕ) (n : NodeValue) → IsBusInvariant f → node < length (arc_value f.design).components
     → n ≡ slice_index_or f.nodes node n → n.state ≡ node_at (state_of f) node
 state_is f node n keeps within is =
     ap (λ (m : NodeValue). m.state) (node_here f node n keeps (within_nodes f node keeps within) is)
 
-pub agrees : (f : BusFields) → Keeps f → Agrees (run_of f) (state_of f)
+pub agrees : (f : BusFields) → IsBusInvariant f → Agrees (run_of f) (state_of f)
 agrees f keeps =
     replay_agrees (run_of f) f.journal.items (state_of f) (record { design = keeps.design; rounds = keeps.rounds.0 })
     keeps.replays
 
-pub many_states : (f : BusFields) → Keeps f → length (state_of f).nodes ≡ length (arc_value f.design).components
+pub many_states : (f : BusFields) → IsBusInvariant f → length (state_of f).nodes ≡ length (arc_value f.design).components
 many_states f keeps = length-map f.nodes (λ (n : NodeValue). n.state) ∙ keeps.nodes.count
 
 -- a node has finished no more rounds than it has started
@@ -47,7 +47,7 @@ parts_in run node c n (Between steps) agree = let e = agree.0.finished in omega 
 parts_in run node c n Holding agree = let e = agree.finished in omega (arith, e)
 parts_in run node c n Done agree = let e = agree.0.finished in omega (arith, e)
 
-pub parts_few : (f : BusFields) (node : ℕ) → Keeps f → node < length (arc_value f.design).components
+pub parts_few : (f : BusFields) (node : ℕ) → IsBusInvariant f → node < length (arc_value f.design).components
     → length (node_at (state_of f) node).parts ≤ ROUNDS
 parts_few f node keeps within =
     let c = component_at (arc_value f.design) node in

@@ -27,7 +27,7 @@ use Rattle.pals_bus.specs.declared.bus_error.BusError.TheVariants as fault
 use Rattle.pals_bus.specs.declared.bus_error.MessageError.{MessageError}
 use Rattle.pals_bus.specs.declared.bus_error.MessageError.TheVariants as message
 use Rattle.pals_bus.specs.BusValues.{BusValue, Happens}
-use Rattle.pals_bus.specs.LooseEvents.{IsRefused, loose_event, message_of}
+use Rattle.pals_bus.specs.LooseEvents.{IsRefused, loose_event, event_message}
 use Rattle.pals_bus.specs.proof.LooseStopsAndFaults.{LooseEnds, start_fault, step_fault, finish_fault, send_fault}
 use Rattle.pals_bus.specs.proof.LooseStopsAndFaults.{link_fault}
 use Rattle.pals_bus.specs.proof.Answers.{StartsRound, BusStartEnds, BusStepEnds, BusFinishEnds, BusSendEnds, LinkEnds}
@@ -89,7 +89,7 @@ none_runs Done not = refl
 -- ---- what is told of messages
 pub link_ends : (old new : BusValue) (e : Event) (what : BusEvent) (link : LinkNo) (round : ℕ)
     (end : BusError MessageError) → new ≡ old → LinkEnds old link round end → loose_event e ≡ Some what
-    → message_of e ≡ Some (link, round)
+    → event_message e ≡ Some (link, round)
     → is_allowed old.run old.state what ≡ is_in_flight round (flight_at old.state link.0)
     → LooseEnds old e new (link_fault end link round)
 link_ends old new e what link round (fault.Stopped why) same cause is about allowed = inl (cause, same)

@@ -14,7 +14,7 @@ use Rattle.bus_machine.specs.Machine.{Drop}
 use Rattle.bus_machine.specs.Replay.{Replays, goes_on}
 use Rattle.pals_bus.specs.declared.bus_fields.BusFields.{BusFields}
 use Rattle.pals_bus.specs.BusValues.{Happens}
-use Rattle.pals_bus.specs.proof.BusInvariant.{Keeps, owed, run_of, state_of, value_of, copies_in}
+use Rattle.pals_bus.specs.proof.BusInvariant.{IsBusInvariant, owed, run_of, state_of, value_of, copies_in}
 use Rattle.pals_bus.specs.proof.OutOfRangeDefaults.{no_flight}
 use Rattle.pals_bus.proofs.FlightRooms.{flight_is, rooms_kept}
 use Rattle.pals_bus.proofs.EventInvariants.{flights_happen}
@@ -58,18 +58,18 @@ drop_happens f t g link round tuple going takes same told =
     going (copies_left f t link round (Some tuple) takes) (some_in_flight f t link round tuple takes) refl told)
 
 
-pub drop_keeps : (f t g : BusFields) (link : LinkNo) (round : ℕ) (tuple : List PortValue) → Keeps f
+pub drop_keeps : (f t g : BusFields) (link : LinkNo) (round : ℕ) (tuple : List PortValue) → IsBusInvariant f
     → Takes f t link round (Some tuple) → g ≡ record t { journal = g.journal }
     → g.journal.items ≡ f.journal.items ++ entry.Drop link round ∷ []
     → Happens (value_of f) (Drop link round) (value_of g)
-    → length f.journal.items + sum_by owed f.nodes + 1 ≤ vec_capacity g.journal → Keeps g
+    → length f.journal.items + sum_by owed f.nodes + 1 ≤ vec_capacity g.journal → IsBusInvariant g
 drop_keeps f t g link round tuple keeps takes same told happens room =
     let h : BusFields = record f { flights = t.flights; queues = t.queues; journal = g.journal } in
     let is : g ≡ h = same ∙ ap (λ (k : BusFields). let u : BusFields = record k { journal = g.journal } in u) takes.others in
     let step : Happens (value_of f) (Drop link round) (value_of h) =
     subst (λ (k : BusFields). Happens (value_of f) (Drop link round) (value_of k)) is happens in
     let size = longer g.journal.items f.journal.items (entry.Drop link round) told in
-    let all : Keeps h = record {
+    let all : IsBusInvariant h = record {
       design = keeps.design;
       outgoing = keeps.outgoing;
       rounds = keeps.rounds;
@@ -84,4 +84,4 @@ drop_keeps f t g link round tuple keeps takes same told happens room =
           (goes_on (Drop link round) keeps.replays step.step);
       place = omega (arith, size, room);
     } in
-    subst Keeps (sym is) all
+    subst IsBusInvariant (sym is) all

@@ -18,7 +18,7 @@ use Rattle.bus_machine.specs.MissedStarts.{cause_of, rounds_sent_on}
 use Rattle.bus_machine.specs.Nodes.{sent_rounds}
 use Rattle.pals_node.specs.proof.NodeValues.{NodeValue}
 use Rattle.pals_bus.specs.declared.bus_fields.BusFields.{BusFields}
-use Rattle.pals_bus.specs.proof.BusInvariant.{Keeps, copies_in, copies_in_option, run_of, state_of}
+use Rattle.pals_bus.specs.proof.BusInvariant.{IsBusInvariant, copies_in, copies_in_option, run_of, state_of}
 use Rattle.pals_bus.proofs.NodeChanges.{node_here}
 
 -- the source of a link, or of none, is a node
@@ -40,7 +40,7 @@ copies_got (flight ∷ flights) (suc link) = copies_got flights link
 abbrev cause_by : Bool → Bool → Cause
 cause_by sent flying = if sent then (if flying then InTransit else Lost) else NotSent
 
-pub cause_told : (f : BusFields) (link round source sent : ℕ) (n : NodeValue) (flying : Bool) → Keeps f
+pub cause_told : (f : BusFields) (link round source sent : ℕ) (n : NodeValue) (flying : Bool) → IsBusInvariant f
     → 0 < length f.nodes → source ≡ (slice_index_or (arc_value f.design).links link no_link).source.0
     → n ≡ slice_index_or f.nodes source n → sent ≡ sent_rounds n.state
     → flying ≡ is_in_flight round (copies_in_option (slice_get f.flights link))

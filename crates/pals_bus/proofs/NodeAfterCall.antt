@@ -10,12 +10,12 @@ use Rattle.bus_machine.specs.Nodes.{NodeState}
 use Rattle.pals_node.specs.proof.NodeValues.{NodeValue, with_state}
 use Rattle.pals_bus.specs.declared.bus_fields.BusFields.{BusFields}
 use Rattle.pals_bus.specs.proof.NodeLists.{node_value, node_of}
-use Rattle.pals_bus.specs.proof.BusInvariant.{Keeps, node_in, value_of}
+use Rattle.pals_bus.specs.proof.BusInvariant.{IsBusInvariant, node_in, value_of}
 use Rattle.pals_bus.specs.proof.OutOfRangeDefaults.{no_node_value}
 use Rattle.pals_bus.proofs.NodeChanges.{nodes-set, node_is, node_shown, same_node}
 
 -- what contracts see of the node after it
-pub turn_shown : (f g : BusFields) (node : ℕ) (m : NodeValue) (s : NodeState) → Keeps f → node < length f.nodes
+pub turn_shown : (f g : BusFields) (node : ℕ) (m : NodeValue) (s : NodeState) → IsBusInvariant f → node < length f.nodes
     → m ≡ with_state (node_value (value_of f) node) s
     → g ≡ record f { nodes = slice_set f.nodes node m; journal = g.journal } → node_value (value_of g) node ≡ m
 turn_shown f g node m s keeps within is same =
@@ -35,6 +35,6 @@ pub record Turned (f g : BusFields) (node : ℕ) (x : JournalEntry) : Type 0 whe
   pub capacity : vec_capacity g.journal ≡ vec_capacity f.journal
 
 -- what a call says of the node, as contracts see it
-pub turn_told : (f : BusFields) (node : ℕ) (P : NodeValue → Type 0) → Keeps f → node < length f.nodes
+pub turn_told : (f : BusFields) (node : ℕ) (P : NodeValue → Type 0) → IsBusInvariant f → node < length f.nodes
     → P (node_of f.nodes node) → P (node_value (value_of f) node)
 turn_told f node P keeps within says = subst P (node_is f node keeps within) says

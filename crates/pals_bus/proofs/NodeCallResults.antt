@@ -23,7 +23,7 @@ use Rattle.pals_bus.specs.declared.bus_fields.BusFields.{BusFields}
 use Rattle.pals_bus.specs.BusValues.{BusValue, Happens}
 use Rattle.pals_bus.specs.proof.NodeLists.{node_value, node_of}
 use Rattle.pals_bus.specs.proof.Answers.{Going, StartsRound, MissesMessage, StepsOn, FinishesStep, SendsRound}
-use Rattle.pals_bus.specs.proof.BusInvariant.{Keeps, owed, node_in, copies_in, run_of, state_of, value_of}
+use Rattle.pals_bus.specs.proof.BusInvariant.{IsBusInvariant, owed, node_in, copies_in, run_of, state_of, value_of}
 use Rattle.pals_bus.specs.proof.RoundMessages.{HasRoomFor, AreSent}
 use Rattle.pals_bus.specs.proof.DueQueues.{AreQueues, AreQueuesAmid, HasQueueRoomFor}
 use Rattle.pals_bus.proofs.NodeAfterCall.{Turned, turn_shown, turn_told}
@@ -33,14 +33,14 @@ use Rattle.pals_bus.proofs.RoundSends.{send_owes, send_happens, send_keeps_bus, 
 
 -- what an event leaves: fields that keep the bus, and what is said of them
 pub record Leaves (g : BusFields) (Says : Type 0) : Type 0 where
-  pub keeps : Keeps g
+  pub keeps : IsBusInvariant g
   pub says : Says
 
 -- ---- a bus and its fields
 -- the fields show the bus, and the node is there
 pub record Stands (v : BusValue) (f : BusFields) (node : ℕ) : Type 0 where
   pub shows : value_of f ≡ v
-  pub keeps : Keeps f
+  pub keeps : IsBusInvariant f
   pub going : f.stop ≡ None
   pub within : node < length v.run.design.components
 
@@ -70,7 +70,7 @@ values_show f g same = ap value_of same
 -- more room in the journal alone
 pub reserved : (v : BusValue) (old f : BusFields) (node : ℕ) → value_of old ≡ v → old.stop ≡ None
     → node < length v.run.design.components → f ≡ record old { journal = f.journal }
-    → f.journal.items ≡ old.journal.items → Keeps f
+    → f.journal.items ≡ old.journal.items → IsBusInvariant f
     → Stands v f node
 reserved v old f node shows going within others items keeps = record {
   shows = journal_shows old f others items ∙ shows;
@@ -107,7 +107,7 @@ pub is_ready : (v : BusValue) (old f h : BusFields) (node : NodeNo) (round : ℕ
     → f ≡ record old { journal = f.journal; flights = f.flights; queues = f.queues }
     → copies_in f.flights ≡ copies_in old.flights → f.journal.items ≡ old.journal.items → HasRoundRoom f node.0
     → round ≡ (node_at (state_of f) node.0).count → h ≡ record f { values = h.values }
-    → h.values.items ≡ values_at f.env round → Keeps h → IsReady v h node round
+    → h.values.items ≡ values_at f.env round → IsBusInvariant h → IsReady v h node round
 is_ready v old f h node round shows going within others copies items room round_is read values keeps = record {
   stands = record {
     shows = values_show f h read ∙ room_shows old f others copies items ∙ shows;

@@ -18,7 +18,7 @@ use Rattle.pals_node.specs.proof.NodeValues.{Program, NodeValue, with_state}
 use Rattle.pals_bus.specs.declared.bus_fields.BusFields.{BusFields}
 use Rattle.pals_bus.specs.proof.OpeningBusAndNodeValues.{AreCodes, codes_in, no_code, code_at}
 use Rattle.pals_bus.specs.proof.NodeLists.{node_value}
-use Rattle.pals_bus.specs.proof.BusInvariant.{IsNodeOf, AreNodes, Keeps, value_of}
+use Rattle.pals_bus.specs.proof.BusInvariant.{IsNodeOf, AreNodes, IsBusInvariant, value_of}
 use Rattle.pals_bus.specs.proof.OutOfRangeDefaults.{no_node_value}
 
 abbrev pub states : List NodeValue → List NodeState
@@ -38,11 +38,11 @@ node_shown f node are within =
     ∙ ap₂ (λ (r : ℕ) (s : NodeState).
     record { program = (node_value (value_of f) node).program; rounds = r; state = s }) is.rounds_are (sym state)
 
-pub node_is : (f : BusFields) (node : ℕ) → Keeps f → node < length f.nodes
+pub node_is : (f : BusFields) (node : ℕ) → IsBusInvariant f → node < length f.nodes
     → slice_index_or f.nodes node no_node_value ≡ node_value (value_of f) node
 node_is f node keeps within = node_shown f node keeps.nodes within
 
-pub node_here : (f : BusFields) (node : ℕ) (n : NodeValue) → Keeps f → node < length f.nodes
+pub node_here : (f : BusFields) (node : ℕ) (n : NodeValue) → IsBusInvariant f → node < length f.nodes
     → n ≡ slice_index_or f.nodes node n → n ≡ node_value (value_of f) node
 node_here f node n keeps within is =
     is ∙ get_or_default f.nodes node n no_node_value within ∙ node_is f node keeps within
@@ -100,7 +100,7 @@ nodes-set design rounds nodes at m are within same = record {
 }
 
 -- a node whose state alone has changed
-pub same_node : (f : BusFields) (node : ℕ) (m : NodeValue) (s : NodeState) → Keeps f → node < length f.nodes
+pub same_node : (f : BusFields) (node : ℕ) (m : NodeValue) (s : NodeState) → IsBusInvariant f → node < length f.nodes
     → m ≡ with_state (node_value (value_of f) node) s → IsSameNode (slice_index_or f.nodes node no_node_value) m
 same_node f node m s keeps within is =
     let here = node_is f node keeps within in

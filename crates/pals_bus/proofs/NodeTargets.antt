@@ -6,7 +6,7 @@ use Rattle.std.proofs.lemmas.Bool.{false≢true}
 use Rattle.std.proofs.lemmas.List.{length-map, get_or-map}
 use Rattle.list_lemmas.proofs.Options.{none_unless_some}
 use Rattle.pals_bus.specs.declared.bus_fields.BusFields.{BusFields}
-use Rattle.pals_bus.specs.proof.BusInvariant.{Keeps, value_of}
+use Rattle.pals_bus.specs.proof.BusInvariant.{IsBusInvariant, value_of}
 use Rattle.pals_bus.specs.BusValues.{BusValue}
 use Rattle.pals_bus.specs.proof.OutOfRangeDefaults.{no_node_value}
 use Rattle.pals_bus.specs.proof.NodeLists.{target_of_node}
@@ -14,7 +14,7 @@ use Rattle.pals_bus.proofs.NodeChanges.{node_is}
 use Rattle.pals_bus.specs.proof.Meeting.{target_in, HasEnded}
 
 -- that of a node is the one in the list
-pub target_listed : (f : BusFields) (b : BusValue) (targets : List (Option ℕ)) (node : ℕ) (o : Option ℕ) → Keeps f
+pub target_listed : (f : BusFields) (b : BusValue) (targets : List (Option ℕ)) (node : ℕ) (o : Option ℕ) → IsBusInvariant f
     → value_of f ≡ b → targets ≡ map target_of_node f.nodes → node < length f.nodes
     → slice_index_or targets node None ≡ o → target_in b node ≡ o
 target_listed f b targets node o keeps shows are within is =
@@ -29,14 +29,14 @@ pub within_list : (f : BusFields) (targets : List (Option ℕ)) (node : ℕ) →
 within_list f targets node are within = let size = ap length are ∙ length-map f.nodes target_of_node in
     omega (arith, size, within)
 
-pub all_listed : (f : BusFields) (b : BusValue) (targets : List (Option ℕ)) (node : ℕ) → Keeps f → value_of f ≡ b
+pub all_listed : (f : BusFields) (b : BusValue) (targets : List (Option ℕ)) (node : ℕ) → IsBusInvariant f → value_of f ≡ b
     → targets ≡ map target_of_node f.nodes → node < length b.run.design.components → node < length targets
 all_listed f b targets node keeps shows are within =
     let size = ap length are ∙ length-map f.nodes target_of_node in
     let count = keeps.nodes.count ∙ ap (λ (v : BusValue). length v.run.design.components) shows in
     omega (arith, size, count, within)
 
-pub within_run : (f : BusFields) (b : BusValue) → Keeps f → value_of f ≡ b → (node : ℕ) → node < length f.nodes
+pub within_run : (f : BusFields) (b : BusValue) → IsBusInvariant f → value_of f ≡ b → (node : ℕ) → node < length f.nodes
     → node < length b.run.design.components
 within_run f b keeps shows node within =
     let count = keeps.nodes.count ∙ ap (λ (v : BusValue). length v.run.design.components) shows in

@@ -34,7 +34,7 @@ use Rattle.pals_node.specs.proof.NodeValues.{NodeValue, Program, program_of, ope
 use Rattle.pals_bus.specs.declared.bus_fields.BusFields.{BusFields}
 use Rattle.pals_bus.specs.proof.OpeningBusAndNodeValues.{AreCodes, codes_in, code_at, no_code}
 use Rattle.pals_bus.specs.proof.OpeningNodes.{opening_bus, AreOpening}
-use Rattle.pals_bus.specs.proof.BusInvariant.{AreNodes, HasRooms, Keeps, copies_in, owed, run_of, state_of, value_of}
+use Rattle.pals_bus.specs.proof.BusInvariant.{AreNodes, HasRooms, IsBusInvariant, copies_in, owed, run_of, state_of, value_of}
 use Rattle.pals_bus.specs.proof.LinksFrom.{AreOutgoing}
 use Rattle.pals_bus.specs.proof.DueQueues.{AreQueues}
 use Rattle.pals_bus.specs.proof.OutOfRangeDefaults.{no_flight, no_queue, no_node_value}
@@ -164,7 +164,7 @@ state_open f all is =
     ∙ ap₂ (λ (cs : List (List FlightCopy)) (o : Option Stop). record (opening (run_of f)) { flights = cs; stop = o })
     flights is.stop
 
-pub opening_keeps : (f : BusFields) (all : List CodeParts) → IsOpening f all → Keeps f
+pub opening_keeps : (f : BusFields) (all : List CodeParts) → IsOpening f all → IsBusInvariant f
 opening_keeps f all is =
     let links = (arc_value f.design).links in
     let owes = owed_open (arc_value f.design) all f.rounds f.nodes is.nodes in

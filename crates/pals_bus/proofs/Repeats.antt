@@ -22,7 +22,7 @@ use Rattle.bus_machine.specs.Replay.{Replays, goes_on}
 use Rattle.pals_node.specs.proof.NodeValues.{NodeValue}
 use Rattle.pals_bus.specs.declared.bus_fields.BusFields.{BusFields}
 use Rattle.pals_bus.specs.BusValues.{Happens}
-use Rattle.pals_bus.specs.proof.BusInvariant.{HasRooms, Keeps, owed, run_of, state_of, value_of, copies_in}
+use Rattle.pals_bus.specs.proof.BusInvariant.{HasRooms, IsBusInvariant, owed, run_of, state_of, value_of, copies_in}
 use Rattle.pals_bus.specs.proof.RoundMessages.{with_copy}
 use Rattle.pals_bus.specs.proof.DueQueues.{AreQueues, is_awaited, with_due}
 use Rattle.pals_bus.specs.proof.OutOfRangeDefaults.{no_flight, no_queue}
@@ -117,13 +117,13 @@ repeat_happens f g link round copy going repeats =
     (slice_set (copies_in f.flights) link.0 (repeated round (flight_at s link.0))) g.journal.items going copies
     (ap is_some found) refl repeats.told)
 
-pub repeat_keeps_bus : (f g : BusFields) (link : LinkNo) (round : ℕ) (copy : FlightCopy) → Keeps f
+pub repeat_keeps_bus : (f g : BusFields) (link : LinkNo) (round : ℕ) (copy : FlightCopy) → IsBusInvariant f
     → link.0 < length (arc_value f.design).links → Repeats f g link round copy
     → Happens (value_of f) (Repeat link round) (value_of g)
     → 2 ≤ (slice_index_or f.flights link.0 no_flight).spare
     → PORTS + 1 ≤ (slice_index_or f.queues (slice_index_or (arc_value f.design).links link.0 no_link).target.0
     no_queue).spare
-    → length f.journal.items + sum_by owed f.nodes + 1 ≤ vec_capacity g.journal → Keeps g
+    → length f.journal.items + sum_by owed f.nodes + 1 ≤ vec_capacity g.journal → IsBusInvariant g
 repeat_keeps_bus f g link round copy keeps within repeats happens two wide room =
     let links = (arc_value f.design).links in
     let t = (slice_index_or links link.0 no_link).target.0 in
@@ -145,7 +145,7 @@ repeat_keeps_bus f g link round copy keeps within repeats happens two wide room 
     let count = keeps.nodes.count in
     let there = target_within (arc_value f.design) link.0 keeps.design within in
     let target : t < length f.queues = omega (arith, many, count, there) in
-    let all : Keeps h = record {
+    let all : IsBusInvariant h = record {
       design = keeps.design;
       outgoing = keeps.outgoing;
       rounds = keeps.rounds;
@@ -163,10 +163,10 @@ repeat_keeps_bus f g link round copy keeps within repeats happens two wide room 
           (goes_on (Repeat link round) keeps.replays step.step);
       place = omega (arith, size, room);
     } in
-    subst Keeps (sym is) all
+    subst IsBusInvariant (sym is) all
 
 -- the oldest copy stays with more room, and its own copy is like it
-pub oldest_kept : (f g : BusFields) (at round : ℕ) (n : FlightState) (first copy : FlightCopy) → Keeps f
+pub oldest_kept : (f g : BusFields) (at round : ℕ) (n : FlightState) (first copy : FlightCopy) → IsBusInvariant f
     → at < length (arc_value f.design).links → copies_in g.flights ≡ copies_in f.flights
     → n ≡ slice_index_or f.flights at n → Some first ≡ oldest round n.copies → copy ≡ first
     → oldest round (slice_index_or g.flights at no_flight).copies ≡ Some copy

@@ -22,7 +22,7 @@ use Rattle.pals_node.specs.proof.Answers.{Sends}
 use Rattle.pals_bus.specs.declared.bus_fields.BusFields.{BusFields}
 use Rattle.pals_bus.specs.proof.NodeLists.{node_value}
 use Rattle.pals_bus.specs.BusValues.{Happens}
-use Rattle.pals_bus.specs.proof.BusInvariant.{Keeps, owed, run_of, state_of, value_of}
+use Rattle.pals_bus.specs.proof.BusInvariant.{IsBusInvariant, owed, run_of, state_of, value_of}
 use Rattle.pals_bus.specs.proof.RoundMessages.{is_from, HasRoomFor, AreSent}
 use Rattle.pals_bus.specs.proof.DueQueues.{AreQueues, AreQueuesAmid}
 use Rattle.pals_bus.specs.proof.OutOfRangeDefaults.{no_node_value}
@@ -35,7 +35,7 @@ use Rattle.pals_bus.proofs.EventInvariants.{node_happens}
 use Rattle.pals_bus.proofs.StartsStepsAndFinishes.{longer}
 
 -- the round was not sent before
-unsent_node : (f : BusFields) (node : ℕ) (reading : Option ℕ) (m : NodeValue) (messages : List (List PortValue)) → Keeps f
+unsent_node : (f : BusFields) (node : ℕ) (reading : Option ℕ) (m : NodeValue) (messages : List (List PortValue)) → IsBusInvariant f
     → node < length f.nodes → Sends (node_value (value_of f) node) reading m messages
     → (slice_index_or f.nodes node no_node_value).state.sent ≡ false
 unsent_node f node reading m messages keeps within sends =
@@ -44,7 +44,7 @@ unsent_node f node reading m messages keeps within sends =
 
 -- what the messages need
 pub send_room : (f : BusFields) (node : ℕ) (reading : Option ℕ) (m : NodeValue)
-    (messages : List (List PortValue)) → Keeps f
+    (messages : List (List PortValue)) → IsBusInvariant f
     → node < length f.nodes → Sends (node_value (value_of f) node) reading m messages
     → HasRoomFor node (length (arc_value f.design).links) (arc_value f.design).links f.flights
 send_room f node reading m messages keeps within sends =
@@ -52,7 +52,7 @@ send_room f node reading m messages keeps within sends =
     (unsent_node f node reading m messages keeps within sends)
 
 pub send_queues : (f : BusFields) (node : ℕ) (reading : Option ℕ) (m : NodeValue)
-    (messages : List (List PortValue)) → Keeps f
+    (messages : List (List PortValue)) → IsBusInvariant f
     → node < length f.nodes → Sends (node_value (value_of f) node) reading m messages
     → AreQueuesAmid node 0 (arc_value f.design).links (slice_set f.nodes node m) f.flights f.queues
 send_queues f node reading m messages keeps within sends =
@@ -69,7 +69,7 @@ send_count f node reading m messages sends =
 
 -- the node owes one entry less
 pub send_owes : (f : BusFields) (node : ℕ) (reading : Option ℕ) (m : NodeValue)
-    (messages : List (List PortValue)) → Keeps f
+    (messages : List (List PortValue)) → IsBusInvariant f
     → node < length f.nodes → Sends (node_value (value_of f) node) reading m messages
     → sum_by owed (slice_set f.nodes node m) + 1 ≡ sum_by owed f.nodes
 send_owes f node reading m messages keeps within sends =
@@ -80,7 +80,7 @@ send_owes f node reading m messages keeps within sends =
 
 pub send_happens : (f g : BusFields) (node : NodeNo) (reading : Option ℕ) (m : NodeValue)
     (messages : List (List PortValue))
-    (round : ℕ) → Keeps f → f.stop ≡ None → node.0 < length f.nodes
+    (round : ℕ) → IsBusInvariant f → f.stop ≡ None → node.0 < length f.nodes
     → Sends (node_value (value_of f) node.0) reading m messages
     → round ≡ round_of (node_at (state_of f) node.0)
     → AreSent node.0 (arc_value f.design).links f.delays round reading messages (length (arc_value f.design).links)
@@ -107,13 +107,13 @@ send_happens f g node reading m messages round keeps going within sends round_is
 
 pub send_keeps_bus : (f g : BusFields) (node : NodeNo) (reading : Option ℕ) (m : NodeValue)
     (messages : List (List PortValue))
-    (round : ℕ) → Keeps f → node.0 < length f.nodes → Sends (node_value (value_of f) node.0) reading m messages
+    (round : ℕ) → IsBusInvariant f → node.0 < length f.nodes → Sends (node_value (value_of f) node.0) reading m messages
     → AreSent node.0 (arc_value f.design).links f.delays round reading messages (length (arc_value f.design).links)
     f.flights g.flights → AreQueues (arc_value f.design).links (slice_set f.nodes node.0 m) g.flights g.queues
     → g ≡ record f { nodes = slice_set f.nodes node.0 m; flights = g.flights; queues = g.queues; journal = g.journal }
     → g.journal.items ≡ f.journal.items ++ entry.Send node round reading ∷ []
     → Happens (value_of f) (Send node reading) (value_of g)
-    → vec_capacity g.journal ≡ vec_capacity f.journal → Keeps g
+    → vec_capacity g.journal ≡ vec_capacity f.journal → IsBusInvariant g
 send_keeps_bus f g node reading m messages round keeps within sends are queues same told happens capacity =
     let links = (arc_value f.design).links in
     let n = node_value (value_of f) node.0 in
@@ -125,7 +125,7 @@ send_keeps_bus f g node reading m messages round keeps within sends are queues s
     let less = send_owes f node.0 reading m messages keeps within sends in
     let size = longer g.journal.items f.journal.items (entry.Send node round reading) told in
     let place = keeps.place in
-    let all : Keeps h = record {
+    let all : IsBusInvariant h = record {
       design = keeps.design;
       outgoing = keeps.outgoing;
       rounds = keeps.rounds;
@@ -145,4 +145,4 @@ send_keeps_bus f g node reading m messages round keeps within sends are queues s
           (goes_on (Send node reading) keeps.replays step.step);
       place = omega (arith, less, size, place, capacity);
     } in
-    subst Keeps (sym same) all
+    subst IsBusInvariant (sym same) all

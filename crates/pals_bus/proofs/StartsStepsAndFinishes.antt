@@ -25,7 +25,7 @@ use Rattle.pals_bus.specs.declared.bus_fields.BusFields.{BusFields}
 use Rattle.pals_bus.specs.proof.NodeLists.{node_value}
 use Rattle.pals_bus.specs.BusValues.{Happens}
 use Rattle.pals_bus.specs.proof.Answers.{StartsRound, MissesMessage, StepsOn}
-use Rattle.pals_bus.specs.proof.BusInvariant.{HasRooms, Keeps, owed, run_of, state_of, value_of, copies_in}
+use Rattle.pals_bus.specs.proof.BusInvariant.{HasRooms, IsBusInvariant, owed, run_of, state_of, value_of, copies_in}
 use Rattle.pals_bus.specs.proof.RoundMessages.{HasRoomFor}
 use Rattle.pals_bus.specs.proof.DueQueues.{AreQueues, HasQueueRoomFor}
 use Rattle.pals_bus.specs.proof.OutOfRangeDefaults.{no_node_value}
@@ -39,7 +39,7 @@ use Rattle.pals_bus.proofs.EventEffects.{step_allowed, step_after, finish_allowe
 use Rattle.pals_bus.proofs.NodeAfterCall.{turn_shown}
 
 -- ---- any of them
-node_event : (f g : BusFields) (e : BusEvent) (node : ℕ) (m : NodeValue) (s : NodeState) → Keeps f → f.stop ≡ None
+node_event : (f g : BusFields) (e : BusEvent) (node : ℕ) (m : NodeValue) (s : NodeState) → IsBusInvariant f → f.stop ≡ None
     → node < length f.nodes → m ≡ with_state (node_value (value_of f) node) s
     → g ≡ record f { nodes = slice_set f.nodes node m; journal = g.journal }
     → is_allowed (run_of f) (state_of f) e ≡ true → after (run_of f) (state_of f) e ≡ with_node (state_of f) node s
@@ -49,18 +49,18 @@ node_event f g e node m s keeps going within is same allowed after_is told =
     (node_happens f e node m s f.flights (copies_in f.flights) f.stop g.journal.items keeps going within is refl
     allowed after_is told)
 
-node_keeps : (f g : BusFields) (e : BusEvent) (node : ℕ) (m : NodeValue) (s : NodeState) → Keeps f → node < length f.nodes
+node_keeps : (f g : BusFields) (e : BusEvent) (node : ℕ) (m : NodeValue) (s : NodeState) → IsBusInvariant f → node < length f.nodes
     → m ≡ with_state (node_value (value_of f) node) s
     → g ≡ record f { nodes = slice_set f.nodes node m; journal = g.journal }
     → HasRooms (arc_value f.design).links (slice_set f.nodes node m) f.flights
     → AreQueues (arc_value f.design).links (slice_set f.nodes node m) f.flights f.queues
     → Happens (value_of f) e (value_of g)
-    → length g.journal.items + sum_by owed (slice_set f.nodes node m) ≤ vec_capacity g.journal → Keeps g
+    → length g.journal.items + sum_by owed (slice_set f.nodes node m) ≤ vec_capacity g.journal → IsBusInvariant g
 node_keeps f g e node m s keeps within is same rooms queues happens place =
     let h : BusFields = record f { nodes = slice_set f.nodes node m; journal = g.journal } in
     let step : Happens (value_of f) e (value_of h) =
     subst (λ (k : BusFields). Happens (value_of f) e (value_of k)) same happens in
-    let all : Keeps h = record {
+    let all : IsBusInvariant h = record {
       design = keeps.design;
       outgoing = keeps.outgoing;
       rounds = keeps.rounds;
@@ -75,7 +75,7 @@ node_keeps f g e node m s keeps within is same rooms queues happens place =
       replays = subst (λ j. Replays (run_of f) j (state_of h)) (sym step.journal) (goes_on e keeps.replays step.step);
       place = place;
     } in
-    subst Keeps (sym same) all
+    subst IsBusInvariant (sym same) all
 
 -- one more entry
 pub longer : (new old : List JournalEntry) (x : JournalEntry) → new ≡ old ++ x ∷ [] → length new ≡ length old + 1
@@ -84,7 +84,7 @@ longer new old x is = ap length is ∙ length-append old (x ∷ [])
 -- ---- Start
 pub start_happens : (f g : BusFields) (node : NodeNo) (reading : Option ℕ) (m : NodeValue)
     (values : List PortValue) (round : ℕ)
-    (job : JobValue) → Keeps f → f.stop ≡ None → node.0 < length f.nodes
+    (job : JobValue) → IsBusInvariant f → f.stop ≡ None → node.0 < length f.nodes
     → Starts (node_value (value_of f) node.0) values reading m job → round ≡ (node_at (state_of f) node.0).count
     → values ≡ values_at f.env round
     → g ≡ record f { nodes = slice_set f.nodes node.0 m; journal = g.journal }
@@ -115,14 +115,14 @@ start_happens f g node reading m values round job keeps going within starts roun
 
 pub start_keeps : (f g : BusFields) (node : NodeNo) (reading : Option ℕ) (m : NodeValue)
     (values : List PortValue) (round : ℕ)
-    (job : JobValue) → Keeps f → node.0 < length f.nodes → Starts (node_value (value_of f) node.0) values reading m job
+    (job : JobValue) → IsBusInvariant f → node.0 < length f.nodes → Starts (node_value (value_of f) node.0) values reading m job
     → g ≡ record f { nodes = slice_set f.nodes node.0 m; journal = g.journal }
     → g.journal.items ≡ f.journal.items ++ entry.Start node round reading ∷ []
     → StartsRound (value_of f) node reading (value_of g) job
     → HasRoomFor node.0 (length (arc_value f.design).links) (arc_value f.design).links f.flights
     → HasQueueRoomFor node.0 (arc_value f.design).links f.queues
     → length f.journal.items + sum_by owed f.nodes + 4 ≤ vec_capacity f.journal
-    → vec_capacity g.journal ≡ vec_capacity f.journal → Keeps g
+    → vec_capacity g.journal ≡ vec_capacity f.journal → IsBusInvariant g
 start_keeps f g node reading m values round job keeps within starts same told happens room queue_room place capacity =
     let links = (arc_value f.design).links in
     let n = node_at (state_of f) node.0 in
@@ -136,7 +136,7 @@ start_keeps f g node reading m values round job keeps within starts same told ha
     queue_room) happens.happens (omega (arith, more, size, place, capacity))
 
 -- ---- a start that misses a message
-pub start_misses : (f g : BusFields) (node : NodeNo) (reading : Option ℕ) (port : ℕ) (why : Stop) → Keeps f → f.stop ≡ None
+pub start_misses : (f g : BusFields) (node : NodeNo) (reading : Option ℕ) (port : ℕ) (why : Stop) → IsBusInvariant f → f.stop ≡ None
     → StartEnds (node_value (value_of f) node.0) reading (start.Missed port)
     → why ≡ missed_stop (run_of f) (state_of f) node reading (link_into (arc_value f.design) node.0 port)
     → g ≡ record f { stop = Some why; journal = g.journal }
@@ -167,17 +167,17 @@ start_misses f g node reading port why keeps going misses is same told =
       stops = ap (λ (k : BusFields). k.stop) same;
     }
 
-pub miss_keeps : (f g : BusFields) (node : NodeNo) (reading : Option ℕ) (why : Stop) → Keeps f
+pub miss_keeps : (f g : BusFields) (node : NodeNo) (reading : Option ℕ) (why : Stop) → IsBusInvariant f
     → MissesMessage (value_of f) node reading (value_of g) why → g ≡ record f { stop = Some why; journal = g.journal }
     → g.journal.items ≡ f.journal.items ++ entry.Stopped why ∷ []
     → length f.journal.items + sum_by owed f.nodes + 4 ≤ vec_capacity f.journal
-    → vec_capacity g.journal ≡ vec_capacity f.journal → Keeps g
+    → vec_capacity g.journal ≡ vec_capacity f.journal → IsBusInvariant g
 miss_keeps f g node reading why keeps misses same told place capacity =
     let h : BusFields = record f { stop = Some why; journal = g.journal } in
     let step : Happens (value_of f) (Start node reading) (value_of h) =
     subst (λ (k : BusFields). Happens (value_of f) (Start node reading) (value_of k)) same misses.happens in
     let size = longer g.journal.items f.journal.items (entry.Stopped why) told in
-    let all : Keeps h = record {
+    let all : IsBusInvariant h = record {
       design = keeps.design;
       outgoing = keeps.outgoing;
       rounds = keeps.rounds;
@@ -192,10 +192,10 @@ miss_keeps f g node reading why keeps misses same told place capacity =
           (goes_on (Start node reading) keeps.replays step.step);
       place = omega (arith, size, place, capacity);
     } in
-    subst Keeps (sym same) all
+    subst IsBusInvariant (sym same) all
 
 -- ---- Step
-pub step_happens : (f g : BusFields) (node : NodeNo) (reading : Option ℕ) (m : NodeValue) (job : JobValue) → Keeps f
+pub step_happens : (f g : BusFields) (node : NodeNo) (reading : Option ℕ) (m : NodeValue) (job : JobValue) → IsBusInvariant f
     → f.stop ≡ None → node.0 < length f.nodes → Steps (node_value (value_of f) node.0) reading m job
     → g ≡ record f { nodes = slice_set f.nodes node.0 m; journal = g.journal }
     → g.journal.items ≡ f.journal.items ++ entry.Step node job.work.round job.work.step reading ∷ []
@@ -221,14 +221,14 @@ step_happens f g node reading m job keeps going within steps same told =
     }
 
 -- a node that had not sent before has not now
-pub unsent_before : (f : BusFields) (node : ℕ) (m : NodeValue) → Keeps f → node < length f.nodes
+pub unsent_before : (f : BusFields) (node : ℕ) (m : NodeValue) → IsBusInvariant f → node < length f.nodes
     → m.state.sent ≡ (node_at (state_of f) node).sent → m.state.sent ≡ false
     → (slice_index_or f.nodes node no_node_value).state.sent ≡ false
 unsent_before f node m keeps within same unsent =
     ap (λ (k : NodeValue). k.state.sent) (node_is f node keeps within) ∙ sym same ∙ unsent
 
 -- the room of its links is as before
-same_rooms : (f : BusFields) (node : ℕ) (m : NodeValue) → Keeps f → node < length f.nodes
+same_rooms : (f : BusFields) (node : ℕ) (m : NodeValue) → IsBusInvariant f → node < length f.nodes
     → m.state.sent ≡ (node_at (state_of f) node).sent
     → HasRooms (arc_value f.design).links (slice_set f.nodes node m) f.flights
 same_rooms f node m keeps within same =
@@ -239,20 +239,20 @@ same_rooms f node m keeps within same =
     (subst (λ k. (slice_index_or f.nodes k no_node_value).state.sent ≡ false) (sym from)
     (unsent_before f node m keeps within same unsent)))
 
-same_queues : (f : BusFields) (node : ℕ) (m : NodeValue) → Keeps f → node < length f.nodes
+same_queues : (f : BusFields) (node : ℕ) (m : NodeValue) → IsBusInvariant f → node < length f.nodes
     → m.state.sent ≡ (node_at (state_of f) node).sent
     → AreQueues (arc_value f.design).links (slice_set f.nodes node m) f.flights f.queues
 same_queues f node m keeps within same =
     queues-set (arc_value f.design).links f.nodes f.flights f.queues node m keeps.queues within
     (unsent_before f node m keeps within same)
 
-pub step_keeps : (f g : BusFields) (node : NodeNo) (reading : Option ℕ) (m : NodeValue) (job : JobValue) → Keeps f
+pub step_keeps : (f g : BusFields) (node : NodeNo) (reading : Option ℕ) (m : NodeValue) (job : JobValue) → IsBusInvariant f
     → node.0 < length f.nodes → Steps (node_value (value_of f) node.0) reading m job
     → g ≡ record f { nodes = slice_set f.nodes node.0 m; journal = g.journal }
     → g.journal.items ≡ f.journal.items ++ entry.Step node job.work.round job.work.step reading ∷ []
     → StepsOn (value_of f) node reading (value_of g) job
     → length f.journal.items + sum_by owed f.nodes + 4 ≤ vec_capacity f.journal
-    → vec_capacity g.journal ≡ vec_capacity f.journal → Keeps g
+    → vec_capacity g.journal ≡ vec_capacity f.journal → IsBusInvariant g
 step_keeps f g node reading m job keeps within steps same told happens place capacity =
     let n = node_at (state_of f) node.0 in
     let sent : m.state.sent ≡ n.sent = ap (λ (k : NodeValue). k.state.sent) steps.state in
@@ -263,7 +263,7 @@ step_keeps f g node reading m job keeps within steps same told happens place cap
     (omega (arith, more, size, place, capacity))
 
 -- ---- Finish
-pub finish_happens : (f g : BusFields) (node : NodeNo) (m : NodeValue) (step round : ℕ) → Keeps f → f.stop ≡ None
+pub finish_happens : (f g : BusFields) (node : NodeNo) (m : NodeValue) (step round : ℕ) → IsBusInvariant f → f.stop ≡ None
     → node.0 < length f.nodes → Finishes (node_value (value_of f) node.0) m step
     → round ≡ round_of (node_at (state_of f) node.0)
     → g ≡ record f { nodes = slice_set f.nodes node.0 m; journal = g.journal }
@@ -278,7 +278,7 @@ finish_happens f g node m step round keeps going within finishes round_is same t
     (told ∙ ap (λ r. f.journal.items ++ entry.Finish node r ∷ []) round_is)
 
 -- the node owes one entry less
-pub finish_room : (f : BusFields) (node : ℕ) (m : NodeValue) (step : ℕ) → Keeps f → node < length f.nodes
+pub finish_room : (f : BusFields) (node : ℕ) (m : NodeValue) (step : ℕ) → IsBusInvariant f → node < length f.nodes
     → Finishes (node_value (value_of f) node) m step → sum_by owed (slice_set f.nodes node m) + 1 ≡ sum_by owed f.nodes
 finish_room f node m step keeps within finishes =
     let n = node_value (value_of f) node in
@@ -286,12 +286,12 @@ finish_room f node m step keeps within finishes =
     (owed_finished n (plan_of (arc_value f.design) node) f.rounds step m finishes.0
     (ap (λ (k : NodeValue). k.state) finishes.1) ∙ ap owed (sym (node_is f node keeps within)))
 
-pub finish_keeps_bus : (f g : BusFields) (node : NodeNo) (m : NodeValue) (step round : ℕ) → Keeps f
+pub finish_keeps_bus : (f g : BusFields) (node : NodeNo) (m : NodeValue) (step round : ℕ) → IsBusInvariant f
     → node.0 < length f.nodes → Finishes (node_value (value_of f) node.0) m step
     → g ≡ record f { nodes = slice_set f.nodes node.0 m; journal = g.journal }
     → g.journal.items ≡ f.journal.items ++ entry.Finish node round ∷ []
     → Happens (value_of f) (Finish node) (value_of g) → vec_capacity g.journal ≡ vec_capacity f.journal
-    → Keeps g
+    → IsBusInvariant g
 finish_keeps_bus f g node m step round keeps within finishes same told happens capacity =
     let n = node_at (state_of f) node.0 in
     let plan = plan_of (arc_value f.design) node.0 in

@@ -10,7 +10,7 @@ use Rattle.link_buffers.specs.proof.Flights.{FlightState}
 use Rattle.link_buffers.specs.proof.DueQueues.{QueueState}
 use Rattle.bus_machine.specs.Plans.{no_link}
 use Rattle.pals_bus.specs.declared.bus_fields.BusFields.{BusFields}
-use Rattle.pals_bus.specs.proof.BusInvariant.{Keeps, copies_in}
+use Rattle.pals_bus.specs.proof.BusInvariant.{IsBusInvariant, copies_in}
 use Rattle.pals_bus.specs.proof.RoundMessages.{NoLessRoom}
 use Rattle.pals_bus.specs.proof.DueQueues.{NoLessQueueRoom, entries_in}
 use Rattle.pals_bus.proofs.QueueChanges.{queue_more, queues_copies, queues_more}
@@ -19,10 +19,10 @@ use Rattle.pals_bus.proofs.FlightRooms.{no_less-set}
 use Rattle.pals_bus.proofs.EventInvariants.{keeps_room}
 use Rattle.pals_bus.proofs.CopyRemovalAndLoss.{target_within}
 
-pub more_room : (f : BusFields) (flights : List FlightState) (queues : List QueueState) → Keeps f
+pub more_room : (f : BusFields) (flights : List FlightState) (queues : List QueueState) → IsBusInvariant f
     → copies_in flights ≡ copies_in f.flights → NoLessRoom f.flights flights → entries_in queues ≡ entries_in f.queues
     → NoLessQueueRoom f.queues queues
-    → Keeps (record f { flights = flights; queues = queues })
+    → IsBusInvariant (record f { flights = flights; queues = queues })
 more_room f flights queues keeps copies less entries more =
     let count : length flights ≡ length f.flights = sym (length-map flights (λ (k : FlightState). k.copies))
     ∙ ap length copies ∙ length-map f.flights (λ (k : FlightState). k.copies) in
@@ -64,11 +64,11 @@ queue_less queues at n queue within is more k =
 
 -- room on one link, and in the queue of its target
 pub message_room : (f : BusFields) (ls : List Link) (link : LinkNo) (n flight : FlightState) (q queue : QueueState)
-    → Keeps f → ls ≡ (arc_value f.design).links → link.0 < length (arc_value f.design).links
+    → IsBusInvariant f → ls ≡ (arc_value f.design).links → link.0 < length (arc_value f.design).links
     → n ≡ slice_index_or f.flights link.0 n → flight.copies ≡ n.copies → n.spare ≤ flight.spare
     → q ≡ slice_index_or f.queues (slice_index_or ls link.0 no_link).target.0 q → queue.entries ≡ q.entries
     → q.spare ≤ queue.spare
-    → Keeps (record f {
+    → IsBusInvariant (record f {
       flights = slice_set f.flights link.0 flight;
       queues = slice_set f.queues (slice_index_or ls link.0 no_link).target.0 queue;
     })

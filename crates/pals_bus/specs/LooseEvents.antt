@@ -31,26 +31,26 @@ IsNamedIn design (event.Drop link round) = link.0 < length design.links
 IsNamedIn design (event.Repeat link round) = link.0 < length design.links
 
 -- the node of an event of a node
-abbrev pub node_of : Event → Option NodeNo
-node_of (event.Pass time readings) = None
-node_of (event.Start node) = Some node
-node_of (event.Step node) = Some node
-node_of (event.Finish node) = Some node
-node_of (event.Send node) = Some node
-node_of (event.Arrive link round) = None
-node_of (event.Drop link round) = None
-node_of (event.Repeat link round) = None
+abbrev pub event_node : Event → Option NodeNo
+event_node (event.Pass time readings) = None
+event_node (event.Start node) = Some node
+event_node (event.Step node) = Some node
+event_node (event.Finish node) = Some node
+event_node (event.Send node) = Some node
+event_node (event.Arrive link round) = None
+event_node (event.Drop link round) = None
+event_node (event.Repeat link round) = None
 
 -- the link and the round of an event of a message
-abbrev pub message_of : Event → Option (LinkNo × ℕ)
-message_of (event.Pass time readings) = None
-message_of (event.Start node) = None
-message_of (event.Step node) = None
-message_of (event.Finish node) = None
-message_of (event.Send node) = None
-message_of (event.Arrive link round) = Some (link, round)
-message_of (event.Drop link round) = Some (link, round)
-message_of (event.Repeat link round) = Some (link, round)
+abbrev pub event_message : Event → Option (LinkNo × ℕ)
+event_message (event.Pass time readings) = None
+event_message (event.Start node) = None
+event_message (event.Step node) = None
+event_message (event.Finish node) = None
+event_message (event.Send node) = None
+event_message (event.Arrive link round) = Some (link, round)
+event_message (event.Drop link round) = Some (link, round)
+event_message (event.Repeat link round) = Some (link, round)
 
 -- it happened
 abbrev pub HappensLoose : BusValue → Event → BusValue → Type 0

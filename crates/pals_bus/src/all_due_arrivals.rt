@@ -2,7 +2,7 @@
 ghost use Rattle.std.specs.Prelude.{◌≡◌, ◌+◌, ◌*◌, ◌^◌, ◌<◌, ◌≤◌, ◌↔◌, [], None, length, sum_by, IsTrue, IfOk, IfErr};
 ghost use Rattle.std.specs.Prelude.{IfNone, OnOk, vec_capacity};
 ghost use Rattle.pals_bus.specs.proof.DueMessages.{AreLeft, TakesDue, TakesAllDue, DueEnds, HasDue};
-ghost use Rattle.pals_bus.specs.proof.BusInvariant.{Keeps, owed, value_of};
+ghost use Rattle.pals_bus.specs.proof.BusInvariant.{IsBusInvariant, owed, value_of};
 ghost use Rattle.pals_bus.specs.proof.DueQueues.{AreDueEntries};
 
 use crate::bus::Bus;
@@ -47,11 +47,11 @@ impl BusFields {
     // The messages that are due to a node arrive, up to the first that comes too early. It takes no
     // memory.
     fn arrive_all(&mut self, due: &[DueEntry], node: NodeNo, reading: Nanos) -> Option<Stop>
-        requires keeps { Keeps self.old }
+        requires keeps { IsBusInvariant self.old }
         requires going { self.old.stop ≡ None }
         requires left { AreLeft (value_of self.old) node.0 reading due.now }
         requires room { length self.old.journal.items + sum_by owed self.old.nodes + length due.now + 4 ≤ vec_capacity self.old.journal }
-        ensures keeps { Keeps self.new }
+        ensures keeps { IsBusInvariant self.new }
         ensures takes { TakesDue node.0 reading (value_of self.old) (value_of self.new) }
         ensures stop { result ≡ self.new.stop }
         ensures none_left { IfNone result (AreLeft (value_of self.new) node.0 reading []) }

@@ -8,7 +8,7 @@ ghost use Rattle.bus_machine.specs.LinkEvents.{is_in_flight};
 ghost use Rattle.bus_machine.specs.States.{flight_at};
 ghost use Rattle.bus_machine.specs.Plans.{no_link};
 ghost use Rattle.pals_bus.specs.BusValues.{Happens};
-ghost use Rattle.pals_bus.specs.proof.BusInvariant.{Keeps, owed, run_of, state_of, value_of};
+ghost use Rattle.pals_bus.specs.proof.BusInvariant.{IsBusInvariant, owed, run_of, state_of, value_of};
 
 use crate::bus_fields::BusFields;
 use pals_base::{LinkNo, Nanos};
@@ -19,11 +19,11 @@ impl BusFields {
     /// A link's message of a round arrives, where no stop stands and the journal has room for it and
     /// for a stop. It takes no memory.
     pub fn arrive(&mut self, link: LinkNo, round: u32, reading: Option<Nanos>) -> Option<Arrived>
-        requires keeps { Keeps self.old }
+        requires keeps { IsBusInvariant self.old }
         requires going { self.old.stop ≡ None }
         requires link { link.0 < length (arc_value self.old.design).links }
         requires room { length self.old.journal.items + sum_by owed self.old.nodes + 2 ≤ vec_capacity self.old.journal }
-        ensures keeps { Keeps self.new }
+        ensures keeps { IsBusInvariant self.new }
         ensures some { IfSome result (λ arrived. Happens (value_of self.old) (Arrive link round reading) (value_of self.new)
             × (arrived ≡ arrival (run_of self.old) (state_of self.old) link round)) }
         ensures none { IfNone result ((value_of self.new ≡ value_of self.old) × (is_in_flight round (flight_at (state_of self.old) link.0) ≡ false)) }

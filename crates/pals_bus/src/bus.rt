@@ -48,11 +48,11 @@ impl Model for Bus {
 
     ghost coded = { bus_code };
 
-    ghost use Rattle.pals_bus.specs.proof.BusInvariant.{Keeps, value_of};
+    ghost use Rattle.pals_bus.specs.proof.BusInvariant.{IsBusInvariant, value_of};
 
     ghost view = { λ b. value_of b.fields };
 
-    ghost invariant = { λ b. Keeps b.fields };
+    ghost invariant = { λ b. IsBusInvariant b.fields };
 }
 
 impl Bus {

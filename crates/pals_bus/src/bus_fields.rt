@@ -7,7 +7,7 @@ ghost use Rattle.bus_machine.specs.Nodes.{round_of};
 ghost use Rattle.bus_machine.specs.States.{node_at};
 ghost use Rattle.bus_machine.specs.Plans.{link_at};
 ghost use Rattle.pals_bus.specs.proof.OutOfRangeDefaults.{no_flight, no_queue};
-ghost use Rattle.pals_bus.specs.proof.BusInvariant.{Keeps, owed, copies_in, state_of};
+ghost use Rattle.pals_bus.specs.proof.BusInvariant.{IsBusInvariant, owed, copies_in, state_of};
 ghost use Rattle.pals_bus.specs.proof.DueQueues.{HasQueueRoomFor};
 ghost use Rattle.pals_bus.specs.proof.RoundMessages.{HasRoomFor};
 
@@ -67,8 +67,8 @@ impl BusFields {
     /// Makes room in the journal for the entries of one event, and for those that the nodes owe.
     #[tactic(auto, using(crate::proofs::OwedEntries::all_owed))]
     pub fn reserve_entries(&mut self) -> Result<(), NoMemory>
-        requires keeps { Keeps self.old }
-        ensures keeps { Keeps self.new }
+        requires keeps { IsBusInvariant self.old }
+        ensures keeps { IsBusInvariant self.new }
         ensures others { self.new ≡ record self.old { journal = self.new.journal } }
         ensures items { self.new.journal.items ≡ self.old.journal.items }
         ensures room { OnOk result (length self.new.journal.items + sum_by owed self.new.nodes + 4 ≤ vec_capacity self.new.journal) }
@@ -81,9 +81,9 @@ impl BusFields {
     /// nodes owe.
     #[tactic(auto, using(crate::proofs::OwedEntries::all_owed))]
     pub fn reserve_arrivals(&mut self, count: usize) -> Result<(), NoMemory>
-        requires keeps { Keeps self.old }
+        requires keeps { IsBusInvariant self.old }
         requires count { count < 2 ^ 63 }
-        ensures keeps { Keeps self.new }
+        ensures keeps { IsBusInvariant self.new }
         ensures others { self.new ≡ record self.old { journal = self.new.journal } }
         ensures items { self.new.journal.items ≡ self.old.journal.items }
         ensures room { OnOk result (length self.new.journal.items + sum_by owed self.new.nodes + count + 4 ≤ vec_capacity self.new.journal) }
@@ -94,9 +94,9 @@ impl BusFields {
 
     /// Makes room for all that a round of a node needs: its entries, and its messages.
     pub fn reserve_round(&mut self, node: NodeNo) -> Result<(), NoMemory>
-        requires keeps { Keeps self.old }
+        requires keeps { IsBusInvariant self.old }
         requires node { node.0 < length (arc_value self.old.design).components }
-        ensures keeps { Keeps self.new }
+        ensures keeps { IsBusInvariant self.new }
         ensures others { self.new ≡ record self.old { journal = self.new.journal; flights = self.new.flights; queues = self.new.queues } }
         ensures items { self.new.journal.items ≡ self.old.journal.items }
         ensures copies { copies_in self.new.flights ≡ copies_in self.old.flights }
@@ -114,9 +114,9 @@ impl BusFields {
     /// Makes room for one more copy of a link's message, beside those that the rounds in hand send, and
     /// for its entry.
     pub fn reserve_message(&mut self, link: LinkNo) -> Result<(), NoMemory>
-        requires keeps { Keeps self.old }
+        requires keeps { IsBusInvariant self.old }
         requires link { link.0 < length (arc_value self.old.design).links }
-        ensures keeps { Keeps self.new }
+        ensures keeps { IsBusInvariant self.new }
         ensures others { self.new ≡ record self.old { journal = self.new.journal; flights = self.new.flights; queues = self.new.queues } }
         ensures items { self.new.journal.items ≡ self.old.journal.items }
         ensures copies { copies_in self.new.flights ≡ copies_in self.old.flights }
@@ -132,8 +132,8 @@ impl BusFields {
 
     /// Reads the values of the root in ports in a round. It takes no memory.
     pub fn read_values(&mut self, round: u32)
-        requires keeps { Keeps self.old }
-        ensures keeps { Keeps self.new }
+        requires keeps { IsBusInvariant self.old }
+        ensures keeps { IsBusInvariant self.new }
         ensures others { self.new ≡ record self.old { values = self.new.values } }
         ensures values { self.new.values.items ≡ values_at self.old.env round }
     {
@@ -142,7 +142,7 @@ impl BusFields {
 
     /// How many rounds a node has started.
     pub fn rounds_started(&self, node: NodeNo) -> u32
-        requires keeps { Keeps self.now }
+        requires keeps { IsBusInvariant self.now }
         requires node { node.0 < length self.now.nodes }
         ensures { result ≡ (node_at (state_of self.now) node.0).count }
     {
@@ -151,7 +151,7 @@ impl BusFields {
 
     /// The round that a node has in hand.
     pub fn round_in_hand(&self, node: NodeNo) -> u32
-        requires keeps { Keeps self.now }
+        requires keeps { IsBusInvariant self.now }
         requires node { node.0 < length self.now.nodes }
         ensures { result ≡ round_of (node_at (state_of self.now) node.0) }
     {

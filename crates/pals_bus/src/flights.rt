@@ -6,7 +6,7 @@ ghost use Rattle.pals_base.specs.declared.limits.TheConstants.{HOUR, READING};
 ghost use Rattle.pals_model.specs.Delays.{AreDelays};
 ghost use Rattle.pals_model.specs.Flights.{oldest};
 ghost use Rattle.pals_model.specs.DesignRules.{IsDesign};
-ghost use Rattle.pals_bus.specs.proof.BusInvariant.{Keeps, copies_in};
+ghost use Rattle.pals_bus.specs.proof.BusInvariant.{IsBusInvariant, copies_in};
 ghost use Rattle.pals_bus.specs.proof.DueQueues.{AreQueues, AreQueuesAmid, HasQueueRoomOn, NoLessQueueRoom, entries_in};
 ghost use Rattle.pals_bus.specs.proof.DueQueues.{with_due, without_due};
 ghost use Rattle.pals_bus.specs.proof.RoundMessages.{is_from, HasRoomFor, HasRoomOn, NoLessRoom, with_copy};
@@ -94,7 +94,7 @@ impl BusFields {
     /// Takes the oldest copy of a link's message of a round out of its flight, and out of the queue of
     /// its target; nothing where there is none. It takes no memory.
     pub fn take_message(&mut self, link: LinkNo, round: u32) -> Option<Tuple>
-        requires keeps { Keeps self.old }
+        requires keeps { IsBusInvariant self.old }
         requires link { link.0 < length (arc_value self.old.design).links }
         ensures taken { result ≡ option_map (λ copy. copy.tuple) (oldest round (flight_on self.old link).copies) }
         ensures copies { copies_in self.new.flights ≡ copies_without self.old link round }

@@ -10,7 +10,7 @@ ghost use Rattle.bus_machine.specs.Machine.{missed_stop};
 ghost use Rattle.bus_machine.specs.Plans.{no_link};
 ghost use Rattle.bus_machine.specs.MissedStarts.{link_into, cause_of};
 ghost use Rattle.bus_machine.specs.Nodes.{sent_rounds};
-ghost use Rattle.pals_bus.specs.proof.BusInvariant.{Keeps, run_of, state_of, copies_in_option};
+ghost use Rattle.pals_bus.specs.proof.BusInvariant.{IsBusInvariant, run_of, state_of, copies_in_option};
 
 use crate::bus_fields::BusFields;
 use link_buffers::Flight;
@@ -22,7 +22,7 @@ use pals_runs::{Cause, Stop};
 impl BusFields {
     /// The stop of a start that misses the message of the link into a port.
     pub fn missed_stop(&self, node: NodeNo, port: u32, reading: Option<Nanos>) -> Stop
-        requires keeps { Keeps self.now }
+        requires keeps { IsBusInvariant self.now }
         requires node { node.0 < length self.now.nodes }
         ensures { result ≡ missed_stop (run_of self.now) (state_of self.now) node reading (link_into (arc_value self.now.design) node.0 port) }
     {
@@ -38,7 +38,7 @@ impl BusFields {
 
     // Why the message of a round is not there.
     fn cause_of(&self, link: LinkNo, round: u32) -> Cause
-        requires keeps { Keeps self.now }
+        requires keeps { IsBusInvariant self.now }
         requires some { 0 < length self.now.nodes }
         ensures { result ≡ cause_of (run_of self.now) (state_of self.now) link.0 round }
     {

@@ -1,7 +1,7 @@
 -- What a clock that is a list of readings stands at.
 use Rattle.std.specs.Prelude.{ℕ, ◌≤◌, List, All, fold}
 use Rattle.pals_base.specs.declared.limits.TheConstants.{READING}
-use Rattle.pals_base.specs.ClockPicks.{reached}
+use Rattle.pals_base.specs.ClockPicks.{remaining_from}
 
 -- all readings of the list, and those that are left: the last pick, if there is one, and the later ones
 pub record ClockState : Type 0 where
@@ -22,4 +22,4 @@ standing_at clock later = record { readings = clock.readings; left = later }
 
 -- what is left of some readings after the picks for these targets
 abbrev pub left_after : List ℕ → List ℕ → List ℕ
-left_after readings targets = fold reached readings targets
+left_after readings targets = fold remaining_from readings targets

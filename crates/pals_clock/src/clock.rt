@@ -2,7 +2,7 @@
 ghost use Rattle.std.specs.Prelude.{◌≡◌, ◌-◌, ◌<◌, ◌≤◌, ◌↔◌, length, drop, All, IsTrue, IsErr, IfOk, OnOk, OnErr};
 ghost use Rattle.std.specs.Prelude.{MatchOption, slice_get, slice_index};
 ghost use Rattle.std.specs.List.Sorted.{IsNonDecreasing};
-ghost use Rattle.pals_base.specs.ClockPicks.{reached};
+ghost use Rattle.pals_base.specs.ClockPicks.{remaining_from};
 ghost use Rattle.pals_base.specs.declared.limits.TheConstants.{READING};
 ghost use Rattle.pals_clock.specs.ClockStates.{AreReadings, unpicked, standing_at};
 
@@ -73,7 +73,7 @@ impl ListClock {
     pub fn wait_for(&mut self, target: Nanos) -> Result<Nanos, ClockEnd>
         ensures pick { IfOk result (λ reading. slice_get self.new.left 0 ≡ Some reading) }
         ensures range { IfOk result (λ reading. reading ≤ READING) }
-        ensures stands { OnOk result (self.new ≡ standing_at self.old (reached self.old.left target)) }
+        ensures stands { OnOk result (self.new ≡ standing_at self.old (remaining_from self.old.left target)) }
         ensures ended { IsErr result ↔ All (λ reading. reading < target) self.old.left }
         ensures same { OnErr result (self.new ≡ self.old) }
     {
@@ -104,7 +104,7 @@ impl ListClock {
 // it.
 fn passed_over(readings: &[Nanos], target: Nanos) -> Option<usize>
     ensures { MatchOption result (All (λ reading. reading < target) readings.now)
-        (λ n. (n < length readings.now) × (target ≤ slice_index readings.now n) × (reached readings.now target ≡ drop n readings.now)) }
+        (λ n. (n < length readings.now) × (target ≤ slice_index readings.now n) × (remaining_from readings.now target ≡ drop n readings.now)) }
 {
     readings.iter().position(|&reading| target <= reading)
 }

@@ -16,7 +16,7 @@ use Rattle.code_listing.specs.Listings.{listing}
 use Rattle.code_listing.specs.NumberRanges.{AllFit}
 use Rattle.pals_code.specs.declared.answer.Answer.{Answer}
 use Rattle.pals_code.specs.declared.status.TheConstants.{DONE, CODE_TOO_LONG}
-use Rattle.pals_code.specs.BundleAnswers.{code_fault_line, IsRefused, IsListingAnswer}
+use Rattle.pals_code.specs.BundleAnswers.{overlong_code_line, IsRefused, IsListingAnswer}
 use Rattle.pals_code.specs.proof.StatusAndText.{status_of, text_of, Says, SaysWhy}
 
 pub refused : (root bundle : List ℕ) (refusal : Refusal) (a : Answer) → IsRefusal root bundle refusal
@@ -30,17 +30,17 @@ refused root bundle Memory a is says = absurd says
 -- a line on a component, by another name of it
 pub code_said : {E : Type 0} (design : DesignParts) (answered : Result Answer E) {m n : NodeNo} {s t : ℕ}
     → m ≡ n → s ≡ t
-    → IfOk answered (Says CODE_TOO_LONG (code_fault_line design m.0 s ++ line_end))
-    → IfOk answered (Says CODE_TOO_LONG (code_fault_line design n.0 t ++ line_end))
+    → IfOk answered (Says CODE_TOO_LONG (overlong_code_line design m.0 s ++ line_end))
+    → IfOk answered (Says CODE_TOO_LONG (overlong_code_line design n.0 t ++ line_end))
 code_said design answered {m} {n} {s} {t} same_node same_size said =
-    subst (λ (size : ℕ). IfOk answered (Says CODE_TOO_LONG (code_fault_line design n.0 size ++ line_end))) same_size
-    (subst (λ (node : NodeNo). IfOk answered (Says CODE_TOO_LONG (code_fault_line design node.0 s ++ line_end)))
+    subst (λ (size : ℕ). IfOk answered (Says CODE_TOO_LONG (overlong_code_line design n.0 size ++ line_end))) same_size
+    (subst (λ (node : NodeNo). IfOk answered (Says CODE_TOO_LONG (overlong_code_line design node.0 s ++ line_end)))
     same_node said)
 
 pub code_refused : {E : Type 0} (root bundle : List ℕ) (design : DesignParts) (scenario : List ℕ) (node : NodeNo)
     (size : ℕ) (answered : Result Answer E)
     → IsAccepted root bundle design scenario → IsFirstTooLong design node.0 size
-    → IfOk answered (Says CODE_TOO_LONG (code_fault_line design node.0 size ++ line_end))
+    → IfOk answered (Says CODE_TOO_LONG (overlong_code_line design node.0 size ++ line_end))
     → IfOk answered (λ a. IsListingAnswer root bundle (status_of a) (text_of a))
 code_refused root bundle design scenario node size (Ok a) accepted long says =
     inr (inl (record {

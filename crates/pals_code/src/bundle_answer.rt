@@ -5,7 +5,7 @@ ghost use Rattle.bundle_designs.specs.BundleMeanings.{IsAccepted};
 ghost use Rattle.code_listing.specs.Listings.{listing};
 ghost use Rattle.code_listing.specs.NumberRanges.{AllFit};
 ghost use Rattle.pals_code.specs.declared.status.TheConstants.{CODE_TOO_LONG, DONE};
-ghost use Rattle.pals_code.specs.BundleAnswers.{code_fault_line, IsListingAnswer};
+ghost use Rattle.pals_code.specs.BundleAnswers.{overlong_code_line, IsListingAnswer};
 ghost use Rattle.pals_code.specs.proof.StatusAndText.{status_of, text_of, Says};
 
 use crate::answer::Answer;
@@ -14,7 +14,7 @@ use code_listing::add_listing;
 use design_codes::{CodesError, compile_all};
 use pals_base::{NoMemory, NodeNo, Text};
 use pals_model::Design;
-use pals_report::add_code_fault;
+use pals_report::add_overlong_code;
 use std::alloc::{AllocError, Global};
 use step_code::Code;
 
@@ -58,9 +58,9 @@ fn code_too_long(
     node: NodeNo,
     length: u64,
 ) -> Result<Answer, NoMemory>
-    ensures { IfOk result (Says CODE_TOO_LONG (code_fault_line design.now node.0 length ++ line_end)) }
+    ensures { IfOk result (Says CODE_TOO_LONG (overlong_code_line design.now node.0 length ++ line_end)) }
 {
     let mut line = Vec::new(alloc);
-    add_code_fault(&mut line, design, node, length)?;
+    add_overlong_code(&mut line, design, node, length)?;
     Ok(Answer::CodeTooLong(line))
 }

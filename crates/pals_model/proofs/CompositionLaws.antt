@@ -27,8 +27,8 @@ use Rattle.pals_model.specs.declared.design.Tap.{Tap}
 use Rattle.pals_model.specs.declared.part.Part.{Part}
 use Rattle.pals_model.specs.declared.design.DesignParts.{DesignParts}
 use Rattle.pals_model.specs.declared.environment.Env.{Env}
-use Rattle.pals_model.specs.ComponentInputs.{values_at, feed, inputs_of, inputs_in, source_of, from_link, from_feed}
-use Rattle.pals_model.specs.ComponentInputs.{link_goes_to, feed_goes_to, reading}
+use Rattle.pals_model.specs.ComponentInputs.{values_at, input_vectors, inputs_of, inputs_in, source_of, from_link, from_feed}
+use Rattle.pals_model.specs.ComponentInputs.{link_goes_to, feed_goes_to, brought_tuple}
 use Rattle.pals_model.specs.PortKinds.{rate_of, rate_in}
 use Rattle.pals_model.specs.Composition.{comp, next, state, msg, no_frame, steps_from, steps_of_round, message_of}
 use Rattle.pals_model.specs.Composition.{tuple_in, part, taps_of}
@@ -103,7 +103,7 @@ steps_from-at design values messages first (d ∷ cs) (frame ∷ frames) (suc k)
 pub steps_of_round-at : (design : DesignParts) (env : Env) (node round : ℕ) (c : Component)
     → slice_get design.components node ≡ Some c
     → slice_get (steps_of_round design env round) node ≡ Some (own_steps design env node round c)
-unfolding state feed
+unfolding state input_vectors
 steps_of_round-at design env node round c is_c =
     steps_from-at design (values_at env round) (comp design env round).messages 0 design.components
     (comp design env round).frames node node c (omega arith) is_c (one_frame_each design env round)
@@ -111,7 +111,7 @@ steps_of_round-at design env node round c is_c =
     (inputs_in design (values_at env round) (comp design env round).messages node o))) (sym is_c)
 
 pub state_goes_on : StateGoesOn
-unfolding state comp feed
+unfolding state comp input_vectors
 state_goes_on design env node round c is_c =
     get_or_from_slice_get (map (λ (s : Stepped). s.frame) (steps_of_round design env round)) node
     (own_steps design env node round c).frame no_frame
@@ -119,7 +119,7 @@ state_goes_on design env node round c is_c =
     ∙ ap (option_map (λ (s : Stepped). s.frame)) (steps_of_round-at design env node round c is_c))
 
 pub message_from_source : MessageFromSource
-unfolding msg comp feed state
+unfolding msg comp input_vectors state
 message_from_source design env number round link c is_link is_c =
     get_or_from_slice_get (map (message_of design (steps_of_round design env round)) design.links) number
     (message_of design (steps_of_round design env round) link) []
@@ -131,7 +131,7 @@ message_from_source design env number round link c is_link is_c =
     (steps_of_round-at design env link.source.0 round c is_c)
 
 pub part_from_steps : PartFromSteps
-unfolding part state comp feed
+unfolding part state comp input_vectors
 part_from_steps design env node round c is_c =
     ap₂ (λ (frame : Frame) (outs : List (List PortValue)). let p : Part = record { frame = frame; outs = outs } in p)
     (state_goes_on design env node round c is_c)
@@ -164,26 +164,26 @@ no_link_into links node port apart =
 
 -- what a feed or nothing brings has no part in the messages
 without_link : (design : DesignParts) (values : List PortValue) (messages : List (List PortValue)) (rate : ℕ)
-    (fed : Option ℕ) → reading design values messages rate (from_feed design fed)
-    ≡ reading design values [] rate (from_feed design fed)
+    (fed : Option ℕ) → brought_tuple design values messages rate (from_feed design fed)
+    ≡ brought_tuple design values [] rate (from_feed design fed)
 without_link design values messages rate None = refl
-without_link design values messages rate (Some feed) = refl
+without_link design values messages rate (Some input_vectors) = refl
 
 port_alone : (design : DesignParts) (values : List PortValue) (messages : List (List PortValue)) (node rate port : ℕ)
     → All (λ link. link.target.0 ≢ node) design.links
-    → reading design values messages rate (source_of design node port)
-    ≡ reading design values [] rate (source_of design node port)
+    → brought_tuple design values messages rate (source_of design node port)
+    ≡ brought_tuple design values [] rate (source_of design node port)
 port_alone design values messages node rate port apart =
     let fed = position (feed_goes_to node port) design.feeds in
     let none : source_of design node port ≡ from_feed design fed =
     ap (λ link. from_link link (from_feed design fed)) (no_link_into design.links node port apart) in
-    ap (reading design values messages rate) none ∙ without_link design values messages rate fed
-    ∙ sym (ap (reading design values [] rate) none)
+    ap (brought_tuple design values messages rate) none ∙ without_link design values messages rate fed
+    ∙ sym (ap (brought_tuple design values [] rate) none)
 
 ports_alone : (design : DesignParts) (values : List PortValue) (messages : List (List PortValue)) (node rate : ℕ)
     → All (λ link. link.target.0 ≢ node) design.links → (ports : List ℕ)
-    → map (reading design values messages rate) (map (λ port. source_of design node port) ports)
-    ≡ map (reading design values [] rate) (map (λ port. source_of design node port) ports)
+    → map (brought_tuple design values messages rate) (map (λ port. source_of design node port) ports)
+    ≡ map (brought_tuple design values [] rate) (map (λ port. source_of design node port) ports)
 ports_alone design values messages node rate apart [] = refl
 ports_alone design values messages node rate apart (port ∷ ports) =
     ap₂ (λ t ts. t ∷ ts) (port_alone design values messages node rate port apart)
@@ -197,8 +197,8 @@ inputs_alone design values messages node c apart =
 
 feed_alone : (design : DesignParts) (env : Env) (messages : List (List PortValue)) (node round : ℕ) (c : Component)
     → slice_get design.components node ≡ Some c → All (λ link. link.target.0 ≢ node) design.links
-    → feed design env messages node round ≡ feed design env [] node round
-unfolding feed
+    → input_vectors design env messages node round ≡ input_vectors design env [] node round
+unfolding input_vectors
 feed_alone design env messages node round c is_c apart =
     ap (inputs_in design (values_at env round) messages node) is_c
     ∙ inputs_alone design (values_at env round) messages node c apart
@@ -216,7 +216,7 @@ pub runs_alone : RunsAlone
 unfolding state
 runs_alone design env node zero c is_c apart = state_begins design env node c is_c
 runs_alone design env node (suc rounds) c is_c apart =
-    let alone : ℕ → List (List PortValue) = λ round. feed design env [] node round in
+    let alone : ℕ → List (List PortValue) = λ round. input_vectors design env [] node round in
     let before : List (List PortValue) = flat_map alone (upwards 0 rounds) in
     state_goes_on design env node rounds c is_c
     ∙ ap (frame_after c.behaviour (state design env node rounds))

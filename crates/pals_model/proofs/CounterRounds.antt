@@ -2,10 +2,10 @@
 use Rattle.std.proofs.Common.{refl}
 use Rattle.std.specs.Fmt.{digits}
 use Rattle.pals_base.specs.SingleStep.{fire}
-use Rattle.pals_model.specs.ComponentInputs.{feed}
+use Rattle.pals_model.specs.ComponentInputs.{input_vectors}
 use Rattle.pals_model.specs.Composition.{comp, part}
 use Rattle.pals_model.specs.proof.TwoCounters.{CountersCount}
 
 pub counters_count : CountersCount
-unfolding digits fire comp part feed
+unfolding digits fire comp part input_vectors
 counters_count = refl

@@ -17,7 +17,7 @@ use Rattle.pals_base.specs.declared.behaviour.BehaviourParts.{BehaviourParts}
 use Rattle.pals_base.specs.declared.expression_kinds.Kinds.{Kinds}
 use Rattle.pals_base.specs.Arithmetic.{negation_of, magnitude_of}
 use Rattle.pals_base.specs.ExpressionValues.{on_value, is_true, truth, same_number, applied, combined, eval, eval_rest}
-use Rattle.pals_base.specs.TypingRules.{only, allows, literal_kinds, declared_or, port_kinds, joined, kinds_of}
+use Rattle.pals_base.specs.TypingRules.{only, allows, literal_kinds, declared_or, port_kinds, operator_kinds, kinds_of}
 use Rattle.pals_base.specs.TypingRules.{kinds_along}
 use Rattle.pals_base.specs.PlainTrees.{Expression, Literal, Variable, PortRead, Fresh, Neg, Abs, Not, Chain, Operands}
 use Rattle.pals_base.specs.PlainTrees.{NoMore, Then}
@@ -70,45 +70,45 @@ port_by (Some d) v fits = only_may d.kind v (fits d refl)
 -- ---- operators
 
 combined_may : (op : Op) (a b : Kinds) (left : ℤ) (right : Result ℤ Trap) → MayBe a left → IfOk right (MayBe b)
-    → IfOk (combined op left right) (MayBe (joined op a b))
+    → IfOk (combined op left right) (MayBe (operator_kinds op a b))
 combined_may Add a b left right one two =
-    any_ok (MayBe (joined Add a b)) (combined Add left right) (λ x is. absurd (false≢true is))
+    any_ok (MayBe (operator_kinds Add a b)) (combined Add left right) (λ x is. absurd (false≢true is))
 combined_may Sub a b left right one two =
-    any_ok (MayBe (joined Sub a b)) (combined Sub left right) (λ x is. absurd (false≢true is))
+    any_ok (MayBe (operator_kinds Sub a b)) (combined Sub left right) (λ x is. absurd (false≢true is))
 combined_may Mul a b left right one two =
-    any_ok (MayBe (joined Mul a b)) (combined Mul left right) (λ x is. absurd (false≢true is))
+    any_ok (MayBe (operator_kinds Mul a b)) (combined Mul left right) (λ x is. absurd (false≢true is))
 combined_may Quot a b left right one two =
-    any_ok (MayBe (joined Quot a b)) (combined Quot left right) (λ x is. absurd (false≢true is))
+    any_ok (MayBe (operator_kinds Quot a b)) (combined Quot left right) (λ x is. absurd (false≢true is))
 combined_may Mod a b left right one two =
-    any_ok (MayBe (joined Mod a b)) (combined Mod left right) (λ x is. absurd (false≢true is))
+    any_ok (MayBe (operator_kinds Mod a b)) (combined Mod left right) (λ x is. absurd (false≢true is))
 combined_may Rem a b left right one two =
-    any_ok (MayBe (joined Rem a b)) (combined Rem left right) (λ x is. absurd (false≢true is))
+    any_ok (MayBe (operator_kinds Rem a b)) (combined Rem left right) (λ x is. absurd (false≢true is))
 combined_may Eq a b left right one two =
-    on_ok (MayBe (joined Eq a b)) right (λ x. applied Eq left x) (λ x is. truth_fits (same_number left x))
+    on_ok (MayBe (operator_kinds Eq a b)) right (λ x. applied Eq left x) (λ x is. truth_fits (same_number left x))
 combined_may Ne a b left right one two =
-    on_ok (MayBe (joined Ne a b)) right (λ x. applied Ne left x) (λ x is. truth_fits (not (same_number left x)))
+    on_ok (MayBe (operator_kinds Ne a b)) right (λ x. applied Ne left x) (λ x is. truth_fits (not (same_number left x)))
 combined_may Lt a b left right one two =
-    on_ok (MayBe (joined Lt a b)) right (λ x. applied Lt left x) (λ x is. truth_fits (int_lt left x))
+    on_ok (MayBe (operator_kinds Lt a b)) right (λ x. applied Lt left x) (λ x is. truth_fits (int_lt left x))
 combined_may Le a b left right one two =
-    on_ok (MayBe (joined Le a b)) right (λ x. applied Le left x) (λ x is. truth_fits (int_le left x))
+    on_ok (MayBe (operator_kinds Le a b)) right (λ x. applied Le left x) (λ x is. truth_fits (int_le left x))
 combined_may Gt a b left right one two =
-    on_ok (MayBe (joined Gt a b)) right (λ x. applied Gt left x) (λ x is. truth_fits (int_lt x left))
+    on_ok (MayBe (operator_kinds Gt a b)) right (λ x. applied Gt left x) (λ x is. truth_fits (int_lt x left))
 combined_may Ge a b left right one two =
-    on_ok (MayBe (joined Ge a b)) right (λ x. applied Ge left x) (λ x is. truth_fits (int_le x left))
+    on_ok (MayBe (operator_kinds Ge a b)) right (λ x. applied Ge left x) (λ x is. truth_fits (int_le x left))
 combined_may And a b left right one two =
-    on_ok (MayBe (joined And a b)) right (λ x. applied And left x) (λ x is. truth_fits (is_true left && is_true x))
+    on_ok (MayBe (operator_kinds And a b)) right (λ x. applied And left x) (λ x is. truth_fits (is_true left && is_true x))
 combined_may Or a b left right one two =
-    on_ok (MayBe (joined Or a b)) right (λ x. applied Or left x) (λ x is. truth_fits (is_true left || is_true x))
+    on_ok (MayBe (operator_kinds Or a b)) right (λ x. applied Or left x) (λ x is. truth_fits (is_true left || is_true x))
 combined_may Xor a b left right one two =
-    on_ok (MayBe (joined Xor a b)) right (λ x. applied Xor left x)
+    on_ok (MayBe (operator_kinds Xor a b)) right (λ x. applied Xor left x)
     (λ x is. truth_fits (cond (is_true left) (not (is_true x)) (is_true x)))
 combined_may AndThen a b left right one two =
-    if_ok (MayBe (joined AndThen a b)) (is_true left) right (Ok (pos 0))
-    (IfOk-weaker (MayBe b) (MayBe (joined AndThen a b)) right (λ x may is. may (and_parts a.boolean b.boolean is).1)
+    if_ok (MayBe (operator_kinds AndThen a b)) (is_true left) right (Ok (pos 0))
+    (IfOk-weaker (MayBe b) (MayBe (operator_kinds AndThen a b)) right (λ x may is. may (and_parts a.boolean b.boolean is).1)
     two) (λ is. inl refl)
 combined_may OrElse a b left right one two =
-    if_ok (MayBe (joined OrElse a b)) (is_true left) (Ok (pos 1)) right (λ is. inr refl)
-    (IfOk-weaker (MayBe b) (MayBe (joined OrElse a b)) right
+    if_ok (MayBe (operator_kinds OrElse a b)) (is_true left) (Ok (pos 1)) right (λ is. inr refl)
+    (IfOk-weaker (MayBe b) (MayBe (operator_kinds OrElse a b)) right
     (λ x may is. may (and_parts a.boolean b.boolean is).1) two)
 
 -- ---- expressions
@@ -141,9 +141,9 @@ mutual
       → IfOk (eval_rest rest frame fresh left) (MayBe (kinds_along rest b loops kinds))
   rest_may NoMore b loops frame fresh vars held kinds left may = may
   rest_may (Then op e rest) b loops frame fresh vars held kinds left may =
-      then_ok (MayBe (joined op kinds (kinds_of e b loops)))
-      (MayBe (kinds_along rest b loops (joined op kinds (kinds_of e b loops))))
+      then_ok (MayBe (operator_kinds op kinds (kinds_of e b loops)))
+      (MayBe (kinds_along rest b loops (operator_kinds op kinds (kinds_of e b loops))))
       (combined op left (eval e frame fresh)) (λ v. eval_rest rest frame fresh v)
       (combined_may op kinds (kinds_of e b loops) left (eval e frame fresh) may
       (eval_may e b loops frame fresh vars held))
-      (λ v so_far. rest_may rest b loops frame fresh vars held (joined op kinds (kinds_of e b loops)) v so_far)
+      (λ v so_far. rest_may rest b loops frame fresh vars held (operator_kinds op kinds (kinds_of e b loops)) v so_far)

@@ -26,8 +26,8 @@ use Rattle.pals_model.specs.declared.design.Tap.{Tap}
 use Rattle.pals_model.specs.declared.design.DesignParts.{DesignParts}
 use Rattle.pals_model.specs.declared.environment.Env.{Env}
 use Rattle.pals_model.specs.ComponentInputs.{root_of, values_at, link_goes_to, feed_goes_to, from_feed, from_link}
-use Rattle.pals_model.specs.ComponentInputs.{source_of, sources_of, read_feed, read_link, reading, inputs_of, inputs_in}
-use Rattle.pals_model.specs.ComponentInputs.{feed}
+use Rattle.pals_model.specs.ComponentInputs.{source_of, sources_of, read_feed, read_link, brought_tuple, inputs_of, inputs_in}
+use Rattle.pals_model.specs.ComponentInputs.{input_vectors}
 use Rattle.pals_model.specs.PortKinds.{rate_of, kind_of, in_kind, out_kind, outs_in, root_kind}
 use Rattle.pals_model.specs.Composition.{comp, state, msg, taps_of}
 use Rattle.pals_model.specs.DesignRules.{IsDesign, IsLink, IsFeed, IsTap}
@@ -71,7 +71,7 @@ source_fits : (design : DesignParts) (env : Env) (round : ℕ) (messages : List 
     → IsDesign design → EnvFits design env → MessagesAreFit design messages
     → slice_get design.components node ≡ Some c → slice_get c.behaviour.ins p ≡ Some port
     → position (link_goes_to node p) design.links ≡ l → position (feed_goes_to node p) design.feeds ≡ f
-    → TupleFits port.kind (reading design (values_at env round) messages c.rate (from_link l (from_feed design f)))
+    → TupleFits port.kind (brought_tuple design (values_at env round) messages c.rate (from_link l (from_feed design f)))
 source_fits design env round messages node p c port (Some number) f rules given sent is_c is_port to_link to_feed =
     let at = found_at (link_goes_to node p) design.links number to_link in
     let link = at.0 in
@@ -113,7 +113,7 @@ vectors_fit : (design : DesignParts) (env : Env) (round : ℕ) (messages : List 
     → IsDesign design → EnvFits design env → MessagesAreFit design messages → slice_get design.components node ≡ Some c
     → All (PortsFit c.behaviour.ins) (inputs_of design (values_at env round) messages node c)
 vectors_fit design env round messages node c rules given sent is_c =
-    let R = reading design (values_at env round) messages c.rate in
+    let R = brought_tuple design (values_at env round) messages c.rate in
     let lists = map R (sources_of design node c) in
     map_all (λ (at : ℕ). Unit {0}) (PortsFit c.behaviour.ins) (λ at. column at lists) (upwards 0 c.rate)
     (λ at unit p port is.
@@ -132,8 +132,8 @@ vectors_fit design env round messages node c rules given sent is_c =
 
 feed_fits : (design : DesignParts) (env : Env) (messages : List (List PortValue)) (node round : ℕ) (c : Component)
     → IsDesign design → EnvFits design env → MessagesAreFit design messages → slice_get design.components node ≡ Some c
-    → All (PortsFit c.behaviour.ins) (feed design env messages node round)
-unfolding feed
+    → All (PortsFit c.behaviour.ins) (input_vectors design env messages node round)
+unfolding input_vectors
 feed_fits design env messages node round c rules given sent is_c =
     subst (All (PortsFit c.behaviour.ins)) (sym (ap (inputs_in design (values_at env round) messages node) is_c))
     (vectors_fit design env round messages node c rules given sent is_c)
@@ -148,7 +148,7 @@ next_frame : (design : DesignParts) (env : Env) (node round : ℕ) (c : Componen
     → RoundFits design env round → slice_get design.components node ≡ Some c
     → FrameFits c.behaviour (own_steps design env node round c).frame
 next_frame design env node round c rules given before is_c =
-    frames_fit c.behaviour (state design env node round) (feed design env (comp design env round).messages node round)
+    frames_fit c.behaviour (state design env node round) (input_vectors design env (comp design env round).messages node round)
     (is_behaviour design node c rules is_c) (state_has_shape design env node round c rules is_c)
     (before.frames node c is_c)
     (feed_fits design env (comp design env round).messages node round c rules given before.messages is_c)
@@ -160,7 +160,7 @@ tuple_fits : (design : DesignParts) (env : Env) (node round out_port : ℕ) (c :
     → TupleFits (out_kind (Some c) out_port) (slice_index_or (own_steps design env node round c).tuples out_port [])
 tuple_fits design env node round out_port c rules given before is_c within =
     let frame = state design env node round in
-    let vectors = feed design env (comp design env round).messages node round in
+    let vectors = input_vectors design env (comp design env round).messages node round in
     let outs = outputs c.behaviour frame vectors in
     let all =
     outputs_fit c.behaviour frame vectors (is_behaviour design node c rules is_c)

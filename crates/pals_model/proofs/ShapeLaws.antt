@@ -23,12 +23,12 @@ use Rattle.pals_model.specs.declared.design.Link.{Link}
 use Rattle.pals_model.specs.declared.design.Tap.{Tap}
 use Rattle.pals_model.specs.declared.design.DesignParts.{DesignParts}
 use Rattle.pals_model.specs.declared.environment.Env.{Env}
-use Rattle.pals_model.specs.ComponentInputs.{values_at, feed, inputs_of, inputs_in, sources_of, source_of, reading}
+use Rattle.pals_model.specs.ComponentInputs.{values_at, input_vectors, inputs_of, inputs_in, sources_of, source_of, brought_tuple}
 use Rattle.pals_model.specs.PortKinds.{rate_of, rate_in, outs_in}
 use Rattle.pals_model.specs.Composition.{comp, state, msg, taps_of}
 use Rattle.pals_model.specs.DesignRules.{IsDesign, IsComponent, IsLink, IsTap}
 use Rattle.pals_model.specs.proof.CompositionLaws.{own_steps}
-use Rattle.pals_model.specs.proof.CompositionLaws.Shapes.{AreVectors, AreTuples, IsPart, FeedHasVectors, StateHasShape}
+use Rattle.pals_model.specs.proof.CompositionLaws.Shapes.{AreVectors, AreTuples, IsPart, InputsAreVectors, StateHasShape}
 use Rattle.pals_model.specs.proof.CompositionLaws.Shapes.{StepsGiveTuples, MessageHasRate, WaitingMessageHasRate}
 use Rattle.pals_model.specs.proof.CompositionLaws.Shapes.{PartHasShape}
 use Rattle.pals_model.proofs.CompositionLaws.{state_begins, state_goes_on, message_from_source, part_from_steps}
@@ -55,19 +55,19 @@ inputs_are_vectors : (design : DesignParts) (values : List PortValue) (messages 
 inputs_are_vectors design values messages node c =
     let ports = upwards 0 (length c.behaviour.ins) in
     let sources = sources_of design node c in
-    let size : length (map (reading design values messages c.rate) sources) ≡ length c.behaviour.ins
+    let size : length (map (brought_tuple design values messages c.rate) sources) ≡ length c.behaviour.ins
     =
-    length-map sources (reading design values messages c.rate)
+    length-map sources (brought_tuple design values messages c.rate)
     ∙ length-map ports (λ port. source_of design node port) ∙ length-upwards 0 (length c.behaviour.ins) in
     record {
-      count = length-columns c.rate (map (reading design values messages c.rate) sources);
+      count = length-columns c.rate (map (brought_tuple design values messages c.rate) sources);
       each =
           columns_have_lengths c.rate (length c.behaviour.ins)
-          (map (reading design values messages c.rate) sources) size;
+          (map (brought_tuple design values messages c.rate) sources) size;
     }
 
-pub feed_has_vectors : FeedHasVectors
-unfolding feed
+pub feed_has_vectors : InputsAreVectors
+unfolding input_vectors
 feed_has_vectors design env messages node round c is_c =
     subst (AreVectors c) (sym (ap (inputs_in design (values_at env round) messages node) is_c))
     (inputs_are_vectors design (values_at env round) messages node c)
@@ -92,14 +92,14 @@ state_has_shape design env node zero c rules is_c =
 state_has_shape design env node (suc round) c rules is_c =
     subst (HasShape c.behaviour) (sym (state_goes_on design env node round c is_c))
     (steps_keep_shape c.behaviour (state design env node round)
-    (feed design env (comp design env round).messages node round) (is_behaviour design node c rules is_c)
+    (input_vectors design env (comp design env round).messages node round) (is_behaviour design node c rules is_c)
     (state_has_shape design env node round c rules is_c))
 
 -- ---- outputs
 pub steps_give_tuples : StepsGiveTuples
 steps_give_tuples design env node round c is_c =
     let frame = state design env node round in
-    let vectors = feed design env (comp design env round).messages node round in
+    let vectors = input_vectors design env (comp design env round).messages node round in
     let outs = outputs c.behaviour frame vectors in
     record {
       count_is = length-columns (length c.behaviour.outs) outs;

@@ -20,7 +20,7 @@ use Rattle.pals_base.specs.Tuples.{so_far, with_places}
 use Rattle.pals_base.proofs.StepTermination.{fires_well}
 use Rattle.pals_base.proofs.StepSequences.{frame_after-append, outputs-append}
 use Rattle.pals_base.proofs.RoundUnderWay.{so_far-none, so_far-one_more, so_far-all}
-use Rattle.pals_model.specs.ComponentInputs.{feed}
+use Rattle.pals_model.specs.ComponentInputs.{input_vectors}
 use Rattle.pals_model.specs.Composition.{comp, state, under_way}
 use Rattle.pals_model.specs.proof.CompositionLaws.Steps.{stepped_on, RoundBegins, RoundGoesOn, RoundEnds, PlacesStay}
 use Rattle.pals_model.specs.proof.CompositionLaws.Steps.{TrapIsSilent}
@@ -74,7 +74,7 @@ round_begins design env node round c = begins c.behaviour (state design env node
 pub round_goes_on : RoundGoesOn
 round_goes_on design env node round c count inputs rules is_c is =
     let frame = state design env node round in
-    let vectors = feed design env (comp design env round).messages node round in
+    let vectors = input_vectors design env (comp design env round).messages node round in
     let size : length vectors ≡ c.rate =
     (feed_has_vectors design env (comp design env round).messages node round c is_c).count in
     let within : count < length vectors = slice_get_within vectors count inputs is in
@@ -87,7 +87,7 @@ round_goes_on design env node round c count inputs rules is_c is =
 pub round_ends : RoundEnds
 round_ends design env node round c is_c =
     let frame = state design env node round in
-    let vectors = feed design env (comp design env round).messages node round in
+    let vectors = input_vectors design env (comp design env round).messages node round in
     let size : length vectors ≡ c.rate =
     (feed_has_vectors design env (comp design env round).messages node round c is_c).count in
     ap (λ n. under_way c.behaviour frame n (take n vectors)) (sym size)

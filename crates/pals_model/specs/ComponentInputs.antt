@@ -26,7 +26,7 @@ new_names before (name ∷ names) =
     else name ∷ new_names (before ++ name ∷ []) names
 
 abbrev pub feed_names : DesignParts → List (List ℕ)
-feed_names design = map (λ (feed : Feed). feed.name) design.feeds
+feed_names design = map (λ (input_vectors : Feed). input_vectors.name) design.feeds
 
 -- the root in ports: the names of the feeds, each once, where it comes first
 abbrev pub root_inputs : DesignParts → List (List ℕ)
@@ -38,7 +38,7 @@ place_of name names = unwrap_or (position (bytes_eq name) names) 0
 
 -- the place among the root in ports of the one that a feed reads
 abbrev pub root_of : DesignParts → ℕ → ℕ
-root_of design feed = place_of (slice_index_or (feed_names design) feed []) (root_inputs design)
+root_of design input_vectors = place_of (slice_index_or (feed_names design) input_vectors []) (root_inputs design)
 
 -- the value that each root in port has in a round, absent past its list
 abbrev pub values_at : Env → ℕ → List PortValue
@@ -49,11 +49,11 @@ abbrev pub link_goes_to : ℕ → ℕ → Link → Bool
 link_goes_to node port link = nat_eq link.target.0 node && nat_eq link.in_port port
 
 abbrev pub feed_goes_to : ℕ → ℕ → Feed → Bool
-feed_goes_to node port feed = nat_eq feed.target.0 node && nat_eq feed.in_port port
+feed_goes_to node port input_vectors = nat_eq input_vectors.target.0 node && nat_eq input_vectors.in_port port
 
 abbrev pub from_feed : DesignParts → Option ℕ → PortSource
 from_feed design None = source.Nothing
-from_feed design (Some feed) = source.Feed feed (root_of design feed)
+from_feed design (Some input_vectors) = source.Feed input_vectors (root_of design input_vectors)
 
 abbrev pub from_link : Option ℕ → PortSource → PortSource
 from_link None otherwise = otherwise
@@ -77,24 +77,24 @@ all_sources design = map (λ numbered. sources_of design numbered.0 numbered.1) 
 -- a root in port is read as a source of rate 1
 abbrev pub read_feed : PortValue → ℕ → Option Feed → List PortValue
 read_feed value rate None = replicate rate Absent
-read_feed value rate (Some feed) = adapt feed.adaptor 1 rate (value ∷ [])
+read_feed value rate (Some input_vectors) = adapt input_vectors.adaptor 1 rate (value ∷ [])
 
 abbrev pub read_link : DesignParts → ℕ → List PortValue → Option Link → List PortValue
 read_link design rate message None = replicate rate Absent
 read_link design rate message (Some link) = adapt link.adaptor (rate_of design link.source.0) rate message
 
 -- the tuple that an in port of a component of this rate brings, from the root in ports' values and the links' messages
-abbrev pub reading : DesignParts → List PortValue → List (List PortValue) → ℕ → PortSource → List PortValue
-reading design values messages rate source.Nothing = replicate rate Absent
-reading design values messages rate (source.Feed feed root) =
-    read_feed (slice_index_or values root Absent) rate (slice_get design.feeds feed)
-reading design values messages rate (source.Link link) =
+abbrev pub brought_tuple : DesignParts → List PortValue → List (List PortValue) → ℕ → PortSource → List PortValue
+brought_tuple design values messages rate source.Nothing = replicate rate Absent
+brought_tuple design values messages rate (source.Feed input_vectors root) =
+    read_feed (slice_index_or values root Absent) rate (slice_get design.feeds input_vectors)
+brought_tuple design values messages rate (source.Link link) =
     read_link design rate (slice_index_or messages link []) (slice_get design.links link)
 
 -- the input vectors of a component's round, one for each step: vector n has place n of each tuple
 abbrev pub inputs_of : DesignParts → List PortValue → List (List PortValue) → ℕ → Component → List (List PortValue)
 inputs_of design values messages node c =
-    columns c.rate (map (reading design values messages c.rate) (sources_of design node c))
+    columns c.rate (map (brought_tuple design values messages c.rate) (sources_of design node c))
 
 abbrev pub inputs_in : DesignParts → List PortValue → List (List PortValue) → ℕ → Option Component
     → List (List PortValue)
@@ -102,8 +102,8 @@ inputs_in design values messages node None = []
 inputs_in design values messages node (Some c) = inputs_of design values messages node c
 
 -- the input vectors of a component's round, by the component's number
-unfoldable pub feed : DesignParts → Env → List (List PortValue) → ℕ → ℕ → List (List PortValue)
-feed design env messages node round =
+unfoldable pub input_vectors : DesignParts → Env → List (List PortValue) → ℕ → ℕ → List (List PortValue)
+input_vectors design env messages node round =
     inputs_in design (values_at env round) messages node (slice_get design.components node)
 
 abbrev pub no_env : Env

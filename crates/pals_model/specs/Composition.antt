@@ -15,7 +15,7 @@ use Rattle.pals_model.specs.declared.design.Tap.{Tap}
 use Rattle.pals_model.specs.declared.design.DesignParts.{DesignParts}
 use Rattle.pals_model.specs.declared.environment.Env.{Env}
 use Rattle.pals_model.specs.declared.part.Part.{Part}
-use Rattle.pals_model.specs.ComponentInputs.{inputs_of, values_at, feed}
+use Rattle.pals_model.specs.ComponentInputs.{inputs_of, values_at, input_vectors}
 use Rattle.pals_model.specs.PortKinds.{rate_of}
 use Rattle.pals_base.specs.declared.behaviour.BehaviourParts.{BehaviourParts}
 
@@ -107,7 +107,7 @@ under_way b frame rate vectors =
     record { frame = frame_after b frame vectors; tuples = so_far (length b.outs) rate (outputs b frame vectors) }
 
 -- a component's own round, after its first steps
-abbrev pub own_steps_so_far : DesignParts → Env → ℕ → ℕ → Component → ℕ → Stepped
-own_steps_so_far design env node round c count =
+abbrev pub partial_steps : DesignParts → Env → ℕ → ℕ → Component → ℕ → Stepped
+partial_steps design env node round c count =
     under_way c.behaviour (state design env node round) c.rate
-    (take count (feed design env (comp design env round).messages node round))
+    (take count (input_vectors design env (comp design env round).messages node round))

@@ -9,7 +9,7 @@ use pals_model::Design;
 
 /// Adds the line of a component whose code would have `length` instructions. If there is not enough
 /// memory, nothing is added.
-pub fn add_code_fault(
+pub fn add_overlong_code(
     out: &mut Vec<u8>,
     design: &Design,
     node: NodeNo,

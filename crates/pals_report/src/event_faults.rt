@@ -2,7 +2,7 @@
 ghost use Rattle.std.specs.Prelude.{◌≡◌, [], ◌∷◌, ◌++◌, decimal, OnOk, OnErr, codes};
 ghost use Rattle.pals_model.specs.RoundTexts.{line_end};
 ghost use Rattle.pals_runs.specs.JournalLines.{node_word, link_word, spaced};
-ghost use Rattle.pals_report.specs.EventFaultLines.{which_words, event_fault_line};
+ghost use Rattle.pals_report.specs.EventFaultLines.{subject_words, event_fault_line};
 
 use crate::line_word::{LineWord, add_line, link_word, node_word};
 use pals_base::{LinkNo, Nanos, NoMemory, NodeNo};
@@ -84,11 +84,11 @@ fn add_time<'a>(
     design: &'a DesignParts,
     index: u32,
     fault: &'a [u8],
-    which: EventSubject,
+    subject: EventSubject,
     time: Nanos,
 ) -> Result<(), NoMemory>
     ensures ok { OnOk result (out.new.items ≡ out.old.items
-        ++ spaced (codes "event" ∷ decimal index ∷ fault.now ∷ which_words design.now which ++ decimal time ∷ [])
+        ++ spaced (codes "event" ∷ decimal index ∷ fault.now ∷ subject_words design.now subject ++ decimal time ∷ [])
         ++ line_end) }
     ensures err { OnErr result (out.new.items ≡ out.old.items) }
 {
@@ -96,7 +96,7 @@ fn add_time<'a>(
     let index = LineWord::Number(u64::from(index));
     let fault = LineWord::Bytes(fault);
     let time = LineWord::Number(time);
-    match which {
+    match subject {
         EventSubject::Node(node) => {
             let node = node_word(design, node);
             add_line(out, &[event, index, fault, node, time])
@@ -137,8 +137,8 @@ pub fn add_event_fault(
         EventFault::ClockApart { node, reading } => {
             add_reading(out, design, index, b"ClockApart", node, reading)
         }
-        EventFault::PastDeadline { which, last } => {
-            add_time(out, design, index, b"PastDeadline", which, last)
+        EventFault::PastDeadline { subject, last } => {
+            add_time(out, design, index, b"PastDeadline", subject, last)
         }
         EventFault::WrongPhase { node } => {
             let fault = LineWord::Bytes(b"WrongPhase");
@@ -158,8 +158,8 @@ pub fn add_event_fault(
                 &[event, place, fault, node, alarm, LineWord::Number(reading)],
             )
         }
-        EventFault::TooSoon { which, earliest } => {
-            add_time(out, design, index, b"TooSoon", which, earliest)
+        EventFault::TooSoon { subject, earliest } => {
+            add_time(out, design, index, b"TooSoon", subject, earliest)
         }
         EventFault::Memory => add_bare(out, index, b"Memory"),
     }

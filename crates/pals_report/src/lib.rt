@@ -27,7 +27,7 @@ mod violations;
 mod whole_writes;
 
 pub use clock_ends_and_verdicts::{add_clock_end_line, add_verdict};
-pub use code_fault::add_code_fault;
+pub use code_fault::add_overlong_code;
 pub use cursor::Cursor;
 pub use design_lines::{add_feeds, add_links, add_taps};
 pub use design_report::add_check;
@@ -35,7 +35,7 @@ pub use event_faults::add_event_fault;
 pub use journal_entries::add_entry;
 pub use line_word::{LineWord, add_line, node_word};
 pub use package_faults::add_package_fault;
-pub use round_lines::{add_frame, add_part, add_round, add_row, add_shown, add_tap};
+pub use round_lines::{add_frame, add_part, add_round, add_row, add_tap_tuple, add_tap};
 pub use round_parts::RoundParts;
 pub use scenario_faults::add_scenario_fault;
 pub use sent_messages::add_sent;

@@ -58,7 +58,7 @@ pub fn add_frame(
 
 /// Adds the line of a root out port of this type, which shows a tuple. If there is not enough
 /// memory, nothing is added.
-pub fn add_shown(
+pub fn add_tap_tuple(
     out: &mut Vec<u8>,
     kind: Kind,
     tap: &Tap,

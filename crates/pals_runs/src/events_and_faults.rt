@@ -52,7 +52,7 @@ pub enum EventFault {
     },
     /// The new time is past the last time that a node or a message allows.
     PastDeadline {
-        which: EventSubject,
+        subject: EventSubject,
         last: Nanos,
     },
     /// The node's phase allows no such event.
@@ -73,7 +73,7 @@ pub enum EventFault {
     /// A step executed, or a message was under way, less than the bounds say; it may end at the
     /// earliest at this time.
     TooSoon {
-        which: EventSubject,
+        subject: EventSubject,
         earliest: Nanos,
     },
     /// There was not enough memory.

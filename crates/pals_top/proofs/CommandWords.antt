@@ -6,8 +6,8 @@ use Rattle.std.specs.List.{list_all}
 use Rattle.std.proofs.lemmas.Bool.{eqb-true, true≢false}
 use Rattle.std.proofs.lemmas.Slice.Eq.{bytes_eq-Decides}
 use Rattle.pals_runs.specs.declared.commands.Command.{Command}
-use Rattle.pals_top.specs.CommandWords.{is_plain, is_flag, flags, plain_words, rooted_command, plain_form, command_by}
-use Rattle.pals_top.specs.CommandWords.{form}
+use Rattle.pals_top.specs.CommandWords.{is_plain, is_flag, flags, plain_words, rooted_command, plain_command, command_by}
+use Rattle.pals_top.specs.CommandWords.{command_of_words}
 
 -- ---- flags
 either : (w x y : List ℕ) → (bytes_eq w x || bytes_eq w y) ≡ true → is_plain x ≡ false → is_plain y ≡ false
@@ -67,7 +67,7 @@ rooted_by false false a b ex ey plain =
       both true false command e none = absurd (true≢false (sym e))
       both false second command e none = sym (none refl)
 
-pub form_rooted : (a b : List ℕ) → is_plain b ≡ true → form (a ∷ b ∷ []) ≡ rooted_command a b
+pub form_rooted : (a b : List ℕ) → is_plain b ≡ true → command_of_words (a ∷ b ∷ []) ≡ rooted_command a b
 form_rooted a b plain = rooted_by (is_flag a) (is_flag b) a b refl refl plain
 
 none_by : (x y : Bool) (a b : List ℕ) → is_plain b ≡ false → two x y a b ≡ None
@@ -81,7 +81,7 @@ none_by false false a b plain =
       nothing true command = refl
       nothing false command = refl
 
-pub form_none : (a b : List ℕ) → is_plain b ≡ false → form (a ∷ b ∷ []) ≡ None
+pub form_none : (a b : List ℕ) → is_plain b ≡ false → command_of_words (a ∷ b ∷ []) ≡ None
 form_none a b plain = none_by (is_flag a) (is_flag b) a b plain
 
 -- ---- three words, none of which is a flag
@@ -111,15 +111,15 @@ unplain_by true true true command (inr (inr e)) = absurd (true≢false e)
 
 module _ (a b c : List ℕ) (ea : is_flag a ≡ false) (eb : is_flag b ≡ false) (ec : is_flag c ≡ false) where
   pub form_three : is_plain a ≡ true → is_plain b ≡ true → is_plain c ≡ true
-      → form (a ∷ b ∷ c ∷ []) ≡ plain_form (a ∷ b ∷ c ∷ [])
+      → command_of_words (a ∷ b ∷ c ∷ []) ≡ plain_command (a ∷ b ∷ c ∷ [])
   form_three pa pb pc =
       unflagged (is_flag a) (is_flag b) (is_flag c) a b c ea eb ec
-      ∙ plain_by (is_plain a) (is_plain b) (is_plain c) (plain_form (a ∷ b ∷ c ∷ [])) pa pb pc
+      ∙ plain_by (is_plain a) (is_plain b) (is_plain c) (plain_command (a ∷ b ∷ c ∷ [])) pa pb pc
 
-  pub form_unplain : (is_plain a ≡ false) ⊎ ((is_plain b ≡ false) ⊎ (is_plain c ≡ false)) → form (a ∷ b ∷ c ∷ []) ≡ None
+  pub form_unplain : (is_plain a ≡ false) ⊎ ((is_plain b ≡ false) ⊎ (is_plain c ≡ false)) → command_of_words (a ∷ b ∷ c ∷ []) ≡ None
   form_unplain some =
       unflagged (is_flag a) (is_flag b) (is_flag c) a b c ea eb ec
-      ∙ unplain_by (is_plain a) (is_plain b) (is_plain c) (plain_form (a ∷ b ∷ c ∷ [])) some
+      ∙ unplain_by (is_plain a) (is_plain b) (is_plain c) (plain_command (a ∷ b ∷ c ∷ [])) some
 
 -- ---- four words or more
 one_more : (x : Bool) (w : List ℕ) (plain chosen : List (List ℕ)) (n : ℕ) → length plain + length chosen ≡ n
@@ -143,7 +143,7 @@ no_form (a ∷ b ∷ []) (f ∷ []) many = absurd (omega arith)
 no_form (a ∷ b ∷ c ∷ plain) (f ∷ []) many = refl
 no_form plain (f ∷ g ∷ chosen) many = refl
 
-pub form_long : (words : List (List ℕ)) → 4 ≤ length words → form words ≡ None
+pub form_long : (words : List (List ℕ)) → 4 ≤ length words → command_of_words words ≡ None
 form_long words many =
     let count = counts words in
     idle (list_all is_plain (plain_words words)) (command_by (plain_words words) (flags words))

@@ -9,13 +9,13 @@ use Rattle.scenario_json.specs.declared.scenario.Scenario.{Scenario}
 use Rattle.scenario_json.specs.Scenarios.{Means}
 use Rattle.design_codes.specs.OverlongCodes.{AreShort, IsFirstTooLong}
 use Rattle.scenario_laws.specs.proof.EventsAndTraces.{EventsAreFew, TracesAreFew}
-use Rattle.scenario_laws.specs.proof.LooseEvents.{EventsAreLoose, loosely}
+use Rattle.scenario_laws.specs.proof.LooseEvents.{EventsAreLoose, loose_world_command}
 use Rattle.bundle_designs.specs.BundleMeanings.{IsAccepted}
 use Rattle.pals_top.specs.declared.answer.Answer.{Answer}
 use Rattle.pals_top.specs.declared.bundle_meaning.Coded.{Coded}
 use Rattle.pals_top.specs.ExecutionCommands.{Execution, TimedWorld, LooseWorld, Run, Audit, Budget}
 use Rattle.pals_top.specs.declared.status.TheConstants.{CODE_TOO_LONG}
-use Rattle.pals_top.specs.ExecutionAnswers.{command_of, code_fault_line, Makes, IsCodeTooLong, IsExecutionAnswer}
+use Rattle.pals_top.specs.ExecutionAnswers.{command_of, overlong_code_line, Makes, IsCodeTooLong, IsExecutionAnswer}
 use Rattle.pals_top.specs.proof.CodedBundles.{HasEvents, IsCoded, IsRefused}
 use Rattle.pals_top.specs.proof.StatusAndText.{status_of, text_of, Says}
 use Rattle.pals_top.proofs.ScenarioFaultAnswers.{SaysFault}
@@ -28,7 +28,7 @@ keeps_events : (what : Execution) (root : List ℕ) (design : DesignParts) (byte
     → length scenario.trace ≤ LIST_ITEMS → HasEvents what design scenario
 keeps_events TimedWorld root design bytes scenario command is loose means few lines = few
 keeps_events LooseWorld root design bytes scenario command is loose means few lines =
-    let same : command ≡ loosely root = is in
+    let same : command ≡ loose_world_command root = is in
     loose bytes root design scenario (subst (λ (k : Command). Means bytes design k (Ok scenario)) same means)
 keeps_events (Run trace) root design bytes scenario command is loose means few lines = tt
 keeps_events Audit root design bytes scenario command is loose means few lines = lines
@@ -44,16 +44,16 @@ has_events what root design bytes scenario loose few lines means =
 
 -- a line on a component, by another name of it
 pub code_said : (design : DesignParts) (a : Answer) {m n : NodeNo} {s t : ℕ} → m ≡ n → s ≡ t
-    → Says CODE_TOO_LONG (code_fault_line design m.0 s ++ line_end) a
-    → Says CODE_TOO_LONG (code_fault_line design n.0 t ++ line_end) a
+    → Says CODE_TOO_LONG (overlong_code_line design m.0 s ++ line_end) a
+    → Says CODE_TOO_LONG (overlong_code_line design n.0 t ++ line_end) a
 code_said design a {m} {n} {s} {t} same_node same_size said =
-    subst (λ (size : ℕ). Says CODE_TOO_LONG (code_fault_line design n.0 size ++ line_end) a) same_size
-    (subst (λ (node : NodeNo). Says CODE_TOO_LONG (code_fault_line design node.0 s ++ line_end) a) same_node said)
+    subst (λ (size : ℕ). Says CODE_TOO_LONG (overlong_code_line design n.0 size ++ line_end) a) same_size
+    (subst (λ (node : NodeNo). Says CODE_TOO_LONG (overlong_code_line design node.0 s ++ line_end) a) same_node said)
 
 -- ---- why a bundle has no such meaning
 pub code_refused : (root bundle : List ℕ) (design : DesignParts) (bytes : List ℕ) (node : NodeNo) (size : ℕ)
     (a : Answer) → IsAccepted root bundle design bytes
-    → IsFirstTooLong design node.0 size → Says CODE_TOO_LONG (code_fault_line design node.0 size ++ line_end) a
+    → IsFirstTooLong design node.0 size → Says CODE_TOO_LONG (overlong_code_line design node.0 size ++ line_end) a
     → IsCodeTooLong root bundle (status_of a) (text_of a)
 code_refused root bundle design bytes node size a accepted long says = record {
   status_is = says.0;

@@ -55,44 +55,44 @@ rooted_command word root =
     else if bytes_eq word (codes "budget") then Some (Budget root) else None
 
 -- that of a ring of this many nodes, for this many rounds
-abbrev pub ring_form : Option ℕ → Option ℕ → Option Command
-ring_form (Some nodes) (Some rounds) = Some (Ring nodes rounds)
-ring_form _ _ = None
+abbrev pub ring_command : Option ℕ → Option ℕ → Option Command
+ring_command (Some nodes) (Some rounds) = Some (Ring nodes rounds)
+ring_command _ _ = None
 
-abbrev pub plain_form : List (List ℕ) → Option Command
-plain_form (word ∷ []) = if bytes_eq word (codes "print") then Some Print else None
-plain_form (word ∷ root ∷ []) = rooted_command word root
-plain_form (word ∷ nodes ∷ rounds ∷ []) =
-    if bytes_eq word (codes "self") then ring_form (number_in 2 RING_NODES nodes)
+abbrev pub plain_command : List (List ℕ) → Option Command
+plain_command (word ∷ []) = if bytes_eq word (codes "print") then Some Print else None
+plain_command (word ∷ root ∷ []) = rooted_command word root
+plain_command (word ∷ nodes ∷ rounds ∷ []) =
+    if bytes_eq word (codes "self") then ring_command (number_in 2 RING_NODES nodes)
     (number_in 1 RING_ROUNDS rounds) else None
-plain_form _ = None
+plain_command _ = None
 
 -- the flags ask for a world without time, and for the journal of a run
-abbrev pub loose_form : List ℕ → List ℕ → Option Command
-loose_form word root = if bytes_eq word (codes "world") then Some (World root true) else None
+abbrev pub loose_command : List ℕ → List ℕ → Option Command
+loose_command word root = if bytes_eq word (codes "world") then Some (World root true) else None
 
-abbrev pub trace_form : List ℕ → List ℕ → Option Command
-trace_form word root = if bytes_eq word (codes "run") then Some (Run root true) else None
+abbrev pub trace_command : List ℕ → List ℕ → Option Command
+trace_command word root = if bytes_eq word (codes "run") then Some (Run root true) else None
 
-abbrev pub flag_form : List ℕ → List (List ℕ) → Option Command
-flag_form flag (word ∷ root ∷ []) =
-    if bytes_eq flag (codes "--loose") then loose_form word root else if bytes_eq flag (codes "--trace") then trace_form
+abbrev pub flag_command : List ℕ → List (List ℕ) → Option Command
+flag_command flag (word ∷ root ∷ []) =
+    if bytes_eq flag (codes "--loose") then loose_command word root else if bytes_eq flag (codes "--trace") then trace_command
     word root else None
-flag_form flag _ = None
+flag_command flag _ = None
 
 abbrev pub command_by : List (List ℕ) → List (List ℕ) → Option Command
-command_by plain [] = plain_form plain
-command_by plain (flag ∷ []) = flag_form flag plain
+command_by plain [] = plain_command plain
+command_by plain (flag ∷ []) = flag_command flag plain
 command_by plain _ = None
 
 -- The command that the words are. No plain word begins with `-`.
-abbrev pub form : List (List ℕ) → Option Command
-form words = if list_all is_plain (plain_words words) then command_by (plain_words words) (flags words) else None
+abbrev pub command_of_words : List (List ℕ) → Option Command
+command_of_words words = if list_all is_plain (plain_words words) then command_by (plain_words words) (flags words) else None
 
 -- what the form of a command keeps: the numbers of a ring are within their limits
-abbrev pub HasForm : Command → Type 0
-HasForm (Ring nodes rounds) = (2 ≤ nodes) × (nodes ≤ RING_NODES) × (1 ≤ rounds) × (rounds ≤ RING_ROUNDS)
-HasForm command = Unit {0}
+abbrev pub IsWithinRingLimits : Command → Type 0
+IsWithinRingLimits (Ring nodes rounds) = (2 ≤ nodes) × (nodes ≤ RING_NODES) × (1 ≤ rounds) × (rounds ≤ RING_ROUNDS)
+IsWithinRingLimits command = Unit {0}
 
 -- Why words give no command: they are no form, or they are one and there was not enough memory.
 abbrev pub IsWordsEnd : Option Command → WordsEnd → Type 0
@@ -101,5 +101,5 @@ IsWordsEnd command Memory = IsSome command
 
 -- What is read from words: the command that they are, or why there is none.
 abbrev pub IsRead : Option Command → Result Command WordsEnd → Type 0
-IsRead form (Ok command) = (form ≡ Some command) × HasForm command
-IsRead form (Err end) = IsWordsEnd form end
+IsRead command_of_words (Ok command) = (command_of_words ≡ Some command) × IsWithinRingLimits command
+IsRead command_of_words (Err end) = IsWordsEnd command_of_words end

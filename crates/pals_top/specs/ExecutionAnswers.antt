@@ -50,8 +50,8 @@ pub record IsScenarioRefusedIn (root bundle : List ℕ) (command : Command) (sta
   pub short : AreShort faulty.design
 
 -- the line of a component whose code would have `size` instructions
-abbrev pub code_fault_line : DesignParts → ℕ → ℕ → List ℕ
-code_fault_line design node size = spaced (codes "code" ∷ node_word design node ∷ decimal size ∷ [])
+abbrev pub overlong_code_line : DesignParts → ℕ → ℕ → List ℕ
+overlong_code_line design node size = spaced (codes "code" ∷ node_word design node ∷ decimal size ∷ [])
 
 -- the code of this component, and of none before it, is too long, whatever the scenario is
 pub record IsCodeTooLong (root bundle : List ℕ) (status : ℕ) (text : List ℕ) : Type 0 where
@@ -62,7 +62,7 @@ pub record IsCodeTooLong (root bundle : List ℕ) (status : ℕ) (text : List �
   pub node : NodeNo
   pub size : ℕ
   pub too_long : IsFirstTooLong design node.0 size
-  pub text_is : text ≡ code_fault_line design node.0 size ++ line_end
+  pub text_is : text ≡ overlong_code_line design node.0 size ++ line_end
 
 abbrev pub IsExecutionAnswer : Execution → List ℕ → List ℕ → ℕ → List ℕ → Type 0
 IsExecutionAnswer what root bundle status text =

@@ -3,7 +3,7 @@ use Rattle.std.specs.Prelude.{◌≡◌, ℕ, List, []}
 use Rattle.pals_model.specs.declared.design.DesignParts.{DesignParts}
 use Rattle.pals_model.specs.RoundTexts.{report}
 use Rattle.scenario_json.specs.declared.scenario.Scenario.{Scenario}
-use Rattle.triple_vote.specs.VotedText.{voted_report, thrice}
+use Rattle.triple_vote.specs.VotedText.{voted_report, tripled_report}
 use Rattle.triple_vote.specs.OutvotedFaults.{AreOutvoted}
 use Rattle.analysis_texts.specs.ReplicasAndRoundFaults.{replicated_in, faults_of}
 use Rattle.pals_top.specs.declared.status.TheConstants.{DONE}
@@ -17,6 +17,6 @@ pub record IsVoted (design : DesignParts) (scenario : Scenario) (status : ℕ) (
   -- where no two replicas are at fault towards one reader in one round, they are the composition's, with each line of a
   -- replicated component three times
   pub outvoted : AreOutvoted (faults_of scenario.faults)
-      → text ≡ thrice design scenario.env (replicated_in design scenario.replicas) scenario.rounds
+      → text ≡ tripled_report design scenario.env (replicated_in design scenario.replicas) scenario.rounds
   -- without replicas they are the composition's, as `sync` writes them
   pub alone : scenario.replicas ≡ [] → text ≡ report design scenario.env scenario.rounds

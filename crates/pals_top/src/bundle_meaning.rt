@@ -3,7 +3,7 @@ ghost use Rattle.std.specs.Prelude.{◌≡◌, ◌++◌, IfOk};
 ghost use Rattle.pals_model.specs.RoundTexts.{line_end};
 ghost use Rattle.pals_top.specs.declared.status.TheConstants.{CODE_TOO_LONG};
 ghost use Rattle.pals_top.specs.ExecutionCommands.{Execution};
-ghost use Rattle.pals_top.specs.ExecutionAnswers.{code_fault_line, command_of};
+ghost use Rattle.pals_top.specs.ExecutionAnswers.{overlong_code_line, command_of};
 ghost use Rattle.pals_top.specs.proof.CodedBundles.{IsMeaning};
 ghost use Rattle.pals_top.specs.proof.StatusAndText.{Says};
 
@@ -13,7 +13,7 @@ use bundle_designs::accept;
 use design_codes::{CodesError, compile_all};
 use pals_base::{Items, NoMemory, NodeNo, Text};
 use pals_model::Design;
-use pals_report::add_code_fault;
+use pals_report::add_overlong_code;
 use pals_runs::Command;
 use scenario_json::{Scenario, read_scenario};
 use scenario_laws::event_laws::{events_are_few, events_are_loose, traces_are_few};
@@ -89,9 +89,9 @@ fn code_too_long(
     node: NodeNo,
     length: u64,
 ) -> Result<Answer, NoMemory>
-    ensures { IfOk result (Says CODE_TOO_LONG (code_fault_line design.now node.0 length ++ line_end)) }
+    ensures { IfOk result (Says CODE_TOO_LONG (overlong_code_line design.now node.0 length ++ line_end)) }
 {
     let mut line = Vec::new(alloc);
-    add_code_fault(&mut line, design, node, length)?;
+    add_overlong_code(&mut line, design, node, length)?;
     Ok(Answer::CodeTooLong(line))
 }

@@ -1,9 +1,9 @@
 //! The words of the command line.
 ghost use Rattle.std.specs.Prelude.{◌≡◌, [], ◌∷◌, true};
 ghost use Rattle.std.specs.List.{list_all};
-ghost use Rattle.pals_top.specs.CommandWords.{form, plain_form, rooted_command, is_flag, is_plain, is_digit, is_number};
+ghost use Rattle.pals_top.specs.CommandWords.{command_of_words, plain_command, rooted_command, is_flag, is_plain, is_digit, is_number};
 ghost use Rattle.pals_top.specs.CommandWords.{value_of, number_in, IsRead};
-ghost use Rattle.pals_top.specs.proof.PrivateFunctions.{flagged_form};
+ghost use Rattle.pals_top.specs.proof.PrivateFunctions.{flagged_command};
 
 use pals_base::limits::COMPONENTS;
 use pals_base::{Text, TryClone};
@@ -41,7 +41,7 @@ impl From<AllocError> for WordsEnd {
 
 /// The command that the words are. `Usage` is answered exactly where they are no form.
 pub fn read_words(alloc: Global, words: &[Text]) -> Result<Command, WordsEnd>
-    ensures { IsRead (form words.now) result }
+    ensures { IsRead (command_of_words words.now) result }
 {
     match words {
         [word] => alone(word),
@@ -58,7 +58,7 @@ pub fn read_words(alloc: Global, words: &[Text]) -> Result<Command, WordsEnd>
 
 // The command of one word.
 fn alone(word: &Text) -> Result<Command, WordsEnd>
-    ensures { IsRead (plain_form (word.now ∷ [])) result }
+    ensures { IsRead (plain_command (word.now ∷ [])) result }
 {
     if word.as_str() == "print" {
         return Ok(Command::Print);
@@ -106,7 +106,7 @@ fn rooted(alloc: Global, word: &Text, root: &Text) -> Result<Command, WordsEnd>
 
 // The command of three words without a flag.
 fn ring(word: &Text, nodes: &Text, rounds: &Text) -> Result<Command, WordsEnd>
-    ensures { IsRead (plain_form (word.now ∷ nodes.now ∷ rounds.now ∷ [])) result }
+    ensures { IsRead (plain_command (word.now ∷ nodes.now ∷ rounds.now ∷ [])) result }
 {
     if word.as_str() != "self" {
         return Err(WordsEnd::Usage);
@@ -168,7 +168,7 @@ fn value_of(digits: &[u8]) -> u32
 
 // The command of a word with a root and a flag.
 fn flagged(alloc: Global, flag: &Text, word: &Text, root: &Text) -> Result<Command, WordsEnd>
-    ensures { IsRead (flagged_form flag.now word.now root.now) result }
+    ensures { IsRead (flagged_command flag.now word.now root.now) result }
 {
     if !is_plain(word) || !is_plain(root) {
         return Err(WordsEnd::Usage);

@@ -1,7 +1,7 @@
 //! The one call that does all the program does.
 ghost use Rattle.std.specs.Prelude.{◌≡◌, ◌≢◌, ℕ, true, false, List, IfOk, OnErr, IsSome};
 ghost use Rattle.pals_io.specs.SourcesAndSinks.{GivesWithin, after_taking, TakesPart};
-ghost use Rattle.pals_top.specs.CommandWords.{form, HasForm};
+ghost use Rattle.pals_top.specs.CommandWords.{command_of_words, IsWithinRingLimits};
 ghost use Rattle.pals_top.specs.ProgramInput.{reading};
 ghost use Rattle.pals_top.specs.Answers.{reads_source, IsAnswer, IsFormAnswer, IsSourceAnswer, IsCommandAnswer};
 ghost use Rattle.pals_top.specs.proof.PrivateFunctions.{is_run};
@@ -54,16 +54,16 @@ pub fn pals<R: Threads + Wait + Sync, S: Source, K: Sink, W: Starter, G: Gate + 
 ) -> u8
     // The answer's whole text was written.
     ensures answered { result ≢ WRITE_FAULT → result ≢ NO_MEMORY → (text : List ℕ)
-        × IsAnswer (form words.now) (reading (S.shown source.old) (S.shown source.new)) result text
+        × IsAnswer (command_of_words words.now) (reading (S.shown source.old) (S.shown source.new)) result text
         × (K.shown sink.new ≡ after_taking (K.shown sink.old) text) }
 
     // The sink failed, and a part of an answer's text was written.
     ensures cut_short { result ≡ WRITE_FAULT → (status : ℕ) × (text : List ℕ)
-        × IsAnswer (form words.now) (reading (S.shown source.old) (S.shown source.new)) status text
+        × IsAnswer (command_of_words words.now) (reading (S.shown source.old) (S.shown source.new)) status text
         × TakesPart (K.shown sink.old) (K.shown sink.new) text }
 
     // There was not enough memory, no call failed, and nothing was written.
-    ensures no_memory { result ≡ NO_MEMORY → IsSome (form words.now)
+    ensures no_memory { result ≡ NO_MEMORY → IsSome (command_of_words words.now)
         × GivesWithin (S.shown source.old) (S.shown source.new) BUNDLE_BYTES
         × (sink.new ≡ sink.old) }
 {
@@ -102,7 +102,7 @@ fn answer_command<S: Source>(
     command: Command,
     source: &mut S,
 ) -> Result<Answer, NoMemory>
-    requires form { HasForm command }
+    requires command_of_words { IsWithinRingLimits command }
     requires alone { is_run command ≡ false }
     ensures ok { IfOk result (λ answer. IsFormAnswer command (reading (S.shown source.old) (S.shown source.new)) (status_of answer) (text_of answer)) }
     ensures err { OnErr result (GivesWithin (S.shown source.old) (S.shown source.new) BUNDLE_BYTES) }
@@ -119,7 +119,7 @@ fn answer_source<S: Source>(
     command: Command,
     source: &mut S,
 ) -> Result<Answer, NoMemory>
-    requires form { HasForm command }
+    requires command_of_words { IsWithinRingLimits command }
     requires alone { is_run command ≡ false }
     requires reads { reads_source command ≡ true }
     ensures ok { IfOk result (λ answer. IsSourceAnswer command (reading (S.shown source.old) (S.shown source.new)) (status_of answer) (text_of answer)) }
@@ -135,7 +135,7 @@ fn answer_source<S: Source>(
 
 // The command's answer to a bundle.
 fn answer_bundle(alloc: Global, command: Command, bundle: &[u8]) -> Result<Answer, NoMemory>
-    requires form { HasForm command }
+    requires command_of_words { IsWithinRingLimits command }
     requires alone { is_run command ≡ false }
     requires reads { reads_source command ≡ true }
     ensures { IfOk result (λ answer. IsCommandAnswer command bundle.now (status_of answer) (text_of answer)) }

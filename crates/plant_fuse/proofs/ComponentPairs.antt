@@ -9,7 +9,7 @@ use Rattle.pals_base.specs.declared.values.NodeNo.{NodeNo}
 use Rattle.pals_model.specs.declared.design.Link.{Link}
 use Rattle.pals_model.specs.declared.design.DesignParts.{DesignParts}
 use Rattle.pals_runs.specs.declared.plant_pairs.Pair.{Pair}
-use Rattle.plant_fuse.specs.FusedComposition.{goes, is_back, is_forth, IsPair, AreApart, ArePairs}
+use Rattle.plant_fuse.specs.FusedComposition.{goes, is_to_plant, is_to_controller, IsPair, AreApart, ArePairs}
 use Rattle.plant_fuse.specs.proof.Partners.{partner_of, is_inside}
 use Rattle.plant_fuse.proofs.PairLinks.{goes_parts}
 
@@ -197,14 +197,14 @@ module _ (design : DesignParts) (pairs : List Pair) (are : ArePairs design pairs
         target = both.1;
       }
 
-  pub back_goes : (link : Link) → is_back pairs link ≡ true
+  pub back_goes : (link : Link) → is_to_plant pairs link ≡ true
       → GoesBetween link (λ (p : Pair). p.controller.0) (λ (p : Pair). p.plant.0)
   back_goes link is =
       let any = Any-from_list_any (λ (pair : Pair). goes pair.controller.0 pair.plant.0 link) pairs is in
       found link (λ (p : Pair). p.controller.0) (λ (p : Pair). p.plant.0)
       (λ p. goes_parts p.controller.0 p.plant.0 link) any.0 any.1 any.2 any.3 any.4
 
-  pub forth_goes : (link : Link) → is_forth pairs link ≡ true
+  pub forth_goes : (link : Link) → is_to_controller pairs link ≡ true
       → GoesBetween link (λ (p : Pair). p.plant.0) (λ (p : Pair). p.controller.0)
   forth_goes link is =
       let any = Any-from_list_any (λ (pair : Pair). goes pair.plant.0 pair.controller.0 link) pairs is in
@@ -212,7 +212,7 @@ module _ (design : DesignParts) (pairs : List Pair) (are : ArePairs design pairs
       (λ p. goes_parts p.plant.0 p.controller.0 link) any.0 any.1 any.2 any.3 any.4
 
   back_by : (link : Link) (k : ℕ) (pair : Pair) → slice_get pairs k ≡ Some pair → link.source.0 ≡ pair.controller.0
-      → link.target.0 ≡ pair.plant.0 → is_back pairs link ≡ true
+      → link.target.0 ≡ pair.plant.0 → is_to_plant pairs link ≡ true
   back_by link k pair is source target =
       let at = get_or_from_slice_get pairs k pair pair is in
       list_any_at (λ (p : Pair). goes p.controller.0 p.plant.0 link) pairs k pair (slice_get_within pairs k pair is)
@@ -220,7 +220,7 @@ module _ (design : DesignParts) (pairs : List Pair) (are : ArePairs design pairs
       ∙ goes_by pair.controller.0 pair.plant.0 link source target)
 
   forth_by : (link : Link) (k : ℕ) (pair : Pair) → slice_get pairs k ≡ Some pair → link.source.0 ≡ pair.plant.0
-      → link.target.0 ≡ pair.controller.0 → is_forth pairs link ≡ true
+      → link.target.0 ≡ pair.controller.0 → is_to_controller pairs link ≡ true
   forth_by link k pair is source target =
       let at = get_or_from_slice_get pairs k pair pair is in
       list_any_at (λ (p : Pair). goes p.plant.0 p.controller.0 link) pairs k pair (slice_get_within pairs k pair is)
@@ -233,17 +233,17 @@ module _ (design : DesignParts) (pairs : List Pair) (are : ArePairs design pairs
 
   -- a link to a plant comes back from its controller, or is outside all pairs
   module _ (k : ℕ) (pair : Pair) (is : slice_get pairs k ≡ Some pair) (link : Link) where
-    pub to_plant_forth : link.target.0 ≡ pair.plant.0 → is_forth pairs link ≡ false
+    pub to_plant_forth : link.target.0 ≡ pair.plant.0 → is_to_controller pairs link ≡ false
     to_plant_forth target =
-        not_true (is_forth pairs link)
+        not_true (is_to_controller pairs link)
         (λ forth. (let goes_there = forth_goes link forth in
         no_controller goes_there.k k goes_there.pair pair goes_there.is_at is (sym goes_there.target ∙ target)))
 
-    pub to_plant_back : link.target.0 ≡ pair.plant.0 → is_back pairs link ≡ nat_eq link.source.0 pair.controller.0
+    pub to_plant_back : link.target.0 ≡ pair.plant.0 → is_to_plant pairs link ≡ nat_eq link.source.0 pair.controller.0
     to_plant_back target =
         elim (cases_Bool (nat_eq link.source.0 pair.controller.0)) [
           | inl same ↦ back_by link k pair is (eqb-true link.source.0 pair.controller.0 same) target ∙ sym same
-          | inr other ↦ not_true (is_back pairs link)
+          | inr other ↦ not_true (is_to_plant pairs link)
               (λ back. (let goes_there = back_goes link back in
               elim (one_or_apart goes_there.k k goes_there.pair pair goes_there.is_at is) [
                 | inl one ↦ eqb-false link.source.0 pair.controller.0 other
@@ -254,18 +254,18 @@ module _ (design : DesignParts) (pairs : List Pair) (are : ArePairs design pairs
         ]
 
     -- a link to a controller comes forth from its plant, or is outside all pairs
-    pub to_controller_back : link.target.0 ≡ pair.controller.0 → is_back pairs link ≡ false
+    pub to_controller_back : link.target.0 ≡ pair.controller.0 → is_to_plant pairs link ≡ false
     to_controller_back target =
-        not_true (is_back pairs link)
+        not_true (is_to_plant pairs link)
         (λ back. (let goes_there = back_goes link back in
         no_controller k goes_there.k pair goes_there.pair is goes_there.is_at (sym target ∙ goes_there.target)))
 
     pub to_controller_forth : link.target.0 ≡ pair.controller.0
-        → is_forth pairs link ≡ nat_eq link.source.0 pair.plant.0
+        → is_to_controller pairs link ≡ nat_eq link.source.0 pair.plant.0
     to_controller_forth target =
         elim (cases_Bool (nat_eq link.source.0 pair.plant.0)) [
           | inl same ↦ forth_by link k pair is (eqb-true link.source.0 pair.plant.0 same) target ∙ sym same
-          | inr other ↦ not_true (is_forth pairs link)
+          | inr other ↦ not_true (is_to_controller pairs link)
               (λ forth. (let goes_there = forth_goes link forth in
               elim (one_or_apart goes_there.k k goes_there.pair pair goes_there.is_at is) [
                 | inl one ↦ eqb-false link.source.0 pair.plant.0 other
@@ -277,24 +277,24 @@ module _ (design : DesignParts) (pairs : List Pair) (are : ArePairs design pairs
 
   -- a link to one that stands in no pair is outside all
   pub to_alone_back : (node : ℕ) (link : Link) → partner_of pairs node ≡ None → link.target.0 ≡ node
-      → is_back pairs link ≡ false
+      → is_to_plant pairs link ≡ false
   to_alone_back node link none target =
-      not_true (is_back pairs link)
+      not_true (is_to_plant pairs link)
       (λ back. (let goes_there = back_goes link back in
       (none_apart pairs node goes_there.k goes_there.pair none goes_there.is_at).0
       (sym goes_there.target ∙ target)))
 
   pub to_alone_forth : (node : ℕ) (link : Link) → partner_of pairs node ≡ None → link.target.0 ≡ node
-      → is_forth pairs link ≡ false
+      → is_to_controller pairs link ≡ false
   to_alone_forth node link none target =
-      not_true (is_forth pairs link)
+      not_true (is_to_controller pairs link)
       (λ forth. (let goes_there = forth_goes link forth in
       (none_apart pairs node goes_there.k goes_there.pair none goes_there.is_at).1
       (sym goes_there.target ∙ target)))
 
   -- ---- a link goes to the partner of its source exactly where it is inside a pair
   inside_by : (link : Link) (o : Option NodeNo) → partner_of pairs link.source.0 ≡ o → is_inside o link ≡ true
-      → (is_back pairs link ≡ true) ⊎ (is_forth pairs link ≡ true)
+      → (is_to_plant pairs link ≡ true) ⊎ (is_to_controller pairs link ≡ true)
   inside_by link None at is = absurd (cc)
   inside_by link (Some partner) at is =
       let stands = some_stands pairs link.source.0 partner at in
@@ -307,13 +307,13 @@ module _ (design : DesignParts) (pairs : List Pair) (are : ArePairs design pairs
       ]
 
   pub inside_goes : (link : Link) → is_inside (partner_of pairs link.source.0) link ≡ true
-      → (is_back pairs link ≡ true) ⊎ (is_forth pairs link ≡ true)
+      → (is_to_plant pairs link ≡ true) ⊎ (is_to_controller pairs link ≡ true)
   inside_goes link is = inside_by link (partner_of pairs link.source.0) refl is
 
   pub outside_back : (link : Link) → is_inside (partner_of pairs link.source.0) link ≡ false
-      → is_back pairs link ≡ false
+      → is_to_plant pairs link ≡ false
   outside_back link is =
-      not_true (is_back pairs link)
+      not_true (is_to_plant pairs link)
       (λ back. (let goes_there = back_goes link back in
       let pair = goes_there.pair in
       let at = ap (partner_of pairs) goes_there.source ∙ controller_partner goes_there.k pair goes_there.is_at in
@@ -321,9 +321,9 @@ module _ (design : DesignParts) (pairs : List Pair) (are : ArePairs design pairs
       ∙ eq-eqb pair.plant.0 link.target.0 (sym goes_there.target)) ∙ is)))
 
   pub outside_forth : (link : Link) → is_inside (partner_of pairs link.source.0) link ≡ false
-      → is_forth pairs link ≡ false
+      → is_to_controller pairs link ≡ false
   outside_forth link is =
-      not_true (is_forth pairs link)
+      not_true (is_to_controller pairs link)
       (λ forth. (let goes_there = forth_goes link forth in
       let pair = goes_there.pair in
       let at = ap (partner_of pairs) goes_there.source ∙ plant_partner goes_there.k pair goes_there.is_at in

@@ -22,7 +22,7 @@ use Rattle.pals_model.specs.declared.design.DesignParts.{DesignParts}
 use Rattle.pals_model.specs.declared.environment.Env.{Env}
 use Rattle.pals_model.specs.declared.port_sources.PortSource.{PortSource}
 use Rattle.pals_model.specs.declared.port_sources.PortSource.TheVariants as source
-use Rattle.pals_model.specs.ComponentInputs.{sources_of, reading, values_at, feed, inputs_in}
+use Rattle.pals_model.specs.ComponentInputs.{sources_of, brought_tuple, values_at, input_vectors, inputs_in}
 use Rattle.pals_model.specs.PortKinds.{rate_of, rate_in, outs_in}
 use Rattle.pals_model.specs.Composition.{Configuration, comp, state, no_frame, steps_of_round, message_of, tuple_in}
 use Rattle.pals_model.specs.proof.CompositionLaws.{own_steps}
@@ -100,7 +100,7 @@ no_pairs design = record { each = All-nil (IsPair design); apart = λ i j d less
 value_alone : (design : DesignParts) (env : Env) (ins : Inputs) (rate step : ℕ) (s : PortSource)
     → value_read design [] env ins rate step s ≡ from_round design [] env ins rate step s
 value_alone design env ins rate step source.Nothing = refl
-value_alone design env ins rate step (source.Feed feed root) = refl
+value_alone design env ins rate step (source.Feed input_vectors root) = refl
 value_alone design env ins rate step (source.Link number) = by (slice_get design.links number)
   where
     by : (o : Option Link) → value_on design [] env ins rate step number o
@@ -137,35 +137,35 @@ module _ (design : DesignParts) (env : Env) (rounds : ℕ) (ins : Inputs) (sound
   module _ (round : ℕ) (messages : SameMessages round) (frames : SameFrames round) (node : ℕ) (c : Component)
       (is_c : slice_get design.components node ≡ Some c) where
     abbrev pub own_feed : List (List PortValue)
-    own_feed = feed design env (comp design env round).messages node round
+    own_feed = input_vectors design env (comp design env round).messages node round
 
     vector_is : (i : ℕ) → i < c.rate
         → vector node c (round * c.rate + i)
-        ≡ column i (map (reading design (values_at env round) (comp design env round).messages c.rate)
+        ≡ column i (map (brought_tuple design (values_at env round) (comp design env round).messages c.rate)
         (sources_of design node c))
     vector_is i below =
         let step = round * c.rate + i in
         let quotient : step / c.rate ≡ round = div-mul-add round c.rate i below in
         let place : step % c.rate ≡ i = mod-mul-add round c.rate i below in
         values_are (value_read design [] env ins c.rate step)
-        (reading design (values_at env round) (comp design env round).messages c.rate) i
+        (brought_tuple design (values_at env round) (comp design env round).messages c.rate) i
         (λ s.
         value_alone design env ins c.rate step s
-        ∙ ap₂ (λ q k. slice_index_or (reading design (values_at env q) (messages_before design [] ins q) c.rate s) k
+        ∙ ap₂ (λ q k. slice_index_or (brought_tuple design (values_at env q) (messages_before design [] ins q) c.rate s) k
         Absent) quotient place
-        ∙ ap (λ ms. slice_index_or (reading design (values_at env round) ms c.rate s) i Absent) messages)
+        ∙ ap (λ ms. slice_index_or (brought_tuple design (values_at env round) ms c.rate s) i Absent) messages)
         (sources_of design node c)
 
     round_vectors : map (vector node c) (upwards (round * c.rate) c.rate) ≡ own_feed
-    unfolding feed
+    unfolding input_vectors
     round_vectors =
         shifted (vector node c) (λ at.
-        column at (map (reading design (values_at env round) (comp design env round).messages c.rate)
+        column at (map (brought_tuple design (values_at env round) (comp design env round).messages c.rate)
         (sources_of design node c))) (round * c.rate) 0 c.rate
         (λ i below.
         let same : i ≡ 0 + i = omega arith in
         vector_is i below ∙ ap (λ at.
-        column at (map (reading design (values_at env round) (comp design env round).messages c.rate)
+        column at (map (brought_tuple design (values_at env round) (comp design env round).messages c.rate)
         (sources_of design node c))) same)
         ∙ sym (ap (inputs_in design (values_at env round) (comp design env round).messages node) is_c)
 

@@ -11,7 +11,7 @@ use Rattle.pals_base.specs.UpwardNumbers.{upwards}
 use Rattle.pals_base.proofs.UpwardNumbers.{map_upwards_more, map_upwards_same}
 use Rattle.pals_base.proofs.StepSequences.{frame_after-append, outputs-append}
 use Rattle.sync_product.specs.declared.round_inputs.RoundInputs.{RoundInputs}
-use Rattle.plant_fuse.specs.proof.PairSteps.{Seat, Work, side_vector, row_before, plant_vector, controller_vector}
+use Rattle.plant_fuse.specs.proof.PairSteps.{PairMember, Work, side_vector, row_before, plant_vector, controller_vector}
 use Rattle.plant_fuse.specs.proof.PairSteps.{IsMade, work, AreMade}
 
 -- ---- rows so far
@@ -36,29 +36,29 @@ made_more b from vectors rows to v is = record {
   frame_is = ap (λ (f : Frame). (fire b f v).frame) is.frame_is ∙ sym (frame_after-append b from vectors (v ∷ []));
 }
 
-module _ (round : RoundInputs) (seat : Seat) (rows : List (List PortValue)) (row : List PortValue) (n : ℕ)
+module _ (round : RoundInputs) (pair_member : PairMember) (rows : List (List PortValue)) (row : List PortValue) (n : ℕ)
     (size : length rows ≡ n) where
-  plant_more : map (plant_vector round seat (rows ++ row ∷ [])) (upwards 0 (n + 1))
-      ≡ map (plant_vector round seat rows) (upwards 0 n) ++ side_vector round seat n (row_before rows n) ∷ []
+  plant_more : map (plant_vector round pair_member (rows ++ row ∷ [])) (upwards 0 (n + 1))
+      ≡ map (plant_vector round pair_member rows) (upwards 0 n) ++ side_vector round pair_member n (row_before rows n) ∷ []
   plant_more =
-      map_upwards_more (plant_vector round seat (rows ++ row ∷ [])) n
-      ∙ ap₂ (λ (vs : List (List PortValue)) (last : Option (List PortValue)). vs ++ side_vector round seat n last ∷ [])
-      (map_upwards_same (plant_vector round seat (rows ++ row ∷ [])) (plant_vector round seat rows) 0 n
-      (λ k above below. ap (side_vector round seat k) (row_before_more rows row k (omega (arith, below, size)))))
+      map_upwards_more (plant_vector round pair_member (rows ++ row ∷ [])) n
+      ∙ ap₂ (λ (vs : List (List PortValue)) (last : Option (List PortValue)). vs ++ side_vector round pair_member n last ∷ [])
+      (map_upwards_same (plant_vector round pair_member (rows ++ row ∷ [])) (plant_vector round pair_member rows) 0 n
+      (λ k above below. ap (side_vector round pair_member k) (row_before_more rows row k (omega (arith, below, size)))))
       (row_before_more rows row n (omega (arith, size)))
 
-  controller_more : map (controller_vector round seat (rows ++ row ∷ [])) (upwards 0 (n + 1))
-      ≡ map (controller_vector round seat rows) (upwards 0 n) ++ side_vector round seat n (Some row) ∷ []
+  controller_more : map (controller_vector round pair_member (rows ++ row ∷ [])) (upwards 0 (n + 1))
+      ≡ map (controller_vector round pair_member rows) (upwards 0 n) ++ side_vector round pair_member n (Some row) ∷ []
   controller_more =
-      map_upwards_more (controller_vector round seat (rows ++ row ∷ [])) n
-      ∙ ap₂ (λ (vs : List (List PortValue)) (last : List PortValue). vs ++ side_vector round seat n (Some last) ∷ [])
-      (map_upwards_same (controller_vector round seat (rows ++ row ∷ [])) (controller_vector round seat rows) 0 n
-      (λ k above below. ap (λ (r : List PortValue). side_vector round seat k (Some r))
+      map_upwards_more (controller_vector round pair_member (rows ++ row ∷ [])) n
+      ∙ ap₂ (λ (vs : List (List PortValue)) (last : List PortValue). vs ++ side_vector round pair_member n (Some last) ∷ [])
+      (map_upwards_same (controller_vector round pair_member (rows ++ row ∷ [])) (controller_vector round pair_member rows) 0 n
+      (λ k above below. ap (λ (r : List PortValue). side_vector round pair_member k (Some r))
       (get_or_append_left rows (row ∷ []) [] k (omega (arith, below, size)))))
       (get_or_push rows row [] n size)
 
 -- ---- both
-module _ (round : RoundInputs) (plant controller : Seat) (n : ℕ) (p c : Work)
+module _ (round : RoundInputs) (plant controller : PairMember) (n : ℕ) (p c : Work)
     (made : AreMade round plant controller n p c) (size_p : length p.rows ≡ n) (size_c : length c.rows ≡ n) where
   abbrev step_p : List PortValue → List PortValue
   step_p v = (fire plant.component.behaviour p.to v).outs

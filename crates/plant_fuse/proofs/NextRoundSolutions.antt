@@ -24,13 +24,13 @@ use Rattle.pals_model.specs.declared.design.DesignParts.{DesignParts}
 use Rattle.pals_model.specs.declared.environment.Env.{Env}
 use Rattle.pals_model.specs.declared.port_sources.PortSource.{PortSource}
 use Rattle.pals_model.specs.declared.port_sources.PortSource.TheVariants as source
-use Rattle.pals_model.specs.ComponentInputs.{source_of, reading, values_at}
+use Rattle.pals_model.specs.ComponentInputs.{source_of, brought_tuple, values_at}
 use Rattle.pals_model.specs.PortKinds.{rate_of, rate_in}
 use Rattle.pals_model.specs.Composition.{Configuration, no_frame}
 use Rattle.pals_model.specs.DesignRules.{IsDesign}
 use Rattle.pals_model.proofs.ShapeLaws.{length-outputs}
 use Rattle.pals_runs.specs.declared.plant_pairs.Pair.{Pair}
-use Rattle.plant_fuse.specs.FusedComposition.{ArePairs, is_back, is_forth, Inputs, inputs_to, outputs_in, left_by}
+use Rattle.plant_fuse.specs.FusedComposition.{ArePairs, is_to_plant, is_to_controller, Inputs, inputs_to, outputs_in, left_by}
 use Rattle.plant_fuse.specs.FusedComposition.{left_before, round_tuple, message_on, messages_before, from_round}
 use Rattle.plant_fuse.specs.FusedComposition.{value_on, value_read, vector_of, IsFused}
 use Rattle.plant_fuse.specs.proof.FusedRounds.{first_rounds, frame_of, fused}
@@ -164,9 +164,9 @@ module _ (design : DesignParts) (pairs : List Pair) (env : Env) (rounds : ℕ) (
     same_brought s =
         let quotient : step / c.rate ≡ rounds = div-mul-add rounds c.rate i below in
         let place : step % c.rate ≡ i = mod-mul-add rounds c.rate i below in
-        ap₂ (λ q k. slice_index_or (reading design (values_at env q) (messages_before design pairs ins q) c.rate s) k
+        ap₂ (λ q k. slice_index_or (brought_tuple design (values_at env q) (messages_before design pairs ins q) c.rate s) k
         Absent) quotient place
-        ∙ ap (λ ms. slice_index_or (reading design (values_at env rounds) ms c.rate s) i Absent) (sym messages_are)
+        ∙ ap (λ ms. slice_index_or (brought_tuple design (values_at env rounds) ms c.rate s) i Absent) (sym messages_are)
 
     module _ (number : ℕ) (link : Link) (is_link : slice_get design.links number ≡ Some link)
         (target : link.target.0 ≡ node) where
@@ -174,7 +174,7 @@ module _ (design : DesignParts) (pairs : List Pair) (env : Env) (rounds : ℕ) (
       rate_is rates = rates ∙ ap (rate_of design) target ∙ ap rate_in is_c
 
       -- before the first step of the round
-      last_message : (n : ℕ) → n ≡ rounds → is_back pairs link ≡ true → rate_of design link.source.0 ≡ c.rate
+      last_message : (n : ℕ) → n ≡ rounds → is_to_plant pairs link ≡ true → rate_of design link.source.0 ≡ c.rate
           → left_before design ins link.source.0 link.out_port (n * c.rate)
           ≡ slice_index_or (slice_index_or (messages_before design pairs ins n) number [])
           (rate_of design link.source.0 - 1) Absent
@@ -193,13 +193,13 @@ module _ (design : DesignParts) (pairs : List Pair) (env : Env) (rounds : ℕ) (
           before_suc design ins link.source.0 link.out_port (suc n * c.rate) (n * k + (k - 1)) place
           ∙ sym (ap (λ (m : List PortValue). slice_index_or m (k - 1) Absent)
           (get_or-map_some (message_on design pairs ins n) design.links number link [] is_link
-          ∙ ap (λ b. if b then round_tuple design ins link.source.0 link.out_port n else if is_forth pairs link then
+          ∙ ap (λ b. if b then round_tuple design ins link.source.0 link.out_port n else if is_to_controller pairs link then
           round_tuple design ins link.source.0 link.out_port n else cut (sent_steps design.gamma design.period k)
           (round_tuple design ins link.source.0 link.out_port n)) back)
           ∙ get_or-map_upwards (λ j. left_by design ins link.source.0 link.out_port (n * k + j)) k (k - 1) Absent
           (omega (arith, some, rate)))
 
-      back_at : (j : ℕ) → j ≡ i → is_back pairs link ≡ true → rate_of design link.source.0 ≡ c.rate
+      back_at : (j : ℕ) → j ≡ i → is_to_plant pairs link ≡ true → rate_of design link.source.0 ≡ c.rate
           → left_before design ins link.source.0 link.out_port (rounds * c.rate + j)
           ≡ left_before_by design before (left_in design before vectors) number link j
       back_at zero at back rate =
@@ -214,7 +214,7 @@ module _ (design : DesignParts) (pairs : List Pair) (env : Env) (rounds : ℕ) (
           before_suc design ins link.source.0 link.out_port (rounds * c.rate + suc j) (rounds * c.rate + j) place
           ∙ same_left link.source.0 link.out_port j (rounds * c.rate + j) (omega (arith, product))
 
-      same_if : (back forth : Bool) → is_back pairs link ≡ back → is_forth pairs link ≡ forth
+      same_if : (back forth : Bool) → is_to_plant pairs link ≡ back → is_to_controller pairs link ≡ forth
           → (if back then left_before design ins link.source.0 link.out_port step else if forth then left_by design ins
           link.source.0 link.out_port step else from_round design pairs env ins c.rate step (source.Link number))
           ≡ (if back then left_before_by design before (left_in design before vectors) number link i else if forth then
@@ -233,7 +233,7 @@ module _ (design : DesignParts) (pairs : List Pair) (env : Env) (rounds : ℕ) (
         ≡ link_by design pairs (values_at env rounds) before (left_in design before vectors) c.rate i number o
     same_on number None is_link target = same_brought (source.Link number)
     same_on number (Some link) is_link target =
-        same_if number link is_link (target link refl) (is_back pairs link) (is_forth pairs link) refl refl
+        same_if number link is_link (target link refl) (is_to_plant pairs link) (is_to_controller pairs link) refl refl
 
     same_value : (s : PortSource)
         → ((number : ℕ) (link : Link) → s ≡ source.Link number → slice_get design.links number ≡ Some link
@@ -282,7 +282,7 @@ module _ (design : DesignParts) (pairs : List Pair) (env : Env) (rounds : ℕ) (
   same_message : (link : Link) → message_on design pairs ins rounds link ≡ message_in design pairs before vectors link
   same_message link =
       ap (λ (t : List PortValue).
-      if is_back pairs link then t else if is_forth pairs link then t else cut
+      if is_to_plant pairs link then t else if is_to_controller pairs link then t else cut
       (sent_steps design.gamma design.period (rate_of design link.source.0)) t)
       (same_tuple link.source.0 link.out_port)
 

@@ -25,15 +25,15 @@ use Rattle.plant_fuse.specs.declared.pair_steps.PairedComponent.{PairedComponent
 use Rattle.plant_fuse.specs.declared.design_tables.Tables.{Tables}
 use Rattle.plant_fuse.specs.proof.Partners.{partner_of, all_partners}
 use Rattle.plant_fuse.specs.proof.DesignTables.{AreTables}
-use Rattle.plant_fuse.specs.proof.PairSteps.{Seat, Work, seat_of, side_work, AreMade, AreSidesRun}
-use Rattle.plant_fuse.specs.proof.RoundWork.{seat, IsPaired, HasWork, IsRun, StayBeside, IsRunAlone}
+use Rattle.plant_fuse.specs.proof.PairSteps.{PairMember, Work, member_of_pair, side_work, AreMade, AreSidesRun}
+use Rattle.plant_fuse.specs.proof.RoundWork.{pair_member, IsPaired, HasWork, IsRun, StayBeside, IsRunAlone}
 use Rattle.plant_fuse.proofs.TakenElements.{get_set_other}
 
 seat_is : (design : DesignParts) (parts : List Part) (node partner : ℕ) (side : PairedComponent)
     → IsPaired design parts node partner side
-    → seat_of side ≡ seat design node partner side.wired.component.now
+    → member_of_pair side ≡ pair_member design node partner side.wired.component.now
 seat_is design parts node partner side is =
-    ap₂ (λ n ss. let s : Seat = record { partner = n; component = side.wired.component.now; sources = ss } in s)
+    ap₂ (λ n ss. let s : PairMember = record { partner = n; component = side.wired.component.now; sources = ss } in s)
     is.partner_is is.wired_is.sources_are
 
 has_work : (design : DesignParts) (parts next : List Part) (stages : List Stage) (node partner : ℕ)
@@ -77,11 +77,11 @@ pair_is_run round parts next stages pair plant controller plant_stage controller
           has_work design parts next stages pair.controller.0 pair.plant.0 controller controller_stage controller_part
           controller_is run.controller_shows at_c at_cs;
       made =
-          subst (λ (s : Seat). AreMade round s
-          (seat design pair.controller.0 pair.plant.0 controller.wired.component.now) plant.wired.component.now.rate
+          subst (λ (s : PairMember). AreMade round s
+          (pair_member design pair.controller.0 pair.plant.0 controller.wired.component.now) plant.wired.component.now.rate
           p_work c_work)
           (seat_is design parts pair.plant.0 pair.controller.0 plant plant_is)
-          (subst (λ (s : Seat). AreMade round (seat_of plant) s plant.wired.component.now.rate p_work c_work)
+          (subst (λ (s : PairMember). AreMade round (member_of_pair plant) s plant.wired.component.now.rate p_work c_work)
           (seat_is design parts pair.controller.0 pair.plant.0 controller controller_is) run.made);
     }
 

@@ -12,7 +12,7 @@ use Rattle.pals_model.specs.ComponentInputs.{source_of}
 use Rattle.pals_model.specs.PortKinds.{rate_of}
 use Rattle.pals_model.proofs.SourceLaws.{reads_link}
 use Rattle.pals_runs.specs.declared.plant_pairs.Pair.{Pair}
-use Rattle.plant_fuse.specs.FusedComposition.{goes, is_back, is_forth, IsPair, ArePairs}
+use Rattle.plant_fuse.specs.FusedComposition.{goes, is_to_plant, is_to_controller, IsPair, ArePairs}
 use Rattle.plant_fuse.proofs.StepRanks.{is_controller}
 
 pub goes_parts : (a b : ℕ) (link : Link) → goes a b link ≡ true → (link.source.0 ≡ a) × (link.target.0 ≡ b)
@@ -25,7 +25,7 @@ module _ (design : DesignParts) (pairs : List Pair) (are : ArePairs design pairs
   pair_is k pair within is = subst (IsPair design) is (are.each k pair within)
 
   -- a link back has ends of one rate
-  pub back_rates : (link : Link) → is_back pairs link ≡ true
+  pub back_rates : (link : Link) → is_to_plant pairs link ≡ true
       → rate_of design link.source.0 ≡ rate_of design link.target.0
   back_rates link is =
       let found = Any-from_list_any (λ (pair : Pair). goes pair.controller.0 pair.plant.0 link) pairs is in
@@ -66,7 +66,7 @@ module _ (design : DesignParts) (pairs : List Pair) (are : ArePairs design pairs
     pub plant : is_controller pairs link.source.0 ≡ false
     pub controller : is_controller pairs link.target.0 ≡ true
 
-  pub forth_is : (link : Link) → is_forth pairs link ≡ true → IsForth link
+  pub forth_is : (link : Link) → is_to_controller pairs link ≡ true → IsForth link
   forth_is link is =
       let found = Any-from_list_any (λ (pair : Pair). goes pair.plant.0 pair.controller.0 link) pairs is in
       let pair : Pair = found.1 in

@@ -36,7 +36,7 @@ use Rattle.sync_product.specs.proof.ProductSizes.{StageSize, stage_size, stage_s
 use Rattle.sync_product.specs.proof.Rounds.{frames_of}
 use Rattle.sync_product.proofs.PortColumns.{length-column}
 use Rattle.sync_product.proofs.ComponentLists.{sized_at}
-use Rattle.plant_fuse.specs.FusedComposition.{is_back, is_forth, ArePairs, Inputs, inputs_to}
+use Rattle.plant_fuse.specs.FusedComposition.{is_to_plant, is_to_controller, ArePairs, Inputs, inputs_to}
 use Rattle.plant_fuse.specs.proof.Partners.{partner_of, is_inside}
 use Rattle.plant_fuse.specs.proof.Messages.{sent_from, sent_on}
 use Rattle.plant_fuse.specs.proof.RoundEquations.{frame_at, place_at, left_in, tuple_from, tuple_in, message_in}
@@ -169,13 +169,13 @@ module _ (round : RoundInputs) (pairs : List Pair) (are : ArePairs round.design.
                   ∙ sym tuple
                   ∙ sym (either_same (tuple_in design at vs link)
                   (cut (sent_steps design.gamma design.period (rate_of design node)) (tuple_in design at vs link))
-                  (is_back pairs link) (is_forth pairs link) (inside_goes design pairs are link is))
+                  (is_to_plant pairs link) (is_to_controller pairs link) (inside_goes design pairs are link is))
               | inr not ↦
                   ap₂ (λ b o. sent_from b o port) not staged.2
                   ∙ ap₂ cut (ap (λ (s : StageSize). s.sent) room
                   ∙ ap (sent_steps design.gamma design.period) (sym (ap rate_in is_c))) (sym tuple)
                   ∙ sym
-                  (ap (λ b. if b then tuple_in design at vs link else if is_forth pairs link then tuple_in design at vs
+                  (ap (λ b. if b then tuple_in design at vs link else if is_to_controller pairs link then tuple_in design at vs
                   link else cut (sent_steps design.gamma design.period (rate_of design node))
                   (tuple_in design at vs link)) (outside_back design pairs are link not)
                   ∙ ap (λ b. if b then tuple_in design at vs link else cut

@@ -30,14 +30,14 @@ use Rattle.sync_product.specs.declared.round_inputs.RoundInputs.{RoundInputs}
 use Rattle.sync_product.specs.declared.component_stage.Stage.{Stage}
 use Rattle.sync_product.specs.proof.ComponentWiring.{tap_ports}
 use Rattle.sync_product.specs.proof.Rounds.{brought, vectors}
-use Rattle.plant_fuse.specs.FusedComposition.{is_back, is_forth, ArePairs, Inputs, inputs_to}
+use Rattle.plant_fuse.specs.FusedComposition.{is_to_plant, is_to_controller, ArePairs, Inputs, inputs_to}
 use Rattle.plant_fuse.specs.proof.Partners.{partner_of}
 use Rattle.plant_fuse.specs.proof.RoundEquations as rounds
-use Rattle.plant_fuse.specs.proof.RoundEquations.{Left, frame_at, outputs_from, place_at, left_in, left_before_by}
+use Rattle.plant_fuse.specs.proof.RoundEquations.{LeftValues, frame_at, outputs_from, place_at, left_in, left_before_by}
 use Rattle.plant_fuse.specs.proof.RoundEquations.{link_by, read_by, vector_by, round_vector, IsFusedRound}
 use Rattle.plant_fuse.specs.proof.PairSteps.{Work, from_partner, from_link, side_value, row_at, row_before}
 use Rattle.plant_fuse.specs.proof.PairSteps.{plant_vector, controller_vector}
-use Rattle.plant_fuse.specs.proof.RoundWork.{seat, rows_of, HasWork, IsRun, AreRun}
+use Rattle.plant_fuse.specs.proof.RoundWork.{pair_member, rows_of, HasWork, IsRun, AreRun}
 use Rattle.plant_fuse.proofs.FunctionTables.{table, table_at, table_same}
 use Rattle.plant_fuse.proofs.PairLinks.{read_from_target}
 use Rattle.plant_fuse.proofs.ComponentPairs.{some_stands, pair_at, to_plant_forth, to_plant_back, to_controller_back}
@@ -45,7 +45,7 @@ use Rattle.plant_fuse.proofs.ComponentPairs.{to_controller_forth, to_alone_back,
 
 -- ---- reads hang on what is left alone
 module _ (design : DesignParts) (pairs : List Pair) (values : List PortValue) (before : Configuration)
-    (left other : Left) (same : (node port step : ℕ) → left node port step ≡ other node port step) where
+    (left other : LeftValues) (same : (node port step : ℕ) → left node port step ≡ other node port step) where
   before_same : (number : ℕ) (link : Link) (step : ℕ)
       → left_before_by design before left number link step ≡ left_before_by design before other number link step
   before_same number link zero = refl
@@ -56,7 +56,7 @@ module _ (design : DesignParts) (pairs : List Pair) (values : List PortValue) (b
       ≡ link_by design pairs values before other rate step number o
   link_same rate step number None = refl
   link_same rate step number (Some link) =
-      ap₂ (λ x y. if is_back pairs link then x else if is_forth pairs link then y else rounds.brought design values
+      ap₂ (λ x y. if is_to_plant pairs link then x else if is_to_controller pairs link then y else rounds.brought design values
       before rate step (source.Link number))
       (before_same number link step) (same link.source.0 link.out_port step)
 
@@ -94,7 +94,7 @@ module _ (round : RoundInputs) (pairs : List Pair) (are : ArePairs round.design.
   abbrev rows : ℕ → List (List PortValue)
   rows node = slice_index_or (rows_of stages) node []
 
-  abbrev left : Left
+  abbrev left : LeftValues
   left node port step = place_at (rows node) port step
 
   abbrev read : ℕ → ℕ → PortSource → PortValue
@@ -118,7 +118,7 @@ module _ (round : RoundInputs) (pairs : List Pair) (are : ArePairs round.design.
         let forth = to_alone_forth design pairs are node link none (target link refl) in
         let here = rounds.brought design round.values.now before c.rate step (source.Link number) in
         sym
-        (ap (λ b. if b then left_before_by design before left number link step else if is_forth pairs link then left
+        (ap (λ b. if b then left_before_by design before left number link step else if is_to_controller pairs link then left
         link.source.0 link.out_port step else here) back
         ∙ ap (λ b. if b then left link.source.0 link.out_port step else here) forth)
 
@@ -184,7 +184,7 @@ module _ (round : RoundInputs) (pairs : List Pair) (are : ArePairs round.design.
           | false ↦ λ other. refl
         ]) from
         ∙ sym
-        (ap (λ t. if t then left_before_by design before left number link step else if is_forth pairs link then left
+        (ap (λ t. if t then left_before_by design before left number link step else if is_to_controller pairs link then left
         link.source.0 link.out_port step else here) back
         ∙ ap (λ t. if b then left_before_by design before left number link step else if t then left link.source.0
         link.out_port step else here) forth)
@@ -192,7 +192,7 @@ module _ (round : RoundInputs) (pairs : List Pair) (are : ArePairs round.design.
     plant_value : (step : ℕ) (s : PortSource)
         → ((number : ℕ) (link : Link) → s ≡ source.Link number → slice_get design.links number ≡ Some link
         → link.target.0 ≡ pair.plant.0)
-        → side_value round (seat design pair.plant.0 pair.controller.0 r.p) step (row_before r.c_work.rows step) s
+        → side_value round (pair_member design pair.plant.0 pair.controller.0 r.p) step (row_before r.c_work.rows step) s
         ≡ read r.p.rate step s
     plant_value step source.Nothing target = refl
     plant_value step (source.Feed feed root) target = refl
@@ -200,7 +200,7 @@ module _ (round : RoundInputs) (pairs : List Pair) (are : ArePairs round.design.
         by (slice_get design.links number) (λ link there. target number link refl there)
       where
         by : (o : Option Link) → ((link : Link) → o ≡ Some link → link.target.0 ≡ pair.plant.0)
-            → from_link round (seat design pair.plant.0 pair.controller.0 r.p) step (row_before r.c_work.rows step)
+            → from_link round (pair_member design pair.plant.0 pair.controller.0 r.p) step (row_before r.c_work.rows step)
             number o ≡ link_by design pairs round.values.now before left r.p.rate step number o
         by None known = refl
         by (Some link) known = plant_if number link step (known link refl) (nat_eq link.source.0 pair.controller.0) refl
@@ -223,14 +223,14 @@ module _ (round : RoundInputs) (pairs : List Pair) (are : ArePairs round.design.
           | false ↦ λ other. refl
         ]) from
         ∙ sym
-        (ap (λ t. if t then left_before_by design before left number link step else if is_forth pairs link then left
+        (ap (λ t. if t then left_before_by design before left number link step else if is_to_controller pairs link then left
         link.source.0 link.out_port step else here) back
         ∙ ap (λ t. if t then left link.source.0 link.out_port step else here) forth)
 
     controller_value : (step : ℕ) (s : PortSource)
         → ((number : ℕ) (link : Link) → s ≡ source.Link number → slice_get design.links number ≡ Some link
         → link.target.0 ≡ pair.controller.0)
-        → side_value round (seat design pair.controller.0 pair.plant.0 r.c) step (Some (row_at r.p_work.rows step)) s
+        → side_value round (pair_member design pair.controller.0 pair.plant.0 r.c) step (Some (row_at r.p_work.rows step)) s
         ≡ read r.c.rate step s
     controller_value step source.Nothing target = refl
     controller_value step (source.Feed feed root) target = refl
@@ -238,31 +238,31 @@ module _ (round : RoundInputs) (pairs : List Pair) (are : ArePairs round.design.
         by (slice_get design.links number) (λ link there. target number link refl there)
       where
         by : (o : Option Link) → ((link : Link) → o ≡ Some link → link.target.0 ≡ pair.controller.0)
-            → from_link round (seat design pair.controller.0 pair.plant.0 r.c) step (Some (row_at r.p_work.rows step))
+            → from_link round (pair_member design pair.controller.0 pair.plant.0 r.c) step (Some (row_at r.p_work.rows step))
             number o ≡ link_by design pairs round.values.now before left r.c.rate step number o
         by None known = refl
         by (Some link) known = controller_if number link step (known link refl) (nat_eq link.source.0 pair.plant.0) refl
 
-    plant_vectors : map (plant_vector round (seat design pair.plant.0 pair.controller.0 r.p) r.c_work.rows)
+    plant_vectors : map (plant_vector round (pair_member design pair.plant.0 pair.controller.0 r.p) r.c_work.rows)
         (upwards 0 r.p.rate) ≡ vectors_of pair.plant.0 r.p
     plant_vectors =
-        map_upwards_same (plant_vector round (seat design pair.plant.0 pair.controller.0 r.p) r.c_work.rows)
+        map_upwards_same (plant_vector round (pair_member design pair.plant.0 pair.controller.0 r.p) r.c_work.rows)
         (vector_by design pairs round.values.now before left pair.plant.0 r.p) 0 r.p.rate
         (λ step above below.
         each_source design pair.plant.0
-        (side_value round (seat design pair.plant.0 pair.controller.0 r.p) step (row_before r.c_work.rows step))
+        (side_value round (pair_member design pair.plant.0 pair.controller.0 r.p) step (row_before r.c_work.rows step))
         (read r.p.rate step) (plant_value step) (upwards 0 (length r.p.behaviour.ins)))
 
-    controller_vectors : map (controller_vector round (seat design pair.controller.0 pair.plant.0 r.c) r.p_work.rows)
+    controller_vectors : map (controller_vector round (pair_member design pair.controller.0 pair.plant.0 r.c) r.p_work.rows)
         (upwards 0 r.p.rate) ≡ vectors_of pair.controller.0 r.c
     controller_vectors =
-        ap (λ n. map (controller_vector round (seat design pair.controller.0 pair.plant.0 r.c) r.p_work.rows)
+        ap (λ n. map (controller_vector round (pair_member design pair.controller.0 pair.plant.0 r.c) r.p_work.rows)
         (upwards 0 n)) rates
-        ∙ map_upwards_same (controller_vector round (seat design pair.controller.0 pair.plant.0 r.c) r.p_work.rows)
+        ∙ map_upwards_same (controller_vector round (pair_member design pair.controller.0 pair.plant.0 r.c) r.p_work.rows)
         (vector_by design pairs round.values.now before left pair.controller.0 r.c) 0 r.c.rate
         (λ step above below.
         each_source design pair.controller.0
-        (side_value round (seat design pair.controller.0 pair.plant.0 r.c) step (Some (row_at r.p_work.rows step)))
+        (side_value round (pair_member design pair.controller.0 pair.plant.0 r.c) step (Some (row_at r.p_work.rows step)))
         (read r.c.rate step) (controller_value step) (upwards 0 (length r.c.behaviour.ins)))
 
   -- ---- the steps of each component
@@ -322,7 +322,7 @@ module _ (round : RoundInputs) (pairs : List Pair) (are : ArePairs round.design.
             subst (λ (d : Component). IsLeft node d) one
             (subst (λ n. IsLeft n r.p) plant.0
             (left_work pair.plant.0 r.p r.p_work
-            (map (plant_vector round (seat design pair.plant.0 pair.controller.0 r.p) r.c_work.rows)
+            (map (plant_vector round (pair_member design pair.plant.0 pair.controller.0 r.p) r.c_work.rows)
             (upwards 0 r.p.rate))
             r.p_has r.made.plant_is.rows_are r.made.plant_is.frame_is (plant_vectors k pair is r))))
         | inr controller ↦ (
@@ -330,7 +330,7 @@ module _ (round : RoundInputs) (pairs : List Pair) (are : ArePairs round.design.
             subst (λ (d : Component). IsLeft node d) one
             (subst (λ n. IsLeft n r.c) controller.0
             (left_work pair.controller.0 r.c r.c_work
-            (map (controller_vector round (seat design pair.controller.0 pair.plant.0 r.c) r.p_work.rows)
+            (map (controller_vector round (pair_member design pair.controller.0 pair.plant.0 r.c) r.p_work.rows)
             (upwards 0 r.p.rate))
             r.c_has r.made.controller_is.rows_are r.made.controller_is.frame_is (controller_vectors k pair is r))))
       ]

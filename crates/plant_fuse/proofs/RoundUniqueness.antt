@@ -15,7 +15,7 @@ use Rattle.pals_model.specs.declared.port_sources.PortSource.TheVariants as sour
 use Rattle.pals_model.specs.ComponentInputs.{source_of}
 use Rattle.pals_model.specs.Composition.{Configuration}
 use Rattle.pals_runs.specs.declared.plant_pairs.Pair.{Pair}
-use Rattle.plant_fuse.specs.FusedComposition.{ArePairs, is_back, is_forth, Inputs, inputs_to}
+use Rattle.plant_fuse.specs.FusedComposition.{ArePairs, is_to_plant, is_to_controller, Inputs, inputs_to}
 use Rattle.plant_fuse.specs.proof.RoundEquations.{frame_at, outputs_from, left_in, left_before_by, brought, link_by}
 use Rattle.plant_fuse.specs.proof.RoundEquations.{read_by, round_vector, IsFusedRound}
 use Rattle.plant_fuse.specs.proof.FusedLaws.{RoundIsOne}
@@ -62,8 +62,8 @@ module _ (design : DesignParts) (pairs : List Pair) (values : List PortValue) (b
           let most = bump_most (is_controller pairs link.source.0) in
           same_left link.source.0 link.out_port j (omega (arith, most, low, at))
 
-      same_if : (number : ℕ) (link : Link) → link.target.0 ≡ node → (back forth : Bool) → is_back pairs link ≡ back
-          → is_forth pairs link ≡ forth
+      same_if : (number : ℕ) (link : Link) → link.target.0 ≡ node → (back forth : Bool) → is_to_plant pairs link ≡ back
+          → is_to_controller pairs link ≡ forth
           → (if back then left_before_by design before (left_in design before v) number link step else if forth then
           left_in design before v link.source.0 link.out_port step else brought design values before c.rate step
           (source.Link number))
@@ -84,7 +84,7 @@ module _ (design : DesignParts) (pairs : List Pair) (values : List PortValue) (b
           ≡ link_by design pairs values before (left_in design before w) c.rate step number o
       same_on number None target = refl
       same_on number (Some link) target =
-          same_if number link (target link refl) (is_back pairs link) (is_forth pairs link) refl refl
+          same_if number link (target link refl) (is_to_plant pairs link) (is_to_controller pairs link) refl refl
 
       same_value : (s : PortSource)
           → ((number : ℕ) (link : Link) → s ≡ source.Link number → slice_get design.links number ≡ Some link

@@ -21,11 +21,11 @@ use Rattle.pals_model.specs.declared.design.DesignParts.{DesignParts}
 use Rattle.pals_model.specs.declared.environment.Env.{Env}
 use Rattle.pals_model.specs.declared.port_sources.PortSource.{PortSource}
 use Rattle.pals_model.specs.declared.port_sources.PortSource.TheVariants as source
-use Rattle.pals_model.specs.ComponentInputs.{source_of, reading, values_at}
+use Rattle.pals_model.specs.ComponentInputs.{source_of, brought_tuple, values_at}
 use Rattle.pals_model.specs.PortKinds.{rate_of, rate_in}
 use Rattle.pals_model.specs.DesignRules.{IsDesign}
 use Rattle.pals_runs.specs.declared.plant_pairs.Pair.{Pair}
-use Rattle.plant_fuse.specs.FusedComposition.{ArePairs, is_back, is_forth, Inputs, inputs_to, outputs_in, left_by}
+use Rattle.plant_fuse.specs.FusedComposition.{ArePairs, is_to_plant, is_to_controller, Inputs, inputs_to, outputs_in, left_by}
 use Rattle.plant_fuse.specs.FusedComposition.{left_before, round_tuple, message_on, messages_before, from_round}
 use Rattle.plant_fuse.specs.FusedComposition.{value_on, value_read, vector_of, reads}
 use Rattle.plant_fuse.proofs.FunctionTables.{get_upwards_same, table_at, table_past, table_same}
@@ -83,7 +83,7 @@ module _ (design : DesignParts) (pairs : List Pair) (sound : IsDesign design) (a
         → message_on design pairs v round link ≡ message_on design pairs w round link
     same_message round link past =
         ap (λ (t : List PortValue).
-        if is_back pairs link then t else if is_forth pairs link then t else cut
+        if is_to_plant pairs link then t else if is_to_controller pairs link then t else cut
         (sent_steps design.gamma design.period (rate_of design link.source.0)) t)
         (same_tuple link.source.0 link.out_port round past)
 
@@ -97,7 +97,7 @@ module _ (design : DesignParts) (pairs : List Pair) (sound : IsDesign design) (a
     same_from_round : (rate step : ℕ) (source : PortSource) → step / rate * 128 ≤ m
         → from_round design pairs env v rate step source ≡ from_round design pairs env w rate step source
     same_from_round rate step source past =
-        ap (λ messages. slice_index_or (reading design (values_at env (step / rate)) messages rate source) (step % rate)
+        ap (λ messages. slice_index_or (brought_tuple design (values_at env (step / rate)) messages rate source) (step % rate)
         Absent) (same_messages (step / rate) past)
 
     same_before : (node port step : ℕ) → ((k : ℕ) → k < step → rank design pairs node k < m)
@@ -115,8 +115,8 @@ module _ (design : DesignParts) (pairs : List Pair) (sound : IsDesign design) (a
           let from = rank_from_round design pairs sound node step in
           subst (λ k. step / k * 128 ≤ m) rate_is (omega (arith, from, low))
 
-      same_if : (number : ℕ) (link : Link) → link.target.0 ≡ node → (back forth : Bool) → is_back pairs link ≡ back
-          → is_forth pairs link ≡ forth
+      same_if : (number : ℕ) (link : Link) → link.target.0 ≡ node → (back forth : Bool) → is_to_plant pairs link ≡ back
+          → is_to_controller pairs link ≡ forth
           → (if back then left_before design v link.source.0 link.out_port step else if forth then left_by design v
           link.source.0 link.out_port step else from_round design pairs env v c.rate step (source.Link number))
           ≡ (if back then left_before design w link.source.0 link.out_port step else if forth then left_by design w
@@ -140,7 +140,7 @@ module _ (design : DesignParts) (pairs : List Pair) (sound : IsDesign design) (a
           → value_on design pairs env v c.rate step number o ≡ value_on design pairs env w c.rate step number o
       same_on number None target = same_from_round c.rate step (source.Link number) past_rounds
       same_on number (Some link) target =
-          same_if number link (target link refl) (is_back pairs link) (is_forth pairs link) refl refl
+          same_if number link (target link refl) (is_to_plant pairs link) (is_to_controller pairs link) refl refl
 
       same_value : (s : PortSource)
           → ((number : ℕ) (link : Link) → s ≡ source.Link number → slice_get design.links number ≡ Some link

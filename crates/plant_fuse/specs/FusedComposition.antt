@@ -20,7 +20,7 @@ use Rattle.pals_model.specs.declared.design.Link.{Link}
 use Rattle.pals_model.specs.declared.design.DesignParts.{DesignParts}
 use Rattle.pals_model.specs.declared.environment.Env.{Env}
 use Rattle.pals_model.specs.declared.port_sources.PortSource.{PortSource}
-use Rattle.pals_model.specs.ComponentInputs.{sources_of, reading, values_at}
+use Rattle.pals_model.specs.ComponentInputs.{sources_of, brought_tuple, values_at}
 use Rattle.pals_model.specs.PortKinds.{rate_of}
 use Rattle.pals_model.specs.declared.port_sources.PortSource.TheVariants as source
 
@@ -30,12 +30,12 @@ abbrev pub goes : ℕ → ℕ → Link → Bool
 goes a b link = nat_eq link.source.0 a && nat_eq link.target.0 b
 
 -- a link from a controller to its plant
-abbrev pub is_back : List Pair → Link → Bool
-is_back pairs link = list_any (λ pair. goes pair.controller.0 pair.plant.0 link) pairs
+abbrev pub is_to_plant : List Pair → Link → Bool
+is_to_plant pairs link = list_any (λ pair. goes pair.controller.0 pair.plant.0 link) pairs
 
 -- a link from a plant to its controller
-abbrev pub is_forth : List Pair → Link → Bool
-is_forth pairs link = list_any (λ pair. goes pair.plant.0 pair.controller.0 link) pairs
+abbrev pub is_to_controller : List Pair → Link → Bool
+is_to_controller pairs link = list_any (λ pair. goes pair.plant.0 pair.controller.0 link) pairs
 
 -- both are there, at one rate
 pub record IsPair (design : DesignParts) (pair : Pair) : Type 0 where
@@ -92,8 +92,8 @@ round_tuple design ins node port round =
 -- a link inside a pair has its whole tuple; every other one is cut as in the composition
 abbrev pub message_on : DesignParts → List Pair → Inputs → ℕ → Link → List PortValue
 message_on design pairs ins round link =
-    if is_back pairs link then round_tuple design ins link.source.0 link.out_port round
-    else if is_forth pairs link then round_tuple design ins link.source.0 link.out_port round
+    if is_to_plant pairs link then round_tuple design ins link.source.0 link.out_port round
+    else if is_to_controller pairs link then round_tuple design ins link.source.0 link.out_port round
     else cut (sent_steps design.gamma design.period (rate_of design link.source.0))
     (round_tuple design ins link.source.0 link.out_port round)
 
@@ -107,7 +107,7 @@ messages_before design pairs ins (suc round) = map (message_on design pairs ins 
 -- as in the composition: the step's place of what its round brings
 abbrev pub from_round : DesignParts → List Pair → Env → Inputs → ℕ → ℕ → PortSource → PortValue
 from_round design pairs env ins rate step source =
-    slice_index_or (reading design (values_at env (step / rate)) (messages_before design pairs ins (step / rate)) rate
+    slice_index_or (brought_tuple design (values_at env (step / rate)) (messages_before design pairs ins (step / rate)) rate
     source) (step % rate) Absent
 
 -- a plant reads on a link from its controller what the controller's step before left; a controller reads on a link
@@ -115,8 +115,8 @@ from_round design pairs env ins rate step source =
 abbrev pub value_on : DesignParts → List Pair → Env → Inputs → ℕ → ℕ → ℕ → Option Link → PortValue
 value_on design pairs env ins rate step number None = from_round design pairs env ins rate step (source.Link number)
 value_on design pairs env ins rate step number (Some link) =
-    if is_back pairs link then left_before design ins link.source.0 link.out_port step
-    else if is_forth pairs link then left_by design ins link.source.0 link.out_port step
+    if is_to_plant pairs link then left_before design ins link.source.0 link.out_port step
+    else if is_to_controller pairs link then left_by design ins link.source.0 link.out_port step
     else from_round design pairs env ins rate step (source.Link number)
 
 abbrev pub value_read : DesignParts → List Pair → Env → Inputs → ℕ → ℕ → PortSource → PortValue

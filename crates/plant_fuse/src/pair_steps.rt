@@ -3,7 +3,7 @@ ghost use Rattle.std.specs.Prelude.{◌≡◌, ◌<◌, ◌≤◌, OnOk, length}
 ghost use Rattle.std.specs.Option.{option_copied};
 ghost use Rattle.sync_product.specs.proof.ProductSizes.{frame_size, frame_size_of, part_size, stage_size};
 ghost use Rattle.sync_product.specs.proof.ProductSizes.{stage_size_of};
-ghost use Rattle.plant_fuse.specs.proof.PairSteps.{seat_of, from_partner, side_value, side_vector, row_before, AreMade};
+ghost use Rattle.plant_fuse.specs.proof.PairSteps.{member_of_pair, from_partner, side_value, side_vector, row_before, AreMade};
 ghost use Rattle.plant_fuse.specs.proof.PairSteps.{work, FitsSteps, AreSidesRun};
 
 use pals_base::tuples::place;
@@ -87,7 +87,7 @@ fn make_steps(
     requires controller_room { stage_size controller_stage.old ≡ stage_size_of controller_stage.old.sent fused.controller.wired.component.now }
     requires plant_size { frame_size plant_frame.old ≡ frame_size_of fused.plant.wired.component.now }
     requires controller_size { frame_size controller_frame.old ≡ frame_size_of fused.controller.wired.component.now }
-    ensures made { let pair = fused.entry in OnOk result (AreMade round.entry (seat_of pair.plant) (seat_of pair.controller) pair.plant.wired.component.now.rate
+    ensures made { let pair = fused.entry in OnOk result (AreMade round.entry (member_of_pair pair.plant) (member_of_pair pair.controller) pair.plant.wired.component.now.rate
         (work plant_frame.old plant_stage.new.rows plant_frame.new) (work controller_frame.old controller_stage.new.rows controller_frame.new)) }
     ensures plant_stage { stage_size plant_stage.new ≡ stage_size plant_stage.old }
     ensures controller_stage { stage_size controller_stage.new ≡ stage_size controller_stage.old }
@@ -138,7 +138,7 @@ fn write_read(
 )
     requires count { length inputs.old ≡ length side.wired.sources.now }
     requires step { step < side.wired.component.now.rate }
-    ensures inputs { inputs.new ≡ side_vector round.entry (seat_of side.entry) step (option_copied last.entry) }
+    ensures inputs { inputs.new ≡ side_vector round.entry (member_of_pair side.entry) step (option_copied last.entry) }
     ensures len { length inputs.new ≡ length inputs.old }
 {
     for at in 0..side.wired.sources.len() {
@@ -159,7 +159,7 @@ fn place_read(
     last: Option<&[PortValue]>,
 ) -> PortValue
     requires { step < side.wired.component.now.rate }
-    ensures { result ≡ side_value round.entry (seat_of side.entry) step (option_copied last.entry) source }
+    ensures { result ≡ side_value round.entry (member_of_pair side.entry) step (option_copied last.entry) source }
 {
     if let PortSource::Link(number) = source
         && let Some(link) = round.design.links().get(number)

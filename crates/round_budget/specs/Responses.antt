@@ -5,12 +5,12 @@ use Rattle.pals_base.specs.declared.frames.Frame.{Frame}
 use Rattle.pals_base.specs.declared.values.PortValue.{PortValue}
 use Rattle.pals_base.specs.PeriodBound.{alarm}
 use Rattle.step_code.specs.declared.instr.CodeParts.{CodeParts}
-use Rattle.step_code.specs.InstructionsPerStep.{made}
+use Rattle.step_code.specs.InstructionsPerStep.{instructions_made}
 use Rattle.pals_model.specs.declared.design.Component.{Component}
 use Rattle.pals_model.specs.declared.design.DesignParts.{DesignParts}
 use Rattle.pals_model.specs.declared.environment.Env.{Env}
-use Rattle.pals_model.specs.ComponentInputs.{feed}
-use Rattle.pals_model.specs.Composition.{comp, no_frame, own_steps_so_far}
+use Rattle.pals_model.specs.ComponentInputs.{input_vectors}
+use Rattle.pals_model.specs.Composition.{comp, no_frame, partial_steps}
 use Rattle.round_budget.specs.Budgets.{Release, Served, budget, most_of}
 
 -- how long after its release a step is done
@@ -29,16 +29,16 @@ AreAtMost codes members count = (x : Release) → Contains members x.node → co
 -- ---- the instructions that a code makes in a step of the composition
 abbrev pub frame_before : DesignParts → Env → Release → Option Component → Frame
 frame_before design env x None = no_frame
-frame_before design env x (Some c) = (own_steps_so_far design env x.node x.round c x.step).frame
+frame_before design env x (Some c) = (partial_steps design env x.node x.round c x.step).frame
 
 -- the inputs of the step in the composition
 abbrev pub inputs_at : DesignParts → Env → Release → List PortValue
 inputs_at design env x =
-    slice_index_or (feed design env (comp design env x.round).messages x.node x.round) x.step []
+    slice_index_or (input_vectors design env (comp design env x.round).messages x.node x.round) x.step []
 
 abbrev pub made_in : Option CodeParts → Frame → List PortValue → ℕ
 made_in None frame inputs = 0
-made_in (Some c) frame inputs = made c frame inputs
+made_in (Some c) frame inputs = instructions_made c frame inputs
 
 -- those that the component's code makes in that step of the composition
 abbrev pub by_exec : DesignParts → Env → List CodeParts → Release → ℕ

@@ -35,7 +35,7 @@ use Rattle.run_laws.proofs.WorldNodeTiming.{Stands, stands_at}
 use Rattle.run_laws.proofs.WorldLinkTiming.{comes_in_time, ComesInTime, is_kept, link_is, rule_of, one_of_true}
 use Rattle.run_laws.proofs.WorldLinkTiming.{one_of_false, in_flight_counts, counts_in_flight}
 use Rattle.run_laws.proofs.LocalWorldChanges.{changed, stands_put, keeps_again}
-use Rattle.run_laws.proofs.FaultlessEventConditions.{ArrivesInTime}
+use Rattle.run_laws.proofs.FaultlessEventConditions.{FaultlessArrival}
 use Rattle.run_laws.proofs.NodePicks.{component_is}
 
 -- ---- a round of the link
@@ -77,7 +77,7 @@ fewer_in_flight round r flight copy found flies =
     counts_in_flight r flight (omega arith)
 
 module _ (run : Run) (w : World) (rules : IsRunOf run) (keeps : KeepsTime run w) (link : LinkNo) (round : ℕ)
-    (fine : ArrivesInTime run w link round) where
+    (fine : FaultlessArrival run w link round) where
   abbrev pub target : ℕ
   target = (link_at run.design link.0).target.0
 

@@ -2,7 +2,7 @@
 use Rattle.std.proofs.Common.{◌≡◌, ◌≢◌, ℕ, List, [], slice_get, Option, Some, None, refl, sym, ap, ◌∙◌, subst}
 use Rattle.std.proofs.lemmas.Option.{same_Some}
 use Rattle.pals_base.specs.declared.values.NodeNo.{NodeNo}
-use Rattle.pals_base.specs.ClockPicks.{reached}
+use Rattle.pals_base.specs.ClockPicks.{remaining_from}
 use Rattle.pals_clock.specs.ClockStates.{ClockState}
 use Rattle.pals_model.specs.ComponentInputs.{values_at}
 use Rattle.pals_runs.specs.declared.phase.Phase.{Phase}
@@ -31,8 +31,8 @@ does_not run clocks s node reading action ended d =
     let plan = plan_of run.design node.0 in
     let left = (clock_at clocks node.0).left in
     let same : action ≡ ended.0 = same_Some action ended.0 (sym d.next ∙ ended.1) in
-    let here : reached left (target plan action) ≡ left = stands left (target plan action) d.at d.shows.0 d.shows.1 in
-    let none : left ≡ [] = sym here ∙ ap (λ a. reached left (target plan a)) same ∙ ended.2 in
+    let here : remaining_from left (target plan action) ≡ left = stands left (target plan action) d.at d.shows.0 d.shows.1 in
+    let none : left ≡ [] = sym here ∙ ap (λ a. remaining_from left (target plan a)) same ∙ ended.2 in
     let both : None ≡ Some d.at = ap (λ l. slice_get l 0) (sym none) ∙ d.shows.0 in
     absurd (cc)
 

@@ -16,7 +16,7 @@ use Rattle.pals_runs.specs.declared.journal.JournalEntry.{JournalEntry}
 use Rattle.pals_runs.specs.declared.journal.JournalEntry.TheVariants as entry
 use Rattle.pals_runs.specs.JournalLines.{node_word, link_word, reading_word, arrived_word, cause_word, spaced}
 use Rattle.pals_runs.specs.JournalLines.{stop_words, entry_words}
-use Rattle.run_laws.specs.LineForms.{Form, ArriveLine, StartLine, StepLine, FinishLine, SendLine, DropLine, RepeatLine}
+use Rattle.run_laws.specs.LineForms.{LineForm, ArriveLine, StartLine, StepLine, FinishLine, SendLine, DropLine, RepeatLine}
 use Rattle.run_laws.specs.LineForms.{EarlyLine, MissedLine, is_there, form_of_words, form_of, named, read, at_end}
 use Rattle.run_laws.specs.LineForms.{with_result, with_cause, with_step}
 use Rattle.run_laws.specs.proof.EntryLines.{stop_form, entry_form, LinesHaveForms, EntriesHaveLines}
@@ -84,32 +84,32 @@ entry_plain design (entry.Repeat link round) rules is =
 entry_plain design (entry.Stopped why) rules is = stop_plain design why rules is
 
 -- ---- what they are read as
-named_is : (name : List ℕ) (round : ℕ) (rest : List (List ℕ)) (go : List ℕ → ℕ → List (List ℕ) → Option Form)
+named_is : (name : List ℕ) (round : ℕ) (rest : List (List ℕ)) (go : List ℕ → ℕ → List (List ℕ) → Option LineForm)
     → round ≤ ROUNDS
     → named (name ∷ decimal round ∷ rest) go ≡ go name round rest
 named_is name round rest go within = ap (option_and_then (λ r. go name r rest)) (round_is round within)
 
-read_is : (reading : Option ℕ) (rest : List (List ℕ)) (go : Option ℕ → List (List ℕ) → Option Form) → IsReading reading
+read_is : (reading : Option ℕ) (rest : List (List ℕ)) (go : Option ℕ → List (List ℕ) → Option LineForm) → IsReading reading
     → read (reading_word reading ∷ rest) go ≡ go reading rest
 read_is reading rest go within = ap (option_and_then (λ r. go r rest)) (reading_is reading within)
 
-result_is : (result : Arrived) (go : Arrived → Form) → with_result (arrived_word result ∷ []) go ≡ Some (go result)
+result_is : (result : Arrived) (go : Arrived → LineForm) → with_result (arrived_word result ∷ []) go ≡ Some (go result)
 result_is Kept go = refl
 result_is Ignored go = refl
 result_is Early go = refl
 
-cause_is : (cause : Cause) (go : Cause → Form) → with_cause (cause_word cause ∷ []) go ≡ Some (go cause)
+cause_is : (cause : Cause) (go : Cause → LineForm) → with_cause (cause_word cause ∷ []) go ≡ Some (go cause)
 cause_is NotSent go = refl
 cause_is InTransit go = refl
 cause_is Lost go = refl
 
 -- a name and a round alone
-named_last : (name : List ℕ) (round : ℕ) (go : List ℕ → ℕ → Form) → round ≤ ROUNDS
+named_last : (name : List ℕ) (round : ℕ) (go : List ℕ → ℕ → LineForm) → round ≤ ROUNDS
     → named (name ∷ decimal round ∷ []) (λ n r left. at_end (go n r) left) ≡ Some (go name round)
 named_last name round go within = named_is name round [] (λ n r left. at_end (go n r) left) within
 
 -- a name, a round and a reading
-read_last : (name : List ℕ) (round : ℕ) (reading : Option ℕ) (go : List ℕ → ℕ → Option ℕ → Form) → round ≤ ROUNDS
+read_last : (name : List ℕ) (round : ℕ) (reading : Option ℕ) (go : List ℕ → ℕ → Option ℕ → LineForm) → round ≤ ROUNDS
     → IsReading reading
     → named (name ∷ decimal round ∷ reading_word reading ∷ [])
     (λ n r more. read more (λ i left. at_end (go n r i) left)) ≡ Some (go name round reading)
@@ -155,7 +155,7 @@ entry_reads design (entry.Stopped why) is = stop_reads design why is
 
 -- ---- lines
 -- a line of plain words has the form of these
-form_is : (words : List (List ℕ)) (form : Form) → ArePlain words → form_of_words words ≡ Some form
+form_is : (words : List (List ℕ)) (form : LineForm) → ArePlain words → form_of_words words ≡ Some form
     → form_of (spaced words) ≡ Some form
 form_is [] form plain is = absurd (cc)
 form_is (word ∷ words) form plain is =

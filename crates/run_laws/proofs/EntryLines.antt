@@ -11,7 +11,7 @@ use Rattle.pals_runs.specs.declared.journal.Stop.TheVariants as stop
 use Rattle.pals_runs.specs.declared.journal.JournalEntry.{JournalEntry}
 use Rattle.pals_runs.specs.declared.journal.JournalEntry.TheVariants as entry
 use Rattle.pals_runs.specs.JournalLines.{node_word, link_word}
-use Rattle.run_laws.specs.EntriesInLines.{of_node, of_link, entry_of, told}
+use Rattle.run_laws.specs.EntriesInLines.{of_node, of_link, entry_of, entry_of_line}
 use Rattle.run_laws.specs.proof.EntryLines.{stop_form, entry_form, LinesTellEntries, LinesDiffer}
 use Rattle.run_laws.specs.EntriesOfDesigns.{IsOfNode, IsOfLink, IsStopIn, IsEntryIn}
 use Rattle.run_laws.proofs.PlainNames.{node_found, link_found}
@@ -60,5 +60,5 @@ lines_tell_entries design e rules is =
 
 pub lines_differ : LinesDiffer
 lines_differ design e rules is other other_is same =
-    same_Some e other (sym (lines_tell_entries design e rules is) ∙ ap (told design) same
+    same_Some e other (sym (lines_tell_entries design e rules is) ∙ ap (entry_of_line design) same
     ∙ lines_tell_entries design other rules other_is)

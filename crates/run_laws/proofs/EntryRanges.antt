@@ -10,7 +10,7 @@ use Rattle.pals_base.specs.declared.limits.TheConstants.{ROUNDS, READING, HOUR}
 use Rattle.pals_base.specs.declared.values.NodeNo.{NodeNo}
 use Rattle.pals_base.specs.declared.values.LinkNo.{LinkNo}
 use Rattle.pals_base.specs.PeriodBound.{alarm}
-use Rattle.pals_base.specs.ClockPicks.{reached}
+use Rattle.pals_base.specs.ClockPicks.{remaining_from}
 use Rattle.pals_clock.specs.ClockStates.{left_after}
 use Rattle.pals_model.specs.DesignRules.{IsComponent, IsLink}
 use Rattle.pals_model.proofs.FirstMatches.{at_element}
@@ -50,18 +50,18 @@ use Rattle.run_laws.specs.proof.RunTraces.{AreReadings}
 
 -- ---- readings of lists
 reached_by : (r : ℕ) (rs : List ℕ) (t : ℕ) (b : Bool) → All (λ x. x ≤ READING) (r ∷ rs)
-    → All (λ x. x ≤ READING) (reached rs t) → All (λ x. x ≤ READING) (cond b (reached rs t) (r ∷ rs))
+    → All (λ x. x ≤ READING) (remaining_from rs t) → All (λ x. x ≤ READING) (cond b (remaining_from rs t) (r ∷ rs))
 reached_by r rs t true all rest = rest
 reached_by r rs t false all rest = all
 
-reached_all : (left : List ℕ) (t : ℕ) → All (λ x. x ≤ READING) left → All (λ x. x ≤ READING) (reached left t)
+reached_all : (left : List ℕ) (t : ℕ) → All (λ x. x ≤ READING) left → All (λ x. x ≤ READING) (remaining_from left t)
 reached_all [] t all = all
 reached_all (r ∷ rs) t all =
     reached_by r rs t (nat_lt r t) all (reached_all rs t (All-tail (λ x. x ≤ READING) r rs all))
 
 left_all : (readings ts : List ℕ) → All (λ x. x ≤ READING) readings → All (λ x. x ≤ READING) (left_after readings ts)
 left_all readings [] all = all
-left_all readings (t ∷ ts) all = left_all (reached readings t) ts (reached_all readings t all)
+left_all readings (t ∷ ts) all = left_all (remaining_from readings t) ts (reached_all readings t all)
 
 -- ---- targets of a meeting
 last_alarm : (t rounds : ℕ) → t ≤ HOUR → rounds ≤ ROUNDS → alarm t rounds ≤ READING

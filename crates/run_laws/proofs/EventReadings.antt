@@ -13,7 +13,7 @@ use Rattle.std.proofs.lemmas.List.Sums.{fold-append}
 use Rattle.std.proofs.lemmas.Option.{get_or_from_slice_get}
 use Rattle.pals_base.specs.declared.values.NodeNo.{NodeNo}
 use Rattle.pals_base.specs.declared.values.LinkNo.{LinkNo}
-use Rattle.pals_base.specs.ClockPicks.{reached}
+use Rattle.pals_base.specs.ClockPicks.{remaining_from}
 use Rattle.pals_clock.specs.ClockStates.{ClockState, standing_at}
 use Rattle.pals_model.specs.declared.design.DesignParts.{DesignParts}
 use Rattle.pals_model.proofs.FirstMatches.{at_element}
@@ -34,7 +34,7 @@ use Rattle.run_laws.specs.JournalReadings.{last_of, latest}
 use Rattle.run_laws.specs.NodeActions.{upcoming}
 use Rattle.pals_clock.specs.declared.clock.Clocks.{Clocks}
 use Rattle.pals_clock.specs.declared.clock.Clocks.TheVariants.{Meet, Lists}
-use Rattle.run_laws.specs.Runs.{no_clock, clock_at, Shows, Does, KeepsTo, Picks, Begin, Runs, opens, picks_for, goes_on}
+use Rattle.run_laws.specs.Runs.{no_clock, clock_at, Shows, Does, KeepsTo, Picks, HaveFreshClocks, Runs, opens, picks_for, goes_on}
 use Rattle.run_laws.proofs.MissedLinks.{missed_link}
 use Rattle.run_laws.proofs.NodePicks.{many_clocks}
 
@@ -130,13 +130,13 @@ tail_rises : (r : ℕ) (rs : List ℕ) → IsNonDecreasing (r ∷ rs) → IsNonD
 tail_rises r rs order = λ i j d ordered within. order (suc i) (suc j) d (omega arith) (omega arith)
 
 reached_by : (r : ℕ) (rs : List ℕ) (t last : ℕ) (b : Bool) → NoneFalls (record { readings = []; left = r ∷ rs }) last
-    → NoneFalls (record { readings = []; left = reached rs t }) last
-    → NoneFalls (record { readings = []; left = cond b (reached rs t) (r ∷ rs) }) last
+    → NoneFalls (record { readings = []; left = remaining_from rs t }) last
+    → NoneFalls (record { readings = []; left = cond b (remaining_from rs t) (r ∷ rs) }) last
 reached_by r rs t last true all rest = rest
 reached_by r rs t last false all rest = all
 
 reached_falls : (left : List ℕ) (t last : ℕ) → IsNonDecreasing left → All (λ reading. last ≤ reading) left
-    → NoneFalls (record { readings = []; left = reached left t }) last
+    → NoneFalls (record { readings = []; left = remaining_from left t }) last
 reached_falls [] t last order above = record { order = order; above = above }
 reached_falls (r ∷ rs) t last order above =
     reached_by r rs t last (nat_lt r t) (record { order = order; above = above })
@@ -153,7 +153,7 @@ FallsIn run Meet journal = Unit {0}
 FallsIn run (Lists clocks) journal =
     (k : ℕ) → k < length run.design.components → NoneFalls (clock_at clocks k) (latest run.design k journal)
 
-opens_falls : (run : Run) (clocks : Clocks) → Begin run clocks → FallsIn run clocks []
+opens_falls : (run : Run) (clocks : Clocks) → HaveFreshClocks run clocks → FallsIn run clocks []
 opens_falls run Meet begin = tt
 opens_falls run (Lists clocks) begin = λ k within.
     let count = begin.count in
@@ -168,7 +168,7 @@ picks_falls : (run : Run) (clocks after' : List ClockState) (journal : List Jour
 picks_falls run clocks after' journal s j many picks before = λ k within.
     let j_within = picks.within in
     let t = target (plan_of run.design j) picks.action in
-    let new = standing_at (clock_at clocks j) (reached (clock_at clocks j).left t) in
+    let new = standing_at (clock_at clocks j) (remaining_from (clock_at clocks j).left t) in
     subst (λ cs. NoneFalls (clock_at cs k) (latest run.design k journal)) (sym picks.clocks_are) (elim (cases_eq k j) [
       | inl same ↦
           let old = before k within in
@@ -177,8 +177,8 @@ picks_falls run clocks after' journal s j many picks before = λ k within.
           subst (λ c. NoneFalls c (latest run.design k journal))
           (sym (get_or-set_at clocks j k new no_clock same (omega arith)))
           (record {
-            order = subst (λ l. IsNonDecreasing (reached l t)) there one.order;
-            above = subst (λ l. All (λ x. latest run.design k journal ≤ x) (reached l t)) there one.above;
+            order = subst (λ l. IsNonDecreasing (remaining_from l t)) there one.order;
+            above = subst (λ l. All (λ x. latest run.design k journal ≤ x) (remaining_from l t)) there one.above;
           })
       | inr other ↦ subst (λ c. NoneFalls c (latest run.design k journal))
           (sym (get_or-set_other clocks j k new no_clock other)) (before k within)

@@ -14,7 +14,7 @@ use Rattle.pals_runs.specs.declared.events_and_faults.EventSubject.TheVariants a
 use Rattle.bus_machine.specs.Plans.{plan_of}
 use Rattle.bus_machine.specs.NodeEvents.{is_waiting, next_step, running_step, may_send}
 use Rattle.bus_machine.specs.LinkEvents.{is_in_flight}
-use Rattle.bus_machine.specs.EarliestReadings.{start_alarm, step_alarm, release_alarm}
+use Rattle.bus_machine.specs.EarliestReadings.{start_alarm, step_alarm, release_reading}
 use Rattle.bus_machine.specs.States.{node_at, flight_at}
 use Rattle.bus_machine.specs.Runs.{Run}
 use Rattle.bus_machine.specs.Machine.{Start, Step, Finish, Send}
@@ -37,13 +37,13 @@ pub named : (run : Run) (w : World) (e : Event) → fault_of run w e ≡ None
 named run w e none = named_by (is_named run e) (event_fault run w e) fault.BadName none
 
 -- ---- each event
-pub record StartsInTime (run : Run) (w : World) (node : NodeNo) : Type 0 where
+pub record FaultlessStart (run : Run) (w : World) (node : NodeNo) : Type 0 where
   pub within : node.0 < length run.design.components
   pub waits : is_waiting (node_at w.bus node.0).phase ≡ true
   pub due : start_alarm (plan_of run.design node.0) (node_at w.bus node.0) ≤ reading_at w node.0
 
 pub starts_in_time : (run : Run) (w : World) (node : NodeNo) → fault_of run w (event.Start node) ≡ None
-    → StartsInTime run w node
+    → FaultlessStart run w node
 starts_in_time run w node none =
     let parts = named run w (event.Start node) none in
     let alarm = start_alarm (plan_of run.design node.0) (node_at w.bus node.0) in
@@ -58,14 +58,14 @@ starts_in_time run w node none =
           (none_if (nat_lt (reading_at w node.0) alarm) (fault.NotDue node alarm (reading_at w node.0)) both.1);
     }
 
-pub record StepsInTime (run : Run) (w : World) (node : NodeNo) : Type 0 where
+pub record FaultlessStep (run : Run) (w : World) (node : NodeNo) : Type 0 where
   pub within : node.0 < length run.design.components
   pub waits : is_some (next_step (node_at w.bus node.0).phase) ≡ true
   pub due : step_alarm (plan_of run.design node.0) (node_at w.bus node.0)
       (unwrap_or (next_step (node_at w.bus node.0).phase) 0) ≤ reading_at w node.0
 
 pub steps_in_time : (run : Run) (w : World) (node : NodeNo) → fault_of run w (event.Step node) ≡ None
-    → StepsInTime run w node
+    → FaultlessStep run w node
 steps_in_time run w node none =
     let parts = named run w (event.Step node) none in
     let next = next_step (node_at w.bus node.0).phase in
@@ -79,12 +79,12 @@ steps_in_time run w node none =
           (none_if (nat_lt (reading_at w node.0) alarm) (fault.NotDue node alarm (reading_at w node.0)) both.1);
     }
 
-pub record FinishesInTime (run : Run) (w : World) (node : NodeNo) : Type 0 where
+pub record FaultlessFinish (run : Run) (w : World) (node : NodeNo) : Type 0 where
   pub within : node.0 < length run.design.components
   pub runs : is_some (running_step (node_at w.bus node.0).phase) ≡ true
 
 pub finishes_in_time : (run : Run) (w : World) (node : NodeNo) → fault_of run w (event.Finish node) ≡ None
-    → FinishesInTime run w node
+    → FaultlessFinish run w node
 finishes_in_time run w node none =
     let parts = named run w (event.Finish node) none in
     let step = running_step (node_at w.bus node.0).phase in
@@ -96,17 +96,17 @@ finishes_in_time run w node none =
       runs = not-false (is_some step) (none_if (not (is_some step)) (fault.WrongPhase node) both.0);
     }
 
-pub record SendsInTime (run : Run) (w : World) (node : NodeNo) : Type 0 where
+pub record FaultlessSend (run : Run) (w : World) (node : NodeNo) : Type 0 where
   pub within : node.0 < length run.design.components
   pub may : may_send (plan_of run.design node.0) (node_at w.bus node.0) ≡ true
-  pub due : release_alarm (plan_of run.design node.0) (node_at w.bus node.0) ≤ reading_at w node.0
+  pub due : release_reading (plan_of run.design node.0) (node_at w.bus node.0) ≤ reading_at w node.0
 
 pub sends_in_time : (run : Run) (w : World) (node : NodeNo) → fault_of run w (event.Send node) ≡ None
-    → SendsInTime run w node
+    → FaultlessSend run w node
 sends_in_time run w node none =
     let parts = named run w (event.Send node) none in
     let may = may_send (plan_of run.design node.0) (node_at w.bus node.0) in
-    let alarm = release_alarm (plan_of run.design node.0) (node_at w.bus node.0) in
+    let alarm = release_reading (plan_of run.design node.0) (node_at w.bus node.0) in
     let both = both_none (wrong_phase run w node (Send node None)) (not_due w node alarm) parts.1 in
     record {
       within = ltb-true node.0 (length run.design.components) parts.0;
@@ -116,13 +116,13 @@ sends_in_time run w node none =
           (none_if (nat_lt (reading_at w node.0) alarm) (fault.NotDue node alarm (reading_at w node.0)) both.1);
     }
 
-pub record ArrivesInTime (run : Run) (w : World) (link : LinkNo) (round : ℕ) : Type 0 where
+pub record FaultlessArrival (run : Run) (w : World) (link : LinkNo) (round : ℕ) : Type 0 where
   pub within : link.0 < length run.design.links
   pub flies : is_in_flight round (flight_at w.bus link.0) ≡ true
   pub carried : flight_since run w link.0 round + run.design.gamma.mu_min ≤ w.time
 
 pub arrives_in_time : (run : Run) (w : World) (link : LinkNo) (round : ℕ)
-    → fault_of run w (event.Arrive link round) ≡ None → ArrivesInTime run w link round
+    → fault_of run w (event.Arrive link round) ≡ None → FaultlessArrival run w link round
 arrives_in_time run w link round none =
     let parts = named run w (event.Arrive link round) none in
     let flies = is_in_flight round (flight_at w.bus link.0) in

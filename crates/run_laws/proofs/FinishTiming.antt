@@ -16,7 +16,7 @@ use Rattle.bus_machine.specs.declared.plan.Plan.{Plan}
 use Rattle.bus_machine.specs.Plans.{plan_of, component_at}
 use Rattle.bus_machine.specs.Nodes.{NodeState, round_of, finished_steps, at_rest, sent_rounds}
 use Rattle.bus_machine.specs.NodeEvents.{running_step, finished, after_round, may_send}
-use Rattle.bus_machine.specs.EarliestReadings.{start_alarm, step_alarm, release_alarm}
+use Rattle.bus_machine.specs.EarliestReadings.{start_alarm, step_alarm, release_reading}
 use Rattle.bus_machine.specs.States.{node_at, with_node}
 use Rattle.bus_machine.specs.Runs.{Run}
 use Rattle.bus_machine.specs.Machine.{on_step}
@@ -27,14 +27,14 @@ use Rattle.run_laws.specs.Worlds.{World, reading_at, since_at, ready_at, sending
 use Rattle.bus_machine.proofs.NodeLocalAgreement.{finish_keeps}
 use Rattle.bus_machine.proofs.AgreementChanges.{node_set, node_stays}
 use Rattle.bus_machine.proofs.NodeEventAgreement.{finish_keeps_all}
-use Rattle.run_laws.specs.proof.WorldInvariant.{IsInTime, IsReadySince, KeepsTime}
+use Rattle.run_laws.specs.proof.WorldInvariant.{KeepsDeadline, IsReadySince, KeepsTime}
 use Rattle.run_laws.proofs.TimeArithmetic.{finish_between, late_running}
 use Rattle.run_laws.proofs.WorldNodeTiming.{fits_at, may_be, may_is, Stands, stands_at, left_in_time, both_in_time}
 use Rattle.run_laws.proofs.WorldNodeTiming.{send_in_time, sends_in_time, phase_last, send_last, phase_agrees}
 use Rattle.run_laws.proofs.WorldNodeTiming.{next_alarm}
 use Rattle.run_laws.proofs.LocalWorldChanges.{changed, same_links, stands_put, keeps_again, moved_here, moved_length}
 use Rattle.run_laws.proofs.LocalWorldChanges.{moved_other}
-use Rattle.run_laws.proofs.FaultlessEventConditions.{FinishesInTime}
+use Rattle.run_laws.proofs.FaultlessEventConditions.{FaultlessFinish}
 
 -- ---- what a node is after a step
 -- more steps are to come, the round is held, or it is at an end
@@ -92,21 +92,21 @@ module _ (g : Gamma) (plan : Plan) (n m : NodeState) (time since step : ℕ) (sk
     (count : m.count ≡ n.count)
     (next_step_due : time ≤ step_alarm plan n (step + 1) + g.eps - 1)
     (next_round_due : time < start_alarm plan n + g.eps) where
-  phase_in_time : (p : Phase) → Ends plan step p → IsInTime time (phase_last g plan m time p)
+  phase_in_time : (p : Phase) → Ends plan step p → KeepsDeadline time (phase_last g plan m time p)
   phase_in_time p (goes_on is more) =
       let same : step_alarm plan m (step + 1) ≡ step_alarm plan n (step + 1) =
       ap (λ k. alarm plan.period (k - 1) + (step + 1) * plan.step_period) count in
       let in_time : time ≤ last_before (step_alarm plan m (step + 1)) g.eps = omega arith in
-      subst (λ q. IsInTime time (phase_last g plan m time q)) (sym is) in_time
-  phase_in_time p (holds is last) = subst (λ q. IsInTime time (phase_last g plan m time q)) (sym is) tt
+      subst (λ q. KeepsDeadline time (phase_last g plan m time q)) (sym is) in_time
+  phase_in_time p (holds is last) = subst (λ q. KeepsDeadline time (phase_last g plan m time q)) (sym is) tt
   phase_in_time p (waits_next is last) =
       let same : start_alarm plan m ≡ start_alarm plan n = ap (alarm plan.period) count in
       let in_time : time ≤ last_before (start_alarm plan m) g.eps = omega arith in
-      subst (λ q. IsInTime time (phase_last g plan m time q)) (sym is) in_time
-  phase_in_time p (is_done is last) = subst (λ q. IsInTime time (phase_last g plan m time q)) (sym is) tt
+      subst (λ q. KeepsDeadline time (phase_last g plan m time q)) (sym is) in_time
+  phase_in_time p (is_done is last) = subst (λ q. KeepsDeadline time (phase_last g plan m time q)) (sym is) tt
 
 module _ (run : Run) (w : World) (rules : IsRunOf run) (keeps : KeepsTime run w) (node : NodeNo)
-    (fine : FinishesInTime run w node) where
+    (fine : FaultlessFinish run w node) where
   abbrev pub here : NodeState
   here = node_at w.bus node.0
 
@@ -147,7 +147,7 @@ module _ (run : Run) (w : World) (rules : IsRunOf run) (keeps : KeepsTime run w)
     same_alarm : (k : ℕ) → step_alarm the_plan ended k ≡ step_alarm the_plan here k
     same_alarm k = ap (λ c. alarm the_plan.period (c - 1) + k * the_plan.step_period) counts
 
-    same_release : release_alarm the_plan ended ≡ release_alarm the_plan here
+    same_release : release_reading the_plan ended ≡ release_reading the_plan here
     same_release = ap (λ c. alarm the_plan.period (c - 1) + the_plan.release_offset) counts
 
     abbrev last_times : Phase → Option ℕ
@@ -158,8 +158,8 @@ module _ (run : Run) (w : World) (rules : IsRunOf run) (keeps : KeepsTime run w)
     last_running : w.time ≤ since_at w node.0 + run.design.gamma.alpha_max
     last_running =
         let before = stands_at run w node.0 keeps fine.within in
-        let in_time : IsInTime w.time (last_times (Running step)) =
-        subst (λ p. IsInTime w.time (last_times p)) runs before.in_time in
+        let in_time : KeepsDeadline w.time (last_times (Running step)) =
+        subst (λ p. KeepsDeadline w.time (last_times p)) runs before.in_time in
         left_in_time w.time (since_at w node.0 + run.design.gamma.alpha_max)
         (send_last run.design.gamma the_plan here (ready_at w node.0)) in_time
 
@@ -178,7 +178,7 @@ module _ (run : Run) (w : World) (rules : IsRunOf run) (keeps : KeepsTime run w)
         → IsReadySince run.design.gamma (step_alarm the_plan here (the_plan.sent_steps - 1)) w.time
         (if b then w.time else ready_at w node.0)
         × (w.time ≤ max (if b then w.time else ready_at w node.0)
-        (release_alarm the_plan here + run.design.gamma.eps - 1))
+        (release_reading the_plan here + run.design.gamma.eps - 1))
     ready_by true is may =
         let g = run.design.gamma in
         let before = stands_at run w node.0 keeps fine.within in
@@ -194,7 +194,7 @@ module _ (run : Run) (w : World) (rules : IsRunOf run) (keeps : KeepsTime run w)
         let before = stands_at run w node.0 keeps fine.within in
         let might = may_before may is in (
           before.keeps.unsent might,
-          send_in_time w.time (max (ready_at w node.0) (last_before (release_alarm the_plan here) g.eps))
+          send_in_time w.time (max (ready_at w node.0) (last_before (release_reading the_plan here) g.eps))
               (phase_last g the_plan here (since_at w node.0) here.phase)
               (may_send the_plan here) might before.in_time,
         )
@@ -220,7 +220,7 @@ module _ (run : Run) (w : World) (rules : IsRunOf run) (keeps : KeepsTime run w)
               (send_last g the_plan ended ready_after)
               (phase_in_time g the_plan here ended w.time (since_at w node.0) step fit.skew counts next_due round_due
               ended.phase ends)
-              (sends_in_time w.time (max ready_after (last_before (release_alarm the_plan ended) g.eps))
+              (sends_in_time w.time (max ready_after (last_before (release_reading the_plan ended) g.eps))
               (may_send the_plan ended)
               (λ may. subst (λ r. w.time ≤ max ready_after (r + g.eps - 1)) (sym same_release)
               (ready_by last_sent refl may).1));

@@ -39,7 +39,7 @@ use Rattle.pals_model.specs.RoundTexts.{composed_lines}
 use Rattle.pals_model.specs.DesignRules.{IsDesign, IsComponent}
 use Rattle.pals_model.proofs.FirstMatches.{at_element}
 use Rattle.pals_model.proofs.WordBytes.{IsWithout, all_pass, word_without, path_without, other_bytes, NoSpace, no_space}
-use Rattle.run_laws.specs.LineForms.{Form, is, is_there, spelled, round_in, words_of, with_step, arrive_line}
+use Rattle.run_laws.specs.LineForms.{LineForm, is, is_there, spelled, round_in, words_of, with_step, arrive_line}
 use Rattle.run_laws.specs.LineForms.{start_line, step_line, finish_line, send_line, drop_line, repeat_line, early_line}
 use Rattle.run_laws.specs.LineForms.{missed_line, stop_line, form_of_words, form_of, named}
 use Rattle.run_laws.specs.proof.ReportLines.{ReportsHaveNoForms}
@@ -117,20 +117,20 @@ chunk_is_no_round p =
     ap (λ b. cond (b && nat_le n ROUNDS) (Some n) None) other
 
 -- ---- what has no form
-none_if : (b : Bool) (x y : Option Form) → x ≡ None → y ≡ None → cond b x y ≡ None
+none_if : (b : Bool) (x y : Option LineForm) → x ≡ None → y ≡ None → cond b x y ≡ None
 none_if true x y left right = left
 none_if false x y left right = right
 
 abbrev AreBad : List (List ℕ) → Type 0
 AreBad words = All (λ word. round_in word ≡ None) words
 
-named_none : (name : List ℕ) (rest : List (List ℕ)) (go : List ℕ → ℕ → List (List ℕ) → Option Form) → AreBad rest
+named_none : (name : List ℕ) (rest : List (List ℕ)) (go : List ℕ → ℕ → List (List ℕ) → Option LineForm) → AreBad rest
     → named (name ∷ rest) go ≡ None
 named_none name [] go bad = refl
 named_none name (word ∷ rest) go bad =
     ap (option_and_then (λ r. go name r rest)) (All-head (λ w. round_in w ≡ None) word rest bad)
 
-behind_none : (rest : List (List ℕ)) (go : List ℕ → ℕ → List (List ℕ) → Option Form) → AreBad rest
+behind_none : (rest : List (List ℕ)) (go : List ℕ → ℕ → List (List ℕ) → Option LineForm) → AreBad rest
     → named rest go ≡ None
 behind_none [] go bad = refl
 behind_none (word ∷ rest) go bad = named_none word rest go (All-tail (λ w. round_in w ≡ None) word rest bad)
@@ -155,7 +155,7 @@ words_none first second rest bad =
     let by_start = none_if (is first (codes "start")) (start_line words) _ (named_none second rest _ bad) by_step in
     none_if (is first (codes "arrive")) (arrive_line words) _ (named_none second rest _ bad) by_start
 
-both_none : (b : Bool) → cond {A = Option Form} b None None ≡ None
+both_none : (b : Bool) → cond {A = Option LineForm} b None None ≡ None
 both_none true = refl
 both_none false = refl
 

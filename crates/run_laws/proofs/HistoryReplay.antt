@@ -17,7 +17,7 @@ use Rattle.pals_runs.specs.declared.journal.JournalEntry.TheVariants as entry
 use Rattle.bus_machine.specs.Plans.{plan_of, no_link, link_at}
 use Rattle.bus_machine.specs.Nodes.{round_of}
 use Rattle.bus_machine.specs.NodeEvents.{next_step}
-use Rattle.bus_machine.specs.EarliestReadings.{start_alarm, step_alarm, release_alarm}
+use Rattle.bus_machine.specs.EarliestReadings.{start_alarm, step_alarm, release_reading}
 use Rattle.bus_machine.specs.States.{BusState, node_at}
 use Rattle.bus_machine.specs.Runs.{Run}
 use Rattle.bus_machine.specs.MissedStarts.{missing_link}
@@ -157,7 +157,7 @@ event_shows run front s (Step node reading) in_time =
 event_shows run front s (Finish node) in_time = one_shows run (entry.Finish node (round_of (node_at s node.0))) tt
 event_shows run front s (Send node reading) in_time =
     one_shows run (entry.Send node (round_of (node_at s node.0)) reading)
-    (read_shows run front node.0 (release_alarm (plan_of run.design node.0) (node_at s node.0)) reading in_time)
+    (read_shows run front node.0 (release_reading (plan_of run.design node.0) (node_at s node.0)) reading in_time)
 event_shows run front s (Arrive link round reading) in_time =
     arrive_shows run front link round reading (arrival run s link round) in_time.read
 event_shows run front s (Drop link round) in_time = absurd in_time

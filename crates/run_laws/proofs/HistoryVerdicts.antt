@@ -30,7 +30,7 @@ use Rattle.pals_runs.specs.JournalLines.{entry_line}
 use Rattle.bus_machine.specs.Plans.{plan_of, link_at}
 use Rattle.bus_machine.specs.Nodes.{NodeState, round_of}
 use Rattle.bus_machine.specs.NodeEvents.{is_waiting, next_step}
-use Rattle.bus_machine.specs.EarliestReadings.{start_alarm, step_alarm, release_alarm}
+use Rattle.bus_machine.specs.EarliestReadings.{start_alarm, step_alarm, release_reading}
 use Rattle.bus_machine.specs.States.{BusState, no_node, node_at, finished_by_all}
 use Rattle.bus_machine.specs.Runs.{Run}
 use Rattle.bus_machine.specs.MissedStarts.{missing_link}
@@ -276,7 +276,7 @@ finish_passes run front s node rules may going all =
 -- ---- Send
 send_passes : (run : Run) (front : List JournalEntry) (s : BusState) (node : NodeNo) (reading : Option ℕ)
     → IsDesign run.design → IsRead run front node.0 reading
-    (release_alarm (plan_of run.design node.0) (node_at s node.0)) → is_allowed run s (Send node reading) ≡ true
+    (release_reading (plan_of run.design node.0) (node_at s node.0)) → is_allowed run s (Send node reading) ≡ true
     → s.stop ≡ None
     → All (IsEntryIn run.design) (entries run s (Send node reading))
     → Passes run front s (after run s (Send node reading)) (entries run s (Send node reading))
@@ -284,7 +284,7 @@ send_passes run front s node reading rules read may going all =
     let n = node_at s node.0 in
     let x = entry.Send node (round_of n) reading in
     let of = All-head (IsEntryIn run.design) x [] all in
-    let least = release_alarm (plan_of run.design node.0) n in
+    let least = release_reading (plan_of run.design node.0) n in
     one_line run front s x (Send node reading) rules of refl refl (has_one run front node.0 least reading read)
     (λ readings are.
     none_of (is_in_order run s x) (falls readings (timed run.design x)) (waits run s x)

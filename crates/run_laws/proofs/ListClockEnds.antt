@@ -4,7 +4,7 @@ use Rattle.std.proofs.Common.{◌≡◌, inl, inr, ℕ, suc, ◌+◌, ◌-◌, �
 use Rattle.std.proofs.Common.{Option, Some, None, refl, sym, ap, ◌∙◌, subst, arith, length-append}
 use Rattle.std.specs.Prelude.{◌≢◌, IfSome}
 use Rattle.std.proofs.lemmas.Option.{same_Some, slice_get_within, slice_get-get_or}
-use Rattle.pals_base.specs.ClockPicks.{reached, picked, picks}
+use Rattle.pals_base.specs.ClockPicks.{remaining_from, picked, picks}
 use Rattle.pals_clock.specs.ClockStates.{ClockState}
 use Rattle.pals_model.specs.declared.design.Link.{Link}
 use Rattle.pals_model.specs.Delays.{delay_of}
@@ -248,7 +248,7 @@ picked_most (r ∷ rs) answers n most = omega arith
 picks_most : (readings ts : List ℕ) → length (picks readings ts) ≤ length ts
 picks_most readings [] = omega arith
 picks_most readings (t ∷ ts) =
-    picked_most (reached readings t) (picks (reached readings t) ts) (length ts) (picks_most (reached readings t) ts)
+    picked_most (remaining_from readings t) (picks (remaining_from readings t) ts) (length ts) (picks_most (remaining_from readings t) ts)
 
 all_done : (plan : Plan) (rounds done : ℕ) (n : NodeState) → IsPlan plan → Follows plan done n → n.phase ≡ Done
     → n.count ≡ rounds → done ≡ rounds * (plan.rate + 1)

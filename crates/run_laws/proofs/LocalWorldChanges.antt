@@ -13,7 +13,7 @@ use Rattle.bus_machine.specs.Runs.{Run}
 use Rattle.bus_machine.specs.Agreement.{Agrees}
 use Rattle.run_laws.specs.Worlds.{World, reading_at, since_at, ready_at, sendings, moved}
 use Rattle.bus_machine.proofs.QuantitiesAndSentRounds.{keeps_at}
-use Rattle.run_laws.specs.proof.WorldInvariant.{IsInTime, IsOnce, HasMoments, KeepsLink, KeepsTime}
+use Rattle.run_laws.specs.proof.WorldInvariant.{KeepsDeadline, IsOnce, HasMoments, KeepsLink, KeepsTime}
 use Rattle.run_laws.proofs.WorldNodeTiming.{Stands, StandsAt, stands_at, deadline_is}
 
 -- ---- moments
@@ -104,7 +104,7 @@ module _ (run : Run) (w : World) (bus : BusState) (since ready : List ℕ) (sent
         agrees = agrees;
         moments = moments;
         clocks = λ k within. (all k within).clock;
-        in_time = λ k within. subst (IsInTime w.time) (sym (deadline_is run v k)) (all k within).in_time;
+        in_time = λ k within. subst (KeepsDeadline w.time) (sym (deadline_is run v k)) (all k within).in_time;
         nodes = λ k within. (all k within).keeps;
         sends = λ k within. (all k within).sends;
         links = links;

@@ -163,26 +163,26 @@ event_aims run clocks s (Drop link round) k rules agree keeps may done = absurd 
 event_aims run clocks s (Repeat link round) k rules agree keeps may done = absurd keeps
 
 -- ---- no reading is later than a target
-abbrev pub HourIn : Run → Clocks → List JournalEntry → BusState → Type 0
-HourIn run Meet journal s =
+abbrev pub BelowTargets : Run → Clocks → List JournalEntry → BusState → Type 0
+BelowTargets run Meet journal s =
     (k j least : ℕ) → j < length run.design.components → target_of run s j ≡ Some least
     → latest run.design k journal ≤ least
-HourIn run (Lists clocks) journal s = Unit {0}
+BelowTargets run (Lists clocks) journal s = Unit {0}
 
-opens_hour : (run : Run) (clocks : Clocks) → HourIn run clocks [] (opening run)
-opens_hour run Meet = λ k j least within is. omega arith
-opens_hour run (Lists clocks) = tt
+opens_below : (run : Run) (clocks : Clocks) → BelowTargets run clocks [] (opening run)
+opens_below run Meet = λ k j least within is. omega arith
+opens_below run (Lists clocks) = tt
 
-told_hour : (run : Run) (s : BusState) (e : BusEvent) (journal : List JournalEntry) → Told run Meet s e
-    → ((k : ℕ) → Rises (target_of run s k) (target_of run (after run s e) k)) → HourIn run Meet journal s
-    → HourIn run Meet (journal ++ entries run s e) (after run s e)
-told_hour run s e journal (none_told tells) rises before = λ k j least within is.
+told_below : (run : Run) (s : BusState) (e : BusEvent) (journal : List JournalEntry) → Told run Meet s e
+    → ((k : ℕ) → Rises (target_of run s k) (target_of run (after run s e) k)) → BelowTargets run Meet journal s
+    → BelowTargets run Meet (journal ++ entries run s e) (after run s e)
+told_below run s e journal (none_told tells) rises before = λ k j least within is.
     let old = rises j least is in
     let most = before k j old.0 within old.1 in
     let same = latest_after run.design k journal (entries run s e) ∙ tells k (latest run.design k journal) in
     let greater_rate = old.2 in
     omega arith
-told_hour run s e journal (is_told i at reads tells) rises before = λ k j least within is.
+told_below run s e journal (is_told i at reads tells) rises before = λ k j least within is.
     let old = rises j least is in
     let most = before k j old.0 within old.1 in
     let hour : at ≤ old.0 = reads.shows.1 j old.0 within old.1 in
@@ -197,23 +197,23 @@ told_hour run s e journal (is_told i at reads tells) rises before = λ k j least
     both true x y z p q = p
     both false x y z p q = q
 
-event_hour : (run : Run) (clocks : Clocks) (s : BusState) (e : BusEvent) (journal : List JournalEntry) → IsRunOf run
+event_below : (run : Run) (clocks : Clocks) (s : BusState) (e : BusEvent) (journal : List JournalEntry) → IsRunOf run
     → Agrees run s → KeepsTo run clocks s e → is_allowed run s e ≡ true
     → ((j : ℕ) → j < length run.design.components → HasDone run j (node_at s j))
-    → HourIn run clocks journal s → HourIn run clocks (journal ++ entries run s e) (after run s e)
-event_hour run Meet s e journal rules agree keeps may done before =
-    told_hour run s e journal (event_tells run Meet s e keeps)
+    → BelowTargets run clocks journal s → BelowTargets run clocks (journal ++ entries run s e) (after run s e)
+event_below run Meet s e journal rules agree keeps may done before =
+    told_below run s e journal (event_tells run Meet s e keeps)
     (λ k. event_aims run Meet s e k rules agree keeps may done) before
-event_hour run (Lists clocks) s e journal rules agree keeps may done before = tt
+event_below run (Lists clocks) s e journal rules agree keeps may done before = tt
 
-pub hour_in : (run : Run) (clocks : Clocks) (journal : List JournalEntry) (s : BusState) → IsRunOf run
-    → Runs run clocks journal s → HourIn run clocks journal s
-hour_in run clocks journal s rules (opens clocks' begin) = opens_hour run clocks
-hour_in run clocks journal s rules (picks_for {later = after'} j runs picks) = tt
-hour_in run clocks journal s rules (goes_on {journal = before} {s = t} e runs keeps step) =
-    subst (HourIn run clocks (before ++ entries run t e)) (sym step.state)
-    (event_hour run clocks t e before rules (runs_agree run clocks before t rules runs) keeps step.allowed
-    (λ j within. follows_in run clocks before t j rules runs within) (hour_in run clocks before t rules runs))
+pub below_in : (run : Run) (clocks : Clocks) (journal : List JournalEntry) (s : BusState) → IsRunOf run
+    → Runs run clocks journal s → BelowTargets run clocks journal s
+below_in run clocks journal s rules (opens clocks' begin) = opens_below run clocks
+below_in run clocks journal s rules (picks_for {later = after'} j runs picks) = tt
+below_in run clocks journal s rules (goes_on {journal = before} {s = t} e runs keeps step) =
+    subst (BelowTargets run clocks (before ++ entries run t e)) (sym step.state)
+    (event_below run clocks t e before rules (runs_agree run clocks before t rules runs) keeps step.allowed
+    (λ j within. follows_in run clocks before t j rules runs within) (below_in run clocks before t rules runs))
 
 -- ---- so no reading falls
 pub next_acts : (plan : Plan) (n : NodeState) (p : Phase) (action : NodeAction) → next_in plan n p ≡ Some action
@@ -230,5 +230,5 @@ no_fall run rules (Lists clocks) journal s runs = lists_no_fall run clocks journ
 no_fall run rules Meet journal s runs = λ j at reads.
     let n = node_at s j in
     let plan = plan_of run.design j in
-    hour_in run Meet journal s rules runs j j at reads.within
+    below_in run Meet journal s rules runs j j at reads.within
     (ap (option_map (target plan)) (next_acts plan n n.phase reads.action reads.next) ∙ ap Some (sym reads.shows.0))

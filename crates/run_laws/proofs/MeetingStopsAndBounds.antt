@@ -24,7 +24,7 @@ use Rattle.run_laws.specs.JournalReadings.{sends}
 use Rattle.pals_clock.specs.declared.clock.Clocks.TheVariants.{Meet}
 use Rattle.run_laws.specs.Runs.{Runs}
 use Rattle.run_laws.specs.proof.LinkTiming.{due_of}
-use Rattle.run_laws.specs.proof.ReadingsAndStops.{StopsAt, CauseFits, StopFits}
+use Rattle.run_laws.specs.proof.ReadingsAndStops.{StopsAtStart, CauseFits, StopFits}
 use Rattle.run_laws.specs.Meetings.{IsLate, MeetingStop}
 use Rattle.run_laws.specs.StopBounds.{DelaysFit}
 use Rattle.run_laws.specs.proof.MeetingLaws.{MeetingsStop, MeetingsEnd, NoMeetingStops}
@@ -54,7 +54,7 @@ target_within run number link rules is =
 -- ---- with a meeting
 meeting_cause : (run : Run) (journal : List JournalEntry) (s : BusState) (number round : ℕ) (reading : Option ℕ)
     (cause : Cause) → IsRunOf run → Runs run Meet journal s
-    → (x : StopsAt run Meet s number reading) → (node_at s x.link.target.0).count ≡ round + 1
+    → (x : StopsAtStart run Meet s number reading) → (node_at s x.link.target.0).count ≡ round + 1
     → CauseFits run Meet s x.link.source.0
     (due_of (delay_of run.delays number) (sends x.link.source.0 journal) round) x.at cause
     → IsLate run number round × (cause ≡ InTransit) × (reading ≡ Some (alarm run.design.period (round + 1)))
@@ -86,7 +86,7 @@ meeting_cause run journal s number round reading InTransit rules runs x next fit
 
 meeting_early : (run : Run) (journal : List JournalEntry) (s : BusState) (number round : ℕ) (reading : Option ℕ)
     → IsRunOf run → Runs run Meet journal s
-    → (x : StopsAt run Meet s number reading) → (node_at s x.link.target.0).count ≤ round → (d : ℕ)
+    → (x : StopsAtStart run Meet s number reading) → (node_at s x.link.target.0).count ≤ round → (d : ℕ)
     → due_of (delay_of run.delays number) (sends x.link.source.0 journal) round ≡ Some d → d ≤ x.at
     → ((plan_of run.design (link_at run.design number).source.0).release_offset + delay_of run.delays number round ≡ 0)
     × (reading ≡ Some (alarm run.design.period round))

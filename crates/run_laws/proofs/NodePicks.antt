@@ -9,7 +9,7 @@ use Rattle.std.proofs.lemmas.Option.{slice_get-get_or}
 use Rattle.pals_base.specs.declared.values.NodeNo.{NodeNo}
 use Rattle.pals_base.specs.declared.period_bound.Gamma.{Gamma}
 use Rattle.pals_base.specs.declared.values.LinkNo.{LinkNo}
-use Rattle.pals_base.specs.ClockPicks.{reached}
+use Rattle.pals_base.specs.ClockPicks.{remaining_from}
 use Rattle.pals_base.specs.PeriodBound.{sent_steps}
 use Rattle.pals_clock.specs.ClockStates.{ClockState, standing_at}
 use Rattle.pals_model.specs.declared.design.Component.{Component}
@@ -45,7 +45,7 @@ use Rattle.run_laws.specs.JournalReadings.{listed, if_at, act_in, acts}
 use Rattle.run_laws.specs.NodeActions.{upcoming, Follows}
 use Rattle.pals_clock.specs.declared.clock.Clocks.{Clocks}
 use Rattle.pals_clock.specs.declared.clock.Clocks.TheVariants.{Meet, Lists}
-use Rattle.run_laws.specs.Runs.{no_clock, clock_at, Does, Begins, Takes, KeepsTo, Picks, AreFresh, Begin, Runs, opens}
+use Rattle.run_laws.specs.Runs.{no_clock, clock_at, Does, Begins, Takes, KeepsTo, Picks, AreFresh, HaveFreshClocks, Runs, opens}
 use Rattle.run_laws.specs.Runs.{picks_for, goes_on}
 use Rattle.run_laws.specs.proof.ListPicks.{IsPicked}
 use Rattle.run_laws.specs.ListPicks.{picks_of, IsPrefix}
@@ -326,7 +326,7 @@ picks_at : (run : Run) (clocks later : List ClockState) (s : BusState) (j k : �
 picks_at run clocks later s j k shown rules agree many picks before =
     let within = picks.within in
     let t = target (plan_of run.design j) picks.action in
-    let new = standing_at (clock_at clocks j) (reached (clock_at clocks j).left t) in
+    let new = standing_at (clock_at clocks j) (remaining_from (clock_at clocks j).left t) in
     subst (λ cs. Has run cs k (node_at s k) shown) (sym picks.clocks_are) (elim (cases_eq k j) [
       | inl same ↦
           let here : Has run clocks j (node_at s j) shown =
@@ -347,7 +347,7 @@ abbrev ManyClocks : Run → Clocks → Type 0
 ManyClocks run Meet = Unit {0}
 ManyClocks run (Lists clocks) = length clocks ≡ length run.design.components
 
-begins_many : (run : Run) (clocks : Clocks) → Begin run clocks → ManyClocks run clocks
+begins_many : (run : Run) (clocks : Clocks) → HaveFreshClocks run clocks → ManyClocks run clocks
 begins_many run Meet begin = tt
 begins_many run (Lists clocks) begin = begin.count
 
@@ -363,7 +363,7 @@ abbrev HasIn : Run → Clocks → ℕ → BusState → List JournalEntry → Typ
 HasIn run Meet node s journal = Unit {0}
 HasIn run (Lists clocks) node s journal = Has run clocks node (node_at s node) (acts node journal)
 
-begins_picked : (run : Run) (clocks : Clocks) (node : ℕ) → Begin run clocks → node < length run.design.components
+begins_picked : (run : Run) (clocks : Clocks) (node : ℕ) → HaveFreshClocks run clocks → node < length run.design.components
     → HasIn run clocks node (opening run) []
 begins_picked run Meet node begin within = tt
 begins_picked run (Lists clocks) node begin within = opening_picks run clocks node begin within

@@ -21,7 +21,7 @@ use Rattle.bus_machine.specs.proof.AgreementLaws.{IsRunOf}
 use Rattle.run_laws.specs.Deadlines.{last_before}
 use Rattle.run_laws.specs.Worlds.{opening_world, reading_at, since_at, ready_at}
 use Rattle.bus_machine.proofs.MessageAndRunAgreement.{opening_agrees, node_opens}
-use Rattle.run_laws.specs.proof.WorldInvariant.{IsInTime, IsOnce, copies, waits, taken, one_if, KeepsLink}
+use Rattle.run_laws.specs.proof.WorldInvariant.{KeepsDeadline, IsOnce, copies, waits, taken, one_if, KeepsLink}
 use Rattle.run_laws.specs.proof.WorldLaws.{OpeningKeepsTime}
 use Rattle.run_laws.proofs.WorldNodeTiming.{Stands, StandsAt, deadline_is, both_in_time, send_last}
 use Rattle.run_laws.proofs.WorldLinkTiming.{rule_of, one_of_false}
@@ -114,7 +114,7 @@ opening_keeps_time run rules =
         sent_at = length-map cs (λ (_ : Component). no_moments);
       };
       clocks = λ node within. (stands node within).clock;
-      in_time = λ node within. subst (IsInTime 0) (sym (deadline_is run w node)) (stands node within).in_time;
+      in_time = λ node within. subst (KeepsDeadline 0) (sym (deadline_is run w node)) (stands node within).in_time;
       nodes = λ node within. (stands node within).keeps;
       sends = λ node within. (stands node within).sends;
       links = opening_link run rules;

@@ -19,12 +19,12 @@ use Rattle.pals_runs.specs.declared.journal.Cause.{Cause}
 use Rattle.pals_runs.specs.declared.journal.Stop.TheVariants as stop
 use Rattle.pals_runs.specs.declared.journal.JournalEntry.{JournalEntry}
 use Rattle.pals_runs.specs.declared.journal.JournalEntry.TheVariants as entry
-use Rattle.run_laws.specs.LineForms.{Form, ArriveLine, StartLine, StepLine, FinishLine, SendLine, DropLine, RepeatLine}
+use Rattle.run_laws.specs.LineForms.{LineForm, ArriveLine, StartLine, StepLine, FinishLine, SendLine, DropLine, RepeatLine}
 use Rattle.run_laws.specs.LineForms.{EarlyLine, MissedLine, is, is_there, spelled, number_up_to, round_in, reading_in}
 use Rattle.run_laws.specs.LineForms.{arrived_in, cause_in, named, at_end, read, with_result, with_cause, with_step}
 use Rattle.run_laws.specs.LineForms.{arrive_line, start_line, step_line, finish_line, send_line, drop_line, repeat_line}
 use Rattle.run_laws.specs.LineForms.{early_line, missed_line, stop_line, form_of_words, words_of, form_of}
-use Rattle.run_laws.specs.EntriesInLines.{of_node, of_link, entry_of, told}
+use Rattle.run_laws.specs.EntriesInLines.{of_node, of_link, entry_of, entry_of_line}
 use Rattle.run_laws.specs.proof.EntryLines.{ToldAreIn}
 use Rattle.run_laws.specs.EntriesOfDesigns.{IsReading, IsEntryIn}
 
@@ -50,7 +50,7 @@ reading_fits word reading got =
     reading_by (is word (codes "_")) (number_up_to READING word) reading (λ n is_n. number_fits READING word n is_n) got
 
 -- ---- forms with numbers within their limits
-abbrev Fits : Form → Type 0
+abbrev Fits : LineForm → Type 0
 Fits (ArriveLine name round reading result) = (round ≤ ROUNDS) × IsReading reading
 Fits (StartLine name round reading) = (round ≤ ROUNDS) × IsReading reading
 Fits (StepLine name round step reading) = (round ≤ ROUNDS) × IsReading reading × (step ≤ ROUNDS)
@@ -62,19 +62,19 @@ Fits (EarlyLine name round reading) = (round ≤ ROUNDS) × IsReading reading
 Fits (MissedLine name round reading cause) = (round ≤ ROUNDS) × IsReading reading
 
 -- what is read, if anything is, is such a form
-abbrev AllFit : Option Form → Type 0
+abbrev AllFit : Option LineForm → Type 0
 AllFit o = IfSome o Fits
 
-then_fit : {A : Type 0} (o : Option A) (go : A → Option Form) → ((a : A) → o ≡ Some a → AllFit (go a))
+then_fit : {A : Type 0} (o : Option A) (go : A → Option LineForm) → ((a : A) → o ≡ Some a → AllFit (go a))
     → AllFit (option_and_then go o)
 then_fit None go fits = tt
 then_fit (Some a) go fits = fits a refl
 
-if_fit : (b : Bool) (x y : Option Form) → AllFit x → AllFit y → AllFit (cond b x y)
+if_fit : (b : Bool) (x y : Option LineForm) → AllFit x → AllFit y → AllFit (cond b x y)
 if_fit true x y here there = here
 if_fit false x y here there = there
 
-named_fit : (words : List (List ℕ)) (go : List ℕ → ℕ → List (List ℕ) → Option Form)
+named_fit : (words : List (List ℕ)) (go : List ℕ → ℕ → List (List ℕ) → Option LineForm)
     → ((name : List ℕ) (round : ℕ) (rest : List (List ℕ)) → round ≤ ROUNDS → AllFit (go name round rest))
     → AllFit (named words go)
 named_fit [] go fits = tt
@@ -82,7 +82,7 @@ named_fit (name ∷ []) go fits = tt
 named_fit (name ∷ word ∷ rest) go fits =
     then_fit (round_in word) (λ r. go name r rest) (λ r got. fits name r rest (number_fits ROUNDS word r got))
 
-read_fit : (words : List (List ℕ)) (go : Option ℕ → List (List ℕ) → Option Form)
+read_fit : (words : List (List ℕ)) (go : Option ℕ → List (List ℕ) → Option LineForm)
     → ((reading : Option ℕ) (rest : List (List ℕ)) → IsReading reading → AllFit (go reading rest))
     → AllFit (read words go)
 read_fit [] go fits = tt
@@ -90,25 +90,25 @@ read_fit (word ∷ rest) go fits =
     then_fit (reading_in word) (λ reading. go reading rest)
     (λ reading got. fits reading rest (reading_fits word reading got))
 
-end_fit : (form : Form) (words : List (List ℕ)) → Fits form → AllFit (at_end form words)
+end_fit : (form : LineForm) (words : List (List ℕ)) → Fits form → AllFit (at_end form words)
 end_fit form [] fits = fits
 end_fit form (word ∷ rest) fits = tt
 
-result_fit : (words : List (List ℕ)) (go : Arrived → Form) → ((result : Arrived) → Fits (go result))
+result_fit : (words : List (List ℕ)) (go : Arrived → LineForm) → ((result : Arrived) → Fits (go result))
     → AllFit (with_result words go)
 result_fit [] go fits = tt
 result_fit (word ∷ rest) go fits =
     then_fit (arrived_in word) (λ result. at_end (go result) rest)
     (λ result got. end_fit (go result) rest (fits result))
 
-cause_fit : (words : List (List ℕ)) (go : Cause → Form) → ((cause : Cause) → Fits (go cause))
+cause_fit : (words : List (List ℕ)) (go : Cause → LineForm) → ((cause : Cause) → Fits (go cause))
     → AllFit (with_cause words go)
 cause_fit [] go fits = tt
 cause_fit (word ∷ rest) go fits =
     then_fit (cause_in word) (λ cause. at_end (go cause) rest) (λ cause got. end_fit (go cause) rest (fits cause))
 
 -- a name, a round and a reading
-timed_fit : (words : List (List ℕ)) (go : List ℕ → ℕ → Option ℕ → Form)
+timed_fit : (words : List (List ℕ)) (go : List ℕ → ℕ → Option ℕ → LineForm)
     → ((name : List ℕ) (round : ℕ) (reading : Option ℕ) → round ≤ ROUNDS → IsReading reading
     → Fits (go name round reading))
     → AllFit (named words (λ name round more. read more (λ reading left. at_end (go name round reading) left)))
@@ -118,7 +118,7 @@ timed_fit words go fits =
     (λ reading left at. end_fit (go name round reading) left (fits name round reading few at)))
 
 -- a name and a round alone
-round_fit : (words : List (List ℕ)) (go : List ℕ → ℕ → Form)
+round_fit : (words : List (List ℕ)) (go : List ℕ → ℕ → LineForm)
     → ((name : List ℕ) (round : ℕ) → round ≤ ROUNDS → Fits (go name round))
     → AllFit (named words (λ name round left. at_end (go name round) left))
 round_fit words go fits =
@@ -215,7 +215,7 @@ link_told design name go e fits got =
     (λ n found. fits n (link_within design name n found)) got
 
 -- ---- each form
-form_told : (design : DesignParts) (form : Form) (e : JournalEntry) → Fits form → entry_of design form ≡ Some e
+form_told : (design : DesignParts) (form : LineForm) (e : JournalEntry) → Fits form → entry_of design form ≡ Some e
     → IsEntryIn design e
 form_told design (ArriveLine name round reading result) e fits got =
     link_told design name (λ link. entry.Arrive link round reading result) e (λ n within. (within, fits.0, fits.1)) got
@@ -239,7 +239,7 @@ form_told design (MissedLine name round reading cause) e fits got =
     link_told design name (λ link. entry.Stopped (stop.Missed link round reading cause)) e
     (λ n within. (within, fits.0, fits.1)) got
 
-told_from : (design : DesignParts) (o : Option Form) (e : JournalEntry) → AllFit o
+told_from : (design : DesignParts) (o : Option LineForm) (e : JournalEntry) → AllFit o
     → option_and_then (entry_of design) o ≡ Some e → IsEntryIn design e
 told_from design None e fits got = absurd (cc)
 told_from design (Some form) e fits got = form_told design form e fits got
@@ -248,7 +248,7 @@ pub told_are_in : ToldAreIn
 told_are_in design line e got = told_from design (form_of line) e (line_fits line) got
 
 -- for what a call answers
-pub if_told : (design : DesignParts) (line : List ℕ) (o : Option JournalEntry) → o ≡ told design line
+pub if_told : (design : DesignParts) (line : List ℕ) (o : Option JournalEntry) → o ≡ entry_of_line design line
     → IfSome o (IsEntryIn design)
 if_told design line None same = tt
 if_told design line (Some e) same = told_are_in design line e (sym same)

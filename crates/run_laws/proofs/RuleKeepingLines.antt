@@ -16,14 +16,14 @@ use Rattle.bus_machine.specs.States.{BusState, flight_at}
 use Rattle.bus_machine.specs.Runs.{Run}
 use Rattle.run_laws.specs.TraceVerdicts.{Audit, audit_after, line_broken, end_broken, wrong_or, entry_or}
 use Rattle.run_laws.specs.TraceVerdicts.{journal_verdict}
-use Rattle.run_laws.specs.EntriesInLines.{told}
+use Rattle.run_laws.specs.EntriesInLines.{entry_of_line}
 use Rattle.run_laws.specs.TraceRules.{is_due, has_due, is_before}
 
 -- ---- lines that break none
 abbrev pub BreakNone : Run → Audit → List JournalEntry → Type 0
 BreakNone run a [] = Unit {0}
 BreakNone run a (e ∷ es) =
-    (told run.design (entry_line run.design e) ≡ Some e) × (line_broken run a (Some e) ≡ None)
+    (entry_of_line run.design (entry_line run.design e) ≡ Some e) × (line_broken run a (Some e) ≡ None)
     × BreakNone run (audit_after run a e) es
 
 abbrev pub audited : Run → Audit → List JournalEntry → Audit

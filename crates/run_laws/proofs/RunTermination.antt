@@ -7,7 +7,7 @@ use Rattle.std.specs.Option.{option_map, unwrap_or}
 use Rattle.std.proofs.lemmas.Bool.{ltb-false}
 use Rattle.std.proofs.lemmas.Grind.{get_or-set_at}
 use Rattle.std.proofs.lemmas.List.{append-nil}
-use Rattle.pals_base.specs.ClockPicks.{reached}
+use Rattle.pals_base.specs.ClockPicks.{remaining_from}
 use Rattle.pals_clock.specs.ClockStates.{ClockState, standing_at}
 use Rattle.pals_model.specs.DesignRules.{IsLink}
 use Rattle.pals_model.proofs.FirstMatches.{at_element}
@@ -161,15 +161,15 @@ goes_or_over run clocks s node = elim (next_or_not (plan_of run.design node) (no
 
 -- what is left after a target begins with a reading that is no less
 first_by : (goal r at : ℕ) (rs later : List ℕ) (b : Bool) → nat_lt r goal ≡ b
-    → cond b (reached rs goal) (r ∷ rs) ≡ at ∷ later
-    → (reached rs goal ≡ at ∷ later → goal ≤ at) → goal ≤ at
+    → cond b (remaining_from rs goal) (r ∷ rs) ≡ at ∷ later
+    → (remaining_from rs goal ≡ at ∷ later → goal ≤ at) → goal ≤ at
 first_by goal r at rs later true is same rest = rest same
 first_by goal r at rs later false is same rest =
     let here : r ≡ at = cc in
     let most = ltb-false r goal is in
     omega arith
 
-first_left : (left : List ℕ) (goal at : ℕ) (later : List ℕ) → reached left goal ≡ at ∷ later → goal ≤ at
+first_left : (left : List ℕ) (goal at : ℕ) (later : List ℕ) → remaining_from left goal ≡ at ∷ later → goal ≤ at
 first_left [] goal at later is = absurd (cc)
 first_left (r ∷ rs) goal at later is = first_by goal r at rs later (nat_lt r goal) refl is (first_left rs goal at later)
 

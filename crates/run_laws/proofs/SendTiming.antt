@@ -24,7 +24,7 @@ use Rattle.bus_machine.specs.Plans.{plan_of, component_at, link_at}
 use Rattle.bus_machine.specs.Nodes.{NodeState, round_of, finished_steps, at_rest, sent_rounds}
 use Rattle.bus_machine.specs.NodeEvents.{may_send, sent_from, after_send, message_from, slot_at}
 use Rattle.bus_machine.specs.LinkEvents.{is_in_flight, sent_copy}
-use Rattle.bus_machine.specs.EarliestReadings.{start_alarm, step_alarm, release_alarm}
+use Rattle.bus_machine.specs.EarliestReadings.{start_alarm, step_alarm, release_reading}
 use Rattle.bus_machine.specs.States.{BusState, node_at, flight_at}
 use Rattle.bus_machine.specs.Runs.{Run}
 use Rattle.bus_machine.specs.Machine.{flight_after_send}
@@ -37,7 +37,7 @@ use Rattle.bus_machine.proofs.NodeLocalAgreement.{MaySend, may_send_of}
 use Rattle.bus_machine.proofs.AgreementChanges.{node_set, node_stays}
 use Rattle.bus_machine.proofs.NodeEventAgreement.{send_keeps}
 use Rattle.bus_machine.proofs.QuantitiesAndSentRounds.{keeps_at}
-use Rattle.run_laws.specs.proof.WorldInvariant.{IsInTime, RunsSince, IsSentAt, IsOnce, copies, waits, taken, one_if}
+use Rattle.run_laws.specs.proof.WorldInvariant.{KeepsDeadline, RunsSince, IsSentAt, IsOnce, copies, waits, taken, one_if}
 use Rattle.run_laws.specs.proof.WorldInvariant.{KeepsLink, KeepsTime}
 use Rattle.run_laws.proofs.TimeArithmetic.{sent_prompt}
 use Rattle.run_laws.proofs.Lists.{count_more}
@@ -46,7 +46,7 @@ use Rattle.run_laws.proofs.WorldNodeTiming.{send_in_time, phase_last, send_last,
 use Rattle.run_laws.proofs.WorldLinkTiming.{link_is, one_of_true, one_of_false, in_flight_counts, counts_in_flight}
 use Rattle.run_laws.proofs.WorldLinkTiming.{under_way, one_true}
 use Rattle.run_laws.proofs.LocalWorldChanges.{changed, stands_put, keeps_again, moved_here, moved_length, moved_other}
-use Rattle.run_laws.proofs.FaultlessEventConditions.{SendsInTime}
+use Rattle.run_laws.proofs.FaultlessEventConditions.{FaultlessSend}
 use Rattle.run_laws.proofs.NodePicks.{component_is}
 
 -- ---- a round of a link from the node
@@ -112,7 +112,7 @@ runs_before count rounds Holding step is = absurd (rest_runs (nat_eq count round
 runs_before count rounds Done step is = is
 
 module _ (run : Run) (w : World) (rules : IsRunOf run) (keeps : KeepsTime run w) (node : NodeNo)
-    (fine : SendsInTime run w node) where
+    (fine : FaultlessSend run w node) where
   abbrev pub here : NodeState
   here = node_at w.bus node.0
 
@@ -156,17 +156,17 @@ module _ (run : Run) (w : World) (rules : IsRunOf run) (keeps : KeepsTime run w)
       lesser (phase_last run.design.gamma the_plan here (since_at w node.0) p)
       (send_last run.design.gamma the_plan here (ready_at w node.0))
 
-  last_at : (p : Phase) → here.phase ≡ p → IsInTime w.time (last_times p)
-  last_at p is = subst (λ q. IsInTime w.time (last_times q)) is (stands_at run w node.0 keeps fine.within).in_time
+  last_at : (p : Phase) → here.phase ≡ p → KeepsDeadline w.time (last_times p)
+  last_at p is = subst (λ q. KeepsDeadline w.time (last_times q)) is (stands_at run w node.0 keeps fine.within).in_time
 
   rest_in_time : (all : Bool) → w.time < start_alarm the_plan here + run.design.gamma.eps
-      → IsInTime w.time (phase_last run.design.gamma the_plan after w.time (at_rest all))
+      → KeepsDeadline w.time (phase_last run.design.gamma the_plan after w.time (at_rest all))
   rest_in_time true before = tt
   rest_in_time false before = let in_time : w.time ≤ last_before (start_alarm the_plan after) run.design.gamma.eps =
       omega arith in in_time
 
   phase_in_time : (p : Phase) → here.phase ≡ p
-      → IsInTime w.time (phase_last run.design.gamma the_plan after (if is_held p then w.time else since_at w node.0)
+      → KeepsDeadline w.time (phase_last run.design.gamma the_plan after (if is_held p then w.time else since_at w node.0)
       (after_send here.count run.rounds p))
   phase_in_time Waiting is = absurd (none-some may.steps (busy Waiting is))
   phase_in_time (Running step) is =
@@ -189,8 +189,8 @@ module _ (run : Run) (w : World) (rules : IsRunOf run) (keeps : KeepsTime run w)
       let clock = before.clock in
       let due = fine.due in
       let ready = before.keeps.unsent fine.may in
-      let last : w.time ≤ max (ready_at w node.0) (release_alarm the_plan here + g.eps - 1) =
-      send_in_time w.time (max (ready_at w node.0) (last_before (release_alarm the_plan here) g.eps))
+      let last : w.time ≤ max (ready_at w node.0) (release_reading the_plan here + g.eps - 1) =
+      send_in_time w.time (max (ready_at w node.0) (last_before (release_reading the_plan here) g.eps))
       (phase_last g the_plan here (since_at w node.0) here.phase) (may_send the_plan here) fine.may
       before.in_time in
       record {

@@ -29,7 +29,7 @@ use Rattle.pals_runs.specs.JournalLines.{entry_line}
 use Rattle.bus_machine.specs.Plans.{plan_of, no_link, link_at}
 use Rattle.bus_machine.specs.Nodes.{round_of}
 use Rattle.bus_machine.specs.NodeEvents.{is_waiting, next_step}
-use Rattle.bus_machine.specs.EarliestReadings.{start_alarm, step_alarm, release_alarm}
+use Rattle.bus_machine.specs.EarliestReadings.{start_alarm, step_alarm, release_reading}
 use Rattle.bus_machine.specs.States.{BusState, node_at, flight_at}
 use Rattle.bus_machine.specs.Runs.{Run}
 use Rattle.bus_machine.specs.MissedStarts.{missing_link, cause_of}
@@ -215,7 +215,7 @@ send_next run front s readings node round None are of has none = absurd (falseâ‰
 send_next run front s readings node round (Some at) are of has none =
     let e = entry.Send node round (Some at) in
     let n = node_at s node.0 in
-    let least = release_alarm (plan_of run.design node.0) n in
+    let least = release_reading (plan_of run.design node.0) n in
     let kept =
     none_broken (is_in_order run s e) (falls readings (timed run.design e)) (waits run s e)
     (tells_stop run s e (event_of run.design e)) (too_early run s e) none in

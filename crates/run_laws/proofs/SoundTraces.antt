@@ -36,7 +36,7 @@ use Rattle.bus_machine.specs.Machine.{after}
 use Rattle.bus_machine.specs.Replay.{entries}
 use Rattle.run_laws.specs.LineForms.{form_of}
 use Rattle.run_laws.specs.JournalReadings.{last_of, latest}
-use Rattle.run_laws.specs.EntriesInLines.{told}
+use Rattle.run_laws.specs.EntriesInLines.{entry_of_line}
 use Rattle.run_laws.specs.EntryEventsAndReadings.{Timed, timed, has_reading}
 use Rattle.run_laws.specs.TraceRules.{is_line_of, reading_of, broken}
 use Rattle.run_laws.specs.TraceVerdicts.{report_size, row_size, wrong_row, Audit, opening_audit, noted, second_entry}
@@ -288,7 +288,7 @@ Later run rows lines index rounds why =
     → journal_verdict run rows index a lines ≡ Sound rounds why → IsRest run rows front lines rounds why
 
 goes : (run : Run) (rows index : ℕ) (front : List JournalEntry) (a : Audit) (line : List ℕ) (lines : List (List ℕ))
-    (rounds : ℕ) (why : Option Stop) (o : Option JournalEntry) → IsDesign run.design → told run.design line ≡ o
+    (rounds : ℕ) (why : Option Stop) (o : Option JournalEntry) → IsDesign run.design → entry_of_line run.design line ≡ o
     → KeepsUp run front a
     → wrong_or index (line_broken run a o) (journal_verdict run rows (index + 1) (audit_after run a (entry_or o)) lines)
     ≡ Sound rounds why → Later run rows lines (index + 1) rounds why
@@ -321,7 +321,7 @@ journal_means : (run : Run) (rows : ℕ) (lines : List (List ℕ)) (index rounds
     → IsDesign run.design → Later run rows lines index rounds why
 journal_means run rows [] index rounds why rules = λ front a up sound. ends run rows index front a rounds why up sound
 journal_means run rows (line ∷ lines) index rounds why rules = λ front a up sound.
-    goes run rows index front a line lines rounds why (told run.design line) rules refl up sound
+    goes run rows index front a line lines rounds why (entry_of_line run.design line) rules refl up sound
     (journal_means run rows lines (index + 1) rounds why rules)
 
 -- ---- the whole

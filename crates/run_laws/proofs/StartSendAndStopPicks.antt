@@ -7,7 +7,7 @@ use Rattle.std.proofs.lemmas.List.{append-nil, get_or-set_other}
 use Rattle.std.proofs.lemmas.Option.{same_Some}
 use Rattle.pals_base.specs.declared.values.NodeNo.{NodeNo}
 use Rattle.pals_base.specs.declared.values.LinkNo.{LinkNo}
-use Rattle.pals_base.specs.ClockPicks.{reached, picks}
+use Rattle.pals_base.specs.ClockPicks.{remaining_from, picks}
 use Rattle.pals_clock.specs.ClockStates.{ClockState, standing_at}
 use Rattle.pals_model.specs.declared.design.Link.{Link}
 use Rattle.pals_runs.specs.declared.journal.Arrived.{Arrived}
@@ -85,7 +85,7 @@ same_lists run before later s j k many picks' =
     let within = picks'.within in
     let new =
     standing_at (clock_at before j)
-    (reached (clock_at before j).left (target (plan_of run.design j) picks'.action)) in
+    (remaining_from (clock_at before j).left (target (plan_of run.design j) picks'.action)) in
     ap (λ cs. (clock_at cs k).readings) picks'.clocks_are ∙ elim (cases_eq k j) [
       | inl same ↦ ap (λ (c : ClockState). c.readings) (get_or-set_at before j k new no_clock same (omega arith))
           ∙ ap (λ i. (clock_at before i).readings) (sym same)

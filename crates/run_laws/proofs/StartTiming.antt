@@ -47,7 +47,7 @@ use Rattle.run_laws.proofs.WorldNodeTiming.{FitsAt, fits_at, may_is, Stands, sta
 use Rattle.run_laws.proofs.WorldNodeTiming.{late, phase_agrees}
 use Rattle.run_laws.proofs.WorldLinkTiming.{has_come, link_is, one_of_true, one_of_false}
 use Rattle.run_laws.proofs.LocalWorldChanges.{changed, stands_put, keeps_again}
-use Rattle.run_laws.proofs.FaultlessEventConditions.{StartsInTime}
+use Rattle.run_laws.proofs.FaultlessEventConditions.{FaultlessStart}
 
 -- ---- no in port lacks its message
 some_not_none : (slot : Option (List PortValue)) → is_some slot ≡ true → is_none slot ≡ false
@@ -189,7 +189,7 @@ slot_empty run link count (Some tuple) agrees first = let last = agrees.1 in abs
 
 -- ---- the node that starts
 module _ (run : Run) (w : World) (rules : IsRunOf run) (keeps : KeepsTime run w) (node : NodeNo)
-    (fine : StartsInTime run w node) where
+    (fine : FaultlessStart run w node) where
   abbrev pub here : NodeState
   here = node_at w.bus node.0
 

@@ -22,14 +22,14 @@ use Rattle.run_laws.specs.Deadlines.{last_before, lesser}
 use Rattle.run_laws.specs.Worlds.{World, reading_at, since_at, ready_at, sendings, world_after}
 use Rattle.bus_machine.proofs.AgreementChanges.{node_set, node_stays}
 use Rattle.bus_machine.proofs.NodeEventAgreement.{step_keeps}
-use Rattle.run_laws.specs.proof.WorldInvariant.{IsInTime, RunsSince, KeepsTime}
+use Rattle.run_laws.specs.proof.WorldInvariant.{KeepsDeadline, RunsSince, KeepsTime}
 use Rattle.run_laws.proofs.WorldNodeTiming.{fits_at, may_be, may_is, Stands, stands_at, left_in_time, both_in_time}
 use Rattle.run_laws.proofs.WorldNodeTiming.{send_in_time, sends_in_time, phase_last, send_last}
 use Rattle.run_laws.proofs.LocalWorldChanges.{changed, same_links, stands_put, keeps_again}
-use Rattle.run_laws.proofs.FaultlessEventConditions.{StepsInTime}
+use Rattle.run_laws.proofs.FaultlessEventConditions.{FaultlessStep}
 
 module _ (run : Run) (w : World) (rules : IsRunOf run) (keeps : KeepsTime run w) (node : NodeNo)
-    (fine : StepsInTime run w node) where
+    (fine : FaultlessStep run w node) where
   abbrev pub here : NodeState
   here = node_at w.bus node.0
 
@@ -66,8 +66,8 @@ module _ (run : Run) (w : World) (rules : IsRunOf run) (keeps : KeepsTime run w)
         let skew = (fits_at run node.0 rules fine.within).skew in
         let before = stands_at run w node.0 keeps fine.within in
         let clock = before.clock in
-        let in_time : IsInTime w.time (lesser_last (Between step)) =
-        subst (λ p. IsInTime w.time (lesser_last p)) between before.in_time in
+        let in_time : KeepsDeadline w.time (lesser_last (Between step)) =
+        subst (λ p. KeepsDeadline w.time (lesser_last p)) between before.in_time in
         let last : w.time ≤ step_alarm plan here step + g.eps - 1 =
         left_in_time w.time (last_before (step_alarm plan here step) g.eps)
         (send_last g plan here (ready_at w node.0)) in_time in

@@ -20,7 +20,7 @@ use Rattle.pals_clock.specs.declared.clock.Clocks.{Clocks}
 use Rattle.pals_clock.specs.declared.clock.Clocks.TheVariants.{Meet, Lists}
 use Rattle.run_laws.specs.Runs.{Runs}
 use Rattle.run_laws.specs.proof.LinkTiming.{due_of}
-use Rattle.run_laws.specs.proof.ReadingsAndStops.{IsFor, StopsAt, CauseFits, StopFits}
+use Rattle.run_laws.specs.proof.ReadingsAndStops.{IsFor, StopsAtStart, CauseFits, StopFits}
 use Rattle.run_laws.specs.StopBounds.{sent_at, BoundedStop}
 use Rattle.run_laws.specs.proof.StopBounds.{StopsAreBounded}
 use Rattle.run_laws.proofs.RisingTargets.{next_alarm}
@@ -36,7 +36,7 @@ no_less (Lists clocks) t at is = is
 
 transit_by : (run : Run) (clocks : Clocks) (journal : List JournalEntry) (s : BusState) (number round : ℕ)
     (reading : Option ℕ) (cause : Cause) → IsRunOf run
-    → (x : StopsAt run clocks s number reading) → (node_at s x.link.target.0).count ≡ round + 1
+    → (x : StopsAtStart run clocks s number reading) → (node_at s x.link.target.0).count ≡ round + 1
     → CauseFits run clocks s x.link.source.0
     (due_of (delay_of run.delays number) (sends x.link.source.0 journal) round) x.at cause
     → cause ≡ InTransit → (at : ℕ) → sent_at run journal number round ≡ Some at

@@ -16,7 +16,7 @@ use Rattle.pals_base.specs.declared.values.NodeNo.{NodeNo}
 use Rattle.pals_base.specs.declared.values.LinkNo.{LinkNo}
 use Rattle.pals_base.specs.declared.values.PortValue.{PortValue}
 use Rattle.pals_base.specs.PeriodBound.{alarm}
-use Rattle.pals_base.specs.ClockPicks.{reached}
+use Rattle.pals_base.specs.ClockPicks.{remaining_from}
 use Rattle.pals_clock.specs.ClockStates.{ClockState, standing_at}
 use Rattle.pals_model.specs.declared.design.Link.{Link}
 use Rattle.pals_model.specs.declared.flight_copy.FlightCopy.{FlightCopy}
@@ -58,7 +58,7 @@ use Rattle.run_laws.specs.Runs.{no_clock, clock_at, Shows, HasEnded, IsAwaited, 
 use Rattle.run_laws.specs.Runs.{opens, picks_for, goes_on}
 use Rattle.run_laws.specs.proof.LinkTiming.{view, early_on, due_of, one_if, copies, Whereabouts, in_flight, in_slot}
 use Rattle.run_laws.specs.proof.LinkTiming.{was_taken, came_early, IsDueCopy}
-use Rattle.run_laws.specs.proof.ReadingsAndStops.{IsFor, StopsAt, NeverSent, CauseFits, StopFits, StopsFit}
+use Rattle.run_laws.specs.proof.ReadingsAndStops.{IsFor, StopsAtStart, NeverSent, CauseFits, StopFits, StopsFit}
 use Rattle.run_laws.proofs.NodePicks.{runs_agree, node_agrees, many_clocks}
 use Rattle.run_laws.proofs.JournalStartsAndSends.{rounds_are_shown}
 use Rattle.run_laws.proofs.LinkEventEffects.{arriving_tells, due_if_sent}
@@ -309,20 +309,20 @@ pub ended_still : (run : Run) (before later : List ClockState) (s : BusState) (j
 ended_still run before later s j k many picks ended =
     let within = picks.within in
     let t = target (plan_of run.design j) picks.action in
-    let new = standing_at (clock_at before j) (reached (clock_at before j).left t) in
+    let new = standing_at (clock_at before j) (remaining_from (clock_at before j).left t) in
     let own = target (plan_of run.design k) ended.0 in
-    let left : reached (clock_at later k).left own ≡ [] = ap (λ cs. reached (clock_at cs k).left own) picks.clocks_are
+    let left : remaining_from (clock_at later k).left own ≡ [] = ap (λ cs. remaining_from (clock_at cs k).left own) picks.clocks_are
     ∙ elim (cases_eq k j) [
       | inl same ↦
           let action : picks.action ≡ ended.0 =
           same_Some _ _ (sym picks.next ∙ ap (λ i. upcoming (plan_of run.design i) (node_at s i)) (sym same)
           ∙ ended.1) in
           let targets_same : t ≡ own = ap₂ (λ i a. target (plan_of run.design i) a) (sym same) action in
-          ap (λ (c : ClockState). reached c.left own) (get_or-set_at before j k new no_clock same (omega arith))
-          ∙ ap (λ x. reached (reached (clock_at before j).left x) own) targets_same
+          ap (λ (c : ClockState). remaining_from c.left own) (get_or-set_at before j k new no_clock same (omega arith))
+          ∙ ap (λ x. remaining_from (remaining_from (clock_at before j).left x) own) targets_same
           ∙ reached_again (clock_at before j).left own
-          ∙ ap (λ i. reached (clock_at before i).left own) (sym same) ∙ ended.2
-      | inr other ↦ ap (λ (c : ClockState). reached c.left own)
+          ∙ ap (λ i. remaining_from (clock_at before i).left own) (sym same) ∙ ended.2
+      | inr other ↦ ap (λ (c : ClockState). remaining_from c.left own)
           (get_or-set_other before j k new no_clock other) ∙ ended.2
     ] in
     (ended.0, ended.1, left)
@@ -335,7 +335,7 @@ picked_cause run before later s k at due InTransit still fits = fits
 picked_cause run before later s k at due Lost still fits = fits
 
 abbrev picked_at : (run : Run) (before later : List ClockState) (s : BusState) (number : ℕ) (reading : Option ℕ)
-    → StopsAt run (Lists before) s number reading → StopsAt run (Lists later) s number reading
+    → StopsAtStart run (Lists before) s number reading → StopsAtStart run (Lists later) s number reading
 picked_at run before later s number reading x =
     record {
       link = x.link;

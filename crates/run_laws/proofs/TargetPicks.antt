@@ -5,7 +5,7 @@ use Rattle.std.proofs.lemmas.Bool.{ltb-true, false_from_ne_true}
 use Rattle.std.proofs.lemmas.List.{take_more, length-take-le, take-append-drop, append-nil}
 use Rattle.std.proofs.lemmas.List.Sums.{fold-append}
 use Rattle.std.proofs.lemmas.Option.{slice_get_within, get_or_from_slice_get}
-use Rattle.pals_base.specs.ClockPicks.{reached, picked, picks}
+use Rattle.pals_base.specs.ClockPicks.{remaining_from, picked, picks}
 use Rattle.pals_clock.specs.ClockStates.{ClockState, standing_at, left_after}
 use Rattle.pals_clock.proofs.ReachedReadings.{picks_append}
 use Rattle.bus_machine.specs.declared.plan.Plan.{Plan}
@@ -16,38 +16,38 @@ use Rattle.run_laws.specs.proof.ListPicks.{IsPicked}
 
 -- ---- where a clock stands
 idem_by : (r : ℕ) (later : List ℕ) (target : ℕ) (b : Bool) → nat_lt r target ≡ b
-    → reached (reached later target) target ≡ reached later target
-    → reached (cond b (reached later target) (r ∷ later)) target ≡ cond b (reached later target) (r ∷ later)
+    → remaining_from (remaining_from later target) target ≡ remaining_from later target
+    → remaining_from (cond b (remaining_from later target) (r ∷ later)) target ≡ cond b (remaining_from later target) (r ∷ later)
 idem_by r later target true is same = same
-idem_by r later target false is same = ap (λ b. cond b (reached later target) (r ∷ later)) is
+idem_by r later target false is same = ap (λ b. cond b (remaining_from later target) (r ∷ later)) is
 
-pub reached_again : (left : List ℕ) (target : ℕ) → reached (reached left target) target ≡ reached left target
+pub reached_again : (left : List ℕ) (target : ℕ) → remaining_from (remaining_from left target) target ≡ remaining_from left target
 reached_again [] target = refl
 reached_again (r ∷ later) target = idem_by r later target (nat_lt r target) refl (reached_again later target)
 
 -- a clock that stands at a reading that is no less than a target has reached it
-pub stands : (left : List ℕ) (target at : ℕ) → slice_get left 0 ≡ Some at → target ≤ at → reached left target ≡ left
+pub stands : (left : List ℕ) (target at : ℕ) → slice_get left 0 ≡ Some at → target ≤ at → remaining_from left target ≡ left
 stands [] target at is most = refl
 stands (r ∷ later) target at is most =
     let same : r ≡ at = cc in
     let past : nat_lt r target ≡ false =
     false_from_ne_true (nat_lt r target) (λ below. let less = ltb-true r target below in absurd (omega arith)) in
-    ap (λ b. cond b (reached later target) (r ∷ later)) past
+    ap (λ b. cond b (remaining_from later target) (r ∷ later)) past
 
 left_after_more : (readings ts : List ℕ) (target : ℕ)
-    → left_after readings (ts ++ target ∷ []) ≡ reached (left_after readings ts) target
-left_after_more readings ts target = fold-append reached readings ts (target ∷ [])
+    → left_after readings (ts ++ target ∷ []) ≡ remaining_from (left_after readings ts) target
+left_after_more readings ts target = fold-append remaining_from readings ts (target ∷ [])
 
 picked_one : (rs : List ℕ) (at : ℕ) → slice_get rs 0 ≡ Some at → picks rs [] ≡ [] → picked rs (picks rs []) ≡ at ∷ []
 picked_one [] at is none = absurd (cc)
 picked_one (r ∷ rs) at is none = let same : r ≡ at = cc in ap (λ x. x ∷ []) same
 
 picks_more : (readings ts : List ℕ) (target at : ℕ) → length (picks readings ts) ≡ length ts
-    → slice_get (reached (left_after readings ts) target) 0 ≡ Some at
+    → slice_get (remaining_from (left_after readings ts) target) 0 ≡ Some at
     → picks readings (ts ++ target ∷ []) ≡ picks readings ts ++ at ∷ []
 picks_more readings ts target at many is =
     picks_append readings ts (target ∷ []) many
-    ∙ ap (λ ps. picks readings ts ++ ps) (picked_one (reached (left_after readings ts) target) at is refl)
+    ∙ ap (λ ps. picks readings ts ++ ps) (picked_one (remaining_from (left_after readings ts) target) at is refl)
 
 take_next : (ts : List ℕ) (k target : ℕ) → slice_get ts k ≡ Some target → take (k + 1) ts ≡ take k ts ++ target ∷ []
 take_next ts k target is =
@@ -69,7 +69,7 @@ drop_next (y ∷ ys) (suc k) x is = let next : suc k + 1 ≡ suc (k + 1) = omega
 -- ---- of a node that has done some actions
 -- what is left after the next
 left_next : (readings ts : List ℕ) (k target : ℕ) → slice_get ts k ≡ Some target
-    → left_after readings (take (k + 1) ts) ≡ reached (left_after readings (take k ts)) target
+    → left_after readings (take (k + 1) ts) ≡ remaining_from (left_after readings (take k ts)) target
 left_next readings ts k target is =
     ap (left_after readings) (take_next ts k target is) ∙ left_after_more readings (take k ts) target
 
@@ -82,17 +82,17 @@ pub does_next : (plan : Plan) (rounds : ℕ) (clock : ClockState) (n m : NodeSta
 does_next plan rounds clock n m shown p target at is first most follows =
     let ts = targets plan rounds in
     let before = left_after clock.readings (take p.done ts) in
-    let after : left_after clock.readings (take (p.done + 1) ts) ≡ reached before target =
+    let after : left_after clock.readings (take (p.done + 1) ts) ≡ remaining_from before target =
     left_next clock.readings ts p.done target is in
-    let here : reached clock.left target ≡ clock.left = stands clock.left target at first most in
+    let here : remaining_from clock.left target ≡ clock.left = stands clock.left target at first most in
     let left : clock.left ≡ left_after clock.readings (take (p.done + 1) ts) = elim p.left [
-      | inl same ↦ sym here ∙ ap (λ l. reached l target) same ∙ sym after
+      | inl same ↦ sym here ∙ ap (λ l. remaining_from l target) same ∙ sym after
       | inr same ↦ same
     ] in
     let within = slice_get_within ts p.done target is in
     let many : length (picks clock.readings (take p.done ts)) ≡ length (take p.done ts) = sym (ap length p.shown_are)
     ∙ p.count ∙ sym (length-take-le p.done ts (omega arith)) in
-    let pick : slice_get (reached before target) 0 ≡ Some at = ap (λ l. slice_get l 0) (sym after ∙ sym left) ∙ first in
+    let pick : slice_get (remaining_from before target) 0 ≡ Some at = ap (λ l. slice_get l 0) (sym after ∙ sym left) ∙ first in
     record {
       done = p.done + 1;
       follows = follows;
@@ -112,17 +112,17 @@ pub pick_at : (plan : Plan) (rounds : ℕ) (clock : ClockState) (n : NodeState) 
 pick_at plan rounds clock n shown p target at is first most =
     let ts = targets plan rounds in
     let before = left_after clock.readings (take p.done ts) in
-    let after : left_after clock.readings (take (p.done + 1) ts) ≡ reached before target =
+    let after : left_after clock.readings (take (p.done + 1) ts) ≡ remaining_from before target =
     left_next clock.readings ts p.done target is in
-    let here : reached clock.left target ≡ clock.left = stands clock.left target at first most in
+    let here : remaining_from clock.left target ≡ clock.left = stands clock.left target at first most in
     let left : clock.left ≡ left_after clock.readings (take (p.done + 1) ts) = elim p.left [
-      | inl same ↦ sym here ∙ ap (λ l. reached l target) same ∙ sym after
+      | inl same ↦ sym here ∙ ap (λ l. remaining_from l target) same ∙ sym after
       | inr same ↦ same
     ] in
     let within = slice_get_within ts p.done target is in
     let many : length (picks clock.readings (take p.done ts)) ≡ length (take p.done ts) = sym (ap length p.shown_are)
     ∙ p.count ∙ sym (length-take-le p.done ts (omega arith)) in
-    let pick : slice_get (reached before target) 0 ≡ Some at = ap (λ l. slice_get l 0) (sym after ∙ sym left) ∙ first in
+    let pick : slice_get (remaining_from before target) 0 ≡ Some at = ap (λ l. slice_get l 0) (sym after ∙ sym left) ∙ first in
     let more : picks clock.readings (take (p.done + 1) ts) ≡ shown ++ at ∷ [] =
     ap (picks clock.readings) (take_next ts p.done target is)
     ∙ picks_more clock.readings (take p.done ts) target at many pick ∙ ap (λ xs. xs ++ at ∷ []) (sym p.shown_are) in
@@ -140,16 +140,16 @@ pick_at plan rounds clock n shown p target at is first most =
 -- where its clock has none for the next one, its picks end there
 pub picks_end : (plan : Plan) (rounds : ℕ) (clock : ClockState) (n : NodeState) (shown : List ℕ)
     (p : IsPicked plan rounds clock n shown) (target : ℕ)
-    → slice_get (targets plan rounds) p.done ≡ Some target → reached clock.left target ≡ []
+    → slice_get (targets plan rounds) p.done ≡ Some target → remaining_from clock.left target ≡ []
     → picks clock.readings (targets plan rounds) ≡ shown
 picks_end plan rounds clock n shown p target is none =
     let ts = targets plan rounds in
     let before = left_after clock.readings (take p.done ts) in
-    let after : left_after clock.readings (take (p.done + 1) ts) ≡ reached before target =
+    let after : left_after clock.readings (take (p.done + 1) ts) ≡ remaining_from before target =
     left_next clock.readings ts p.done target is in
-    let ended : reached before target ≡ [] = elim p.left [
-      | inl same ↦ ap (λ l. reached l target) (sym same) ∙ none
-      | inr same ↦ sym (reached_again before target) ∙ ap (λ l. reached l target) (sym after ∙ sym same) ∙ none
+    let ended : remaining_from before target ≡ [] = elim p.left [
+      | inl same ↦ ap (λ l. remaining_from l target) (sym same) ∙ none
+      | inr same ↦ sym (reached_again before target) ∙ ap (λ l. remaining_from l target) (sym after ∙ sym same) ∙ none
     ] in
     let within = slice_get_within ts p.done target is in
     let many : length (picks clock.readings (take p.done ts)) ≡ length (take p.done ts) = sym (ap length p.shown_are)
@@ -165,11 +165,11 @@ picks_end plan rounds clock n shown p target is none =
 pub picks_next : (plan : Plan) (rounds : ℕ) (clock : ClockState) (n : NodeState) (shown : List ℕ)
     (p : IsPicked plan rounds clock n shown) (target : ℕ)
     → slice_get (targets plan rounds) p.done ≡ Some target
-    → IsPicked plan rounds (standing_at clock (reached clock.left target)) n shown
+    → IsPicked plan rounds (standing_at clock (remaining_from clock.left target)) n shown
 picks_next plan rounds clock n shown p target is =
     let ts = targets plan rounds in
     let before = left_after clock.readings (take p.done ts) in
-    let after : left_after clock.readings (take (p.done + 1) ts) ≡ reached before target =
+    let after : left_after clock.readings (take (p.done + 1) ts) ≡ remaining_from before target =
     left_next clock.readings ts p.done target is in
     record {
       done = p.done;
@@ -177,8 +177,8 @@ picks_next plan rounds clock n shown p target is =
       count = p.count;
       shown_are = p.shown_are;
       left = inr (elim p.left [
-        | inl same ↦ ap (λ l. reached l target) same ∙ sym after
-        | inr same ↦ ap (λ l. reached l target) (same ∙ after) ∙ reached_again before target ∙ sym after
+        | inl same ↦ ap (λ l. remaining_from l target) same ∙ sym after
+        | inr same ↦ ap (λ l. remaining_from l target) (same ∙ after) ∙ reached_again before target ∙ sym after
       ]);
     }
 

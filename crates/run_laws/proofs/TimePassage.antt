@@ -25,23 +25,23 @@ use Rattle.run_laws.specs.Worlds.{World, since_at, ready_at, sendings, world_aft
 use Rattle.run_laws.specs.Deadlines.{node_deadline, message_deadline}
 use Rattle.run_laws.specs.EventFaults.{fault_of, found_if, first_of, apart, clock_back, clock_apart, past, node_past}
 use Rattle.run_laws.specs.EventFaults.{copy_past, link_past}
-use Rattle.run_laws.specs.proof.WorldInvariant.{IsInTime, KeepsNode, KeepsSends, KeepsTime}
+use Rattle.run_laws.specs.proof.WorldInvariant.{KeepsDeadline, KeepsNode, KeepsSends, KeepsTime}
 use Rattle.run_laws.proofs.Lists.{both_none, none_first}
 use Rattle.run_laws.proofs.WorldNodeTiming.{deadline_is}
 use Rattle.run_laws.proofs.FaultlessEventConditions.{named, none_if}
 
 -- ---- what the fault says
-none_past : (time : ℕ) (which : EventSubject) (last : Option ℕ) → past time which last ≡ None → IsInTime time last
+none_past : (time : ℕ) (which : EventSubject) (last : Option ℕ) → past time which last ≡ None → KeepsDeadline time last
 none_past time which None none = tt
 none_past time which (Some last) none =
     ltb-false last time (none_if (nat_lt last time) (fault.PastDeadline which last) none)
 
-pub record PassesInTime (run : Run) (w : World) (time : ℕ) (readings : List ℕ) : Type 0 where
+pub record FaultlessPass (run : Run) (w : World) (time : ℕ) (readings : List ℕ) : Type 0 where
   pub many : length readings ≡ length run.design.components
   pub forward : w.time ≤ time
   pub clocks : (node : ℕ) → node < length run.design.components
       → IsNear run.design.gamma time (slice_index_or readings node 0)
-  pub in_time : (node : ℕ) → node < length run.design.components → IsInTime time (node_deadline run w node)
+  pub in_time : (node : ℕ) → node < length run.design.components → KeepsDeadline time (node_deadline run w node)
   pub arrive : (number round : ℕ) → number < length run.design.links
       → is_in_flight round (flight_at w.bus number) ≡ true → time ≤ message_deadline run w number round
 
@@ -75,7 +75,7 @@ module _ (run : Run) (w : World) (time : ℕ) (readings : List ℕ) where
       let same : copy.round ≡ round = eqb-true copy.round round (find-passes (is_of round) flight copy is) in
       subst (λ r. time ≤ message_deadline run w number r) same in_time
 
-  pub passes_in_time : fault_of run w (event.Pass time readings) ≡ None → PassesInTime run w time readings
+  pub passes_in_time : fault_of run w (event.Pass time readings) ≡ None → FaultlessPass run w time readings
   passes_in_time none =
       let parts = named run w (event.Pass time readings) none in
       let clocks = enumerate_from 0 readings in
@@ -109,7 +109,7 @@ module _ (run : Run) (w : World) (time : ℕ) (readings : List ℕ) where
 
 -- ---- what it keeps
 module _ (run : Run) (w : World) (time : ℕ) (readings : List ℕ) (keeps : KeepsTime run w)
-    (fine : PassesInTime run w time readings) where
+    (fine : FaultlessPass run w time readings) where
   abbrev passed : World
   passed = record w { time = time; readings = readings }
 
@@ -147,8 +147,8 @@ module _ (run : Run) (w : World) (time : ℕ) (readings : List ℕ) (keeps : Kee
         moments = record { readings = fine.many; since = sizes.since; ready = sizes.ready; sent_at = sizes.sent_at };
         clocks = fine.clocks;
         in_time = λ node within.
-            subst (IsInTime time) (sym (deadline_is run passed node))
-            (subst (IsInTime time) (deadline_is run w node) (fine.in_time node within));
+            subst (KeepsDeadline time) (sym (deadline_is run passed node))
+            (subst (KeepsDeadline time) (deadline_is run w node) (fine.in_time node within));
         nodes = node_later;
         sends = sends_later;
         links =

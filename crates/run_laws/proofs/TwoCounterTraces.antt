@@ -3,10 +3,10 @@
 use Rattle.std.proofs.Common.{refl}
 use Rattle.std.specs.Fmt.{digits}
 use Rattle.pals_base.specs.SingleStep.{fire}
-use Rattle.pals_model.specs.ComponentInputs.{feed}
+use Rattle.pals_model.specs.ComponentInputs.{input_vectors}
 use Rattle.pals_model.specs.Composition.{comp, part}
 use Rattle.run_laws.specs.proof.TwoCounterTraces.{TracesAreJudged}
 
 pub traces_are_judged : TracesAreJudged
-unfolding digits fire comp part feed
+unfolding digits fire comp part input_vectors
 traces_are_judged = record { sound = refl; row = refl; release = refl; unfinished = refl }

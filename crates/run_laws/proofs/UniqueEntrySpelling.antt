@@ -25,15 +25,15 @@ use Rattle.pals_runs.specs.declared.journal.JournalEntry.{JournalEntry}
 use Rattle.pals_runs.specs.declared.journal.JournalEntry.TheVariants as entry
 use Rattle.pals_runs.specs.JournalLines.{path_in, node_word, name_in, link_word, reading_word, arrived_word, cause_word}
 use Rattle.pals_runs.specs.JournalLines.{entry_words, spaced, entry_line}
-use Rattle.run_laws.specs.LineForms.{Form, ArriveLine, StartLine, StepLine, FinishLine, SendLine, DropLine, RepeatLine}
+use Rattle.run_laws.specs.LineForms.{LineForm, ArriveLine, StartLine, StepLine, FinishLine, SendLine, DropLine, RepeatLine}
 use Rattle.run_laws.specs.LineForms.{EarlyLine, MissedLine, is, is_there, spelled, number_up_to, round_in, reading_in}
 use Rattle.run_laws.specs.LineForms.{arrived_in, cause_in, named, at_end, read, with_result, with_cause, with_step}
 use Rattle.run_laws.specs.LineForms.{arrive_line, start_line, step_line, finish_line, send_line, drop_line, repeat_line}
 use Rattle.run_laws.specs.LineForms.{early_line, missed_line, stop_line, form_of_words, words_of, form_of}
-use Rattle.run_laws.specs.EntriesInLines.{of_node, of_link, entry_of, told}
+use Rattle.run_laws.specs.EntriesInLines.{of_node, of_link, entry_of, entry_of_line}
 
 -- ---- the words of a form
-abbrev form_words : Form → List (List ℕ)
+abbrev form_words : LineForm → List (List ℕ)
 form_words (ArriveLine name round reading result) =
     codes "arrive" ∷ name ∷ decimal round ∷ reading_word reading ∷ arrived_word result ∷ []
 form_words (StartLine name round reading) = codes "start" ∷ name ∷ decimal round ∷ reading_word reading ∷ []
@@ -114,15 +114,15 @@ cause_is word cause got =
     refl refl got
 
 -- ---- what is read of these words, if anything is, has them
-abbrev Spells : List (List ℕ) → Option Form → Type 0
+abbrev Spells : List (List ℕ) → Option LineForm → Type 0
 Spells words o = IfSome o (λ form. words ≡ form_words form)
 
-then_spells : {A : Type 0} (words : List (List ℕ)) (o : Option A) (go : A → Option Form)
+then_spells : {A : Type 0} (words : List (List ℕ)) (o : Option A) (go : A → Option LineForm)
     → ((a : A) → o ≡ Some a → Spells words (go a)) → Spells words (option_and_then go o)
 then_spells words None go spells = tt
 then_spells words (Some a) go spells = spells a refl
 
-if_spells : (words : List (List ℕ)) (b : Bool) (x y : Option Form) → (b ≡ true → Spells words x) → Spells words y
+if_spells : (words : List (List ℕ)) (b : Bool) (x y : Option LineForm) → (b ≡ true → Spells words x) → Spells words y
     → Spells words (cond b x y)
 if_spells words true x y here there = here refl
 if_spells words false x y here there = there
@@ -131,7 +131,7 @@ if_spells words false x y here there = there
 abbrev Behind : Type 0
 Behind = List (List ℕ) → List (List ℕ)
 
-named_spells : (front : Behind) (words : List (List ℕ)) (go : List ℕ → ℕ → List (List ℕ) → Option Form)
+named_spells : (front : Behind) (words : List (List ℕ)) (go : List ℕ → ℕ → List (List ℕ) → Option LineForm)
     → ((name : List ℕ) (round : ℕ) (rest : List (List ℕ))
     → Spells (front (name ∷ decimal round ∷ rest)) (go name round rest)) → Spells (front words) (named words go)
 named_spells front [] go spells = tt
@@ -141,7 +141,7 @@ named_spells front (name ∷ word ∷ rest) go spells =
     (λ r got. subst (λ w. Spells (front (name ∷ w ∷ rest)) (go name r rest)) (sym (number_is ROUNDS word r got))
     (spells name r rest))
 
-read_spells : (front : Behind) (words : List (List ℕ)) (go : Option ℕ → List (List ℕ) → Option Form)
+read_spells : (front : Behind) (words : List (List ℕ)) (go : Option ℕ → List (List ℕ) → Option LineForm)
     → ((reading : Option ℕ) (rest : List (List ℕ)) → Spells (front (reading_word reading ∷ rest)) (go reading rest))
     → Spells (front words) (read words go)
 read_spells front [] go spells = tt
@@ -150,12 +150,12 @@ read_spells front (word ∷ rest) go spells =
     (λ reading got. subst (λ w. Spells (front (w ∷ rest)) (go reading rest)) (sym (reading_is word reading got))
     (spells reading rest))
 
-end_spells : (front : Behind) (form : Form) (words : List (List ℕ)) → front [] ≡ form_words form
+end_spells : (front : Behind) (form : LineForm) (words : List (List ℕ)) → front [] ≡ form_words form
     → Spells (front words) (at_end form words)
 end_spells front form [] here = here
 end_spells front form (word ∷ rest) here = tt
 
-result_spells : (front : Behind) (words : List (List ℕ)) (go : Arrived → Form)
+result_spells : (front : Behind) (words : List (List ℕ)) (go : Arrived → LineForm)
     → ((result : Arrived) → front (arrived_word result ∷ []) ≡ form_words (go result))
     → Spells (front words) (with_result words go)
 result_spells front [] go here = tt
@@ -164,7 +164,7 @@ result_spells front (word ∷ rest) go here =
     (λ result got. subst (λ w. Spells (front (w ∷ rest)) (at_end (go result) rest)) (sym (result_is word result got))
     (end_spells (λ ws. front (arrived_word result ∷ ws)) (go result) rest (here result)))
 
-cause_spells : (front : Behind) (words : List (List ℕ)) (go : Cause → Form)
+cause_spells : (front : Behind) (words : List (List ℕ)) (go : Cause → LineForm)
     → ((cause : Cause) → front (cause_word cause ∷ []) ≡ form_words (go cause))
     → Spells (front words) (with_cause words go)
 cause_spells front [] go here = tt
@@ -174,7 +174,7 @@ cause_spells front (word ∷ rest) go here =
     (end_spells (λ ws. front (cause_word cause ∷ ws)) (go cause) rest (here cause)))
 
 -- a name, a round and a reading
-timed_spells : (front : Behind) (words : List (List ℕ)) (go : List ℕ → ℕ → Option ℕ → Form)
+timed_spells : (front : Behind) (words : List (List ℕ)) (go : List ℕ → ℕ → Option ℕ → LineForm)
     → ((name : List ℕ) (round : ℕ) (reading : Option ℕ)
     → front (name ∷ decimal round ∷ reading_word reading ∷ []) ≡ form_words (go name round reading))
     → Spells (front words) (named words
@@ -187,7 +187,7 @@ timed_spells front words go here =
     left (here name round reading)))
 
 -- a name and a round alone
-round_spells : (front : Behind) (words : List (List ℕ)) (go : List ℕ → ℕ → Form)
+round_spells : (front : Behind) (words : List (List ℕ)) (go : List ℕ → ℕ → LineForm)
     → ((name : List ℕ) (round : ℕ) → front (name ∷ decimal round ∷ []) ≡ form_words (go name round))
     → Spells (front words) (named words (λ name round left. at_end (go name round) left))
 round_spells front words go here =
@@ -232,7 +232,7 @@ missed_spells words =
     (λ cause. MissedLine name round reading cause) (λ cause. refl)))
 
 -- a line with this first word
-with_first : (first word : List ℕ) (rest : List (List ℕ)) (o : Option Form) → Spells (word ∷ rest) o
+with_first : (first word : List ℕ) (rest : List (List ℕ)) (o : Option LineForm) → Spells (word ∷ rest) o
     → is first word ≡ true → Spells (first ∷ rest) o
 with_first first word rest o spells same = subst (λ w. Spells (w ∷ rest) o) (sym (same_words first word same)) spells
 
@@ -318,7 +318,7 @@ of_link_spelled design name go e front here got =
     told_by design (front name) (link_named design name) (λ n. go (record { 0 = n })) e
     (λ n found. here n ∙ ap front (link_is_named design name n found)) got
 
-form_spelled : (design : DesignParts) (form : Form) (e : JournalEntry) → entry_of design form ≡ Some e
+form_spelled : (design : DesignParts) (form : LineForm) (e : JournalEntry) → entry_of design form ≡ Some e
     → entry_words design e ≡ form_words form
 form_spelled design (ArriveLine name round reading result) e got =
     of_link_spelled design name (λ link. entry.Arrive link round reading result) e
@@ -348,7 +348,7 @@ form_spelled design (MissedLine name round reading cause) e got =
     (λ w. form_words (MissedLine w round reading cause)) (λ n. refl) got
 
 -- ---- lines
-from_words : (design : DesignParts) (words : List (List ℕ)) (o : Option Form) (e : JournalEntry) → Spells words o
+from_words : (design : DesignParts) (words : List (List ℕ)) (o : Option LineForm) (e : JournalEntry) → Spells words o
     → option_and_then (entry_of design) o ≡ Some e → words ≡ entry_words design e
 from_words design words None e spells got = absurd (cc)
 from_words design words (Some form) e spells got = spells ∙ sym (form_spelled design form e got)
@@ -366,7 +366,7 @@ joined line =
     ap (λ (p : ℕ → Bool). spaced (slice_split p line)) (λ i b. swapped b (nat_eq 32 b) (nat_eq b 32) refl refl i)
     ∙ join_with_byte-slice_split 32 line
 
-pub told_is_line : (design : DesignParts) (line : List ℕ) (e : JournalEntry) → told design line ≡ Some e
+pub told_is_line : (design : DesignParts) (line : List ℕ) (e : JournalEntry) → entry_of_line design line ≡ Some e
     → line ≡ entry_line design e
 told_is_line design line e got =
     let words = words_of line in

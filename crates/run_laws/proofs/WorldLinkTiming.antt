@@ -63,7 +63,7 @@ pub counts_in_flight : (round : ℕ) (flight : List FlightCopy) → 1 ≤ copies
 counts_in_flight round flight some = one_is_found (is_of round) flight some
 
 -- ---- a round of a link of which a copy is in flight
-pub record IsUnderWay (count : ℕ) (slot : Option (List PortValue)) (sent : ℕ) (flight : List FlightCopy)
+pub record IsMessageInFlight (count : ℕ) (slot : Option (List PortValue)) (sent : ℕ) (flight : List FlightCopy)
     (round : ℕ) : Type 0 where
   pub is_sent : round < sent
   pub one : copies round flight ≡ 1
@@ -72,7 +72,7 @@ pub record IsUnderWay (count : ℕ) (slot : Option (List PortValue)) (sent : ℕ
 
 pub under_way : (count : ℕ) (slot : Option (List PortValue)) (sent : ℕ) (flight : List FlightCopy) (round : ℕ)
     → IsOnce count slot sent flight round → 1 ≤ copies round flight
-    → IsUnderWay count slot sent flight round
+    → IsMessageInFlight count slot sent flight round
 under_way count slot sent flight round once some =
     let all : copies round flight + one_if (waits count slot round) + one_if (taken count round) ≡ one_if (nat_lt round sent) = once in
     let most = one_most (nat_lt round sent) in

@@ -17,38 +17,38 @@ use Rattle.bus_machine.specs.declared.plan.Plan.{Plan}
 use Rattle.bus_machine.specs.Plans.{plan_of, component_at}
 use Rattle.bus_machine.specs.Nodes.{NodeState, round_of, finished_steps, sent_rounds}
 use Rattle.bus_machine.specs.NodeEvents.{may_send}
-use Rattle.bus_machine.specs.EarliestReadings.{start_alarm, step_alarm, release_alarm}
+use Rattle.bus_machine.specs.EarliestReadings.{start_alarm, step_alarm, release_reading}
 use Rattle.bus_machine.specs.States.{node_at}
 use Rattle.bus_machine.specs.Runs.{Run}
 use Rattle.bus_machine.specs.Agreement.{PhaseAgrees}
 use Rattle.bus_machine.specs.proof.AgreementLaws.{IsRunOf}
 use Rattle.run_laws.specs.Worlds.{World, reading_at, since_at, ready_at, sendings}
 use Rattle.run_laws.specs.Deadlines.{last_before, lesser, phase_deadline, node_deadline}
-use Rattle.run_laws.specs.proof.WorldInvariant.{IsInTime, KeepsNode, KeepsSends, KeepsTime}
+use Rattle.run_laws.specs.proof.WorldInvariant.{KeepsDeadline, KeepsNode, KeepsSends, KeepsTime}
 use Rattle.run_laws.proofs.TimeArithmetic.{Fits, fits, alarm_next, alarm_after, next_after_skew, late_running}
 use Rattle.run_laws.proofs.TimeArithmetic.{late_between, unsent_running, unsent_between, unsent_ready}
 use Rattle.run_laws.proofs.NodePicks.{component_is}
 
 -- ---- last allowed times
-pub left_in_time : (t a : ℕ) (b : Option ℕ) → IsInTime t (lesser (Some a) b) → t ≤ a
+pub left_in_time : (t a : ℕ) (b : Option ℕ) → KeepsDeadline t (lesser (Some a) b) → t ≤ a
 left_in_time t a None in_time = in_time
 left_in_time t a (Some b) in_time = let both : t ≤ min a b = in_time in omega arith
 
-right_in_time : (t b : ℕ) (a : Option ℕ) → IsInTime t (lesser a (Some b)) → t ≤ b
+right_in_time : (t b : ℕ) (a : Option ℕ) → KeepsDeadline t (lesser a (Some b)) → t ≤ b
 right_in_time t b None in_time = in_time
 right_in_time t b (Some a) in_time = let both : t ≤ min a b = in_time in omega arith
 
-pub both_in_time : (t : ℕ) (a b : Option ℕ) → IsInTime t a → IsInTime t b → IsInTime t (lesser a b)
+pub both_in_time : (t : ℕ) (a b : Option ℕ) → KeepsDeadline t a → KeepsDeadline t b → KeepsDeadline t (lesser a b)
 both_in_time t None b one two = two
 both_in_time t (Some a) None one two = one
 both_in_time t (Some a) (Some b) one two = let left : t ≤ a = one in let right : t ≤ b = two in omega arith
 
 pub send_in_time : (t last : ℕ) (a : Option ℕ) (may : Bool) → may ≡ true
-    → IsInTime t (lesser a (if may then Some last else None)) → t ≤ last
+    → KeepsDeadline t (lesser a (if may then Some last else None)) → t ≤ last
 send_in_time t last a true is in_time = right_in_time t last a in_time
 send_in_time t last a false is in_time = absurd (false≢true is)
 
-pub sends_in_time : (t last : ℕ) (may : Bool) → (may ≡ true → t ≤ last) → IsInTime t (if may then Some last else None)
+pub sends_in_time : (t last : ℕ) (may : Bool) → (may ≡ true → t ≤ last) → KeepsDeadline t (if may then Some last else None)
 sends_in_time t last true in_time = in_time refl
 sends_in_time t last false in_time = tt
 
@@ -61,7 +61,7 @@ phase_last g plan n since Holding = None
 phase_last g plan n since Done = None
 
 abbrev pub send_last : Gamma → Plan → NodeState → ℕ → Option ℕ
-send_last g plan n ready = if may_send plan n then Some (max ready (last_before (release_alarm plan n) g.eps)) else None
+send_last g plan n ready = if may_send plan n then Some (max ready (last_before (release_reading plan n) g.eps)) else None
 
 abbrev pub last_time : Gamma → Plan → NodeState → ℕ → ℕ → Option ℕ
 last_time g plan n since ready = lesser (phase_last g plan n since n.phase) (send_last g plan n ready)
@@ -149,7 +149,7 @@ fits_at run node rules within =
 pub record Stands (g : Gamma) (plan : Plan) (n : NodeState) (reading time since ready : ℕ)
     (moments : List ℕ) : Type 0 where
   pub clock : IsNear g time reading
-  pub in_time : IsInTime time (last_time g plan n since ready)
+  pub in_time : KeepsDeadline time (last_time g plan n since ready)
   pub keeps : KeepsNode g plan n time since ready
   pub sends : KeepsSends g plan n time moments
 
@@ -162,7 +162,7 @@ pub stands_at : (run : Run) (w : World) (node : ℕ) → KeepsTime run w → nod
     → StandsAt run w node
 stands_at run w node keeps within = record {
   clock = keeps.clocks node within;
-  in_time = subst (IsInTime w.time) (deadline_is run w node) (keeps.in_time node within);
+  in_time = subst (KeepsDeadline w.time) (deadline_is run w node) (keeps.in_time node within);
   keeps = keeps.nodes node within;
   sends = keeps.sends node within;
 }
@@ -176,15 +176,15 @@ next_alarm t n round is =
 module _ (run : Run) (node : ℕ) (n : NodeState) (time since ready : ℕ) where
   abbrev InTimeAt : Phase → Type 0
   InTimeAt p =
-      IsInTime time
+      KeepsDeadline time
       (lesser (phase_last run.design.gamma (plan_of run.design node) n since p)
       (send_last run.design.gamma (plan_of run.design node) n ready))
 
   ready_last : (p : Phase) → InTimeAt p → may_send (plan_of run.design node) n ≡ true
-      → time ≤ max ready (release_alarm (plan_of run.design node) n + run.design.gamma.eps - 1)
+      → time ≤ max ready (release_reading (plan_of run.design node) n + run.design.gamma.eps - 1)
   ready_last p in_time may =
       let plan = plan_of run.design node in
-      send_in_time time (max ready (last_before (release_alarm plan n) run.design.gamma.eps))
+      send_in_time time (max ready (last_before (release_reading plan n) run.design.gamma.eps))
       (phase_last run.design.gamma plan n since p) (may_send plan n) may in_time
 
   -- what it is to send has time left

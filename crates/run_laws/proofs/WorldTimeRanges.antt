@@ -13,7 +13,7 @@ use Rattle.pals_runs.specs.declared.phase.Phase.TheVariants.{Waiting, Running, B
 use Rattle.bus_machine.specs.Plans.{plan_of, component_at, link_at}
 use Rattle.bus_machine.specs.Nodes.{NodeState, sent_rounds}
 use Rattle.bus_machine.specs.NodeEvents.{may_send}
-use Rattle.bus_machine.specs.EarliestReadings.{start_alarm, step_alarm, release_alarm}
+use Rattle.bus_machine.specs.EarliestReadings.{start_alarm, step_alarm, release_reading}
 use Rattle.bus_machine.specs.States.{node_at}
 use Rattle.bus_machine.specs.Runs.{Run}
 use Rattle.bus_machine.specs.MissedStarts.{rounds_sent_on}
@@ -79,7 +79,7 @@ module _ (run : Run) (w : World) (rules : IsRunOf run) (few : run.rounds ≤ ROU
         omega arith
 
     release_small : may_send (plan_of run.design node) here ≡ true
-        → max (ready_at w node) (last_before (release_alarm (plan_of run.design node) here)
+        → max (ready_at w node) (last_before (release_reading (plan_of run.design node) here)
         run.design.gamma.eps) ≤ READING
     release_small may =
         let plan = plan_of run.design node in

@@ -4,7 +4,7 @@ use Rattle.pals_runs.specs.declared.phase.Phase.{Phase}
 use Rattle.pals_runs.specs.declared.phase.Phase.TheVariants.{Waiting, Running, Between, Holding, Done}
 use Rattle.bus_machine.specs.Plans.{plan_of}
 use Rattle.bus_machine.specs.NodeEvents.{may_send}
-use Rattle.bus_machine.specs.EarliestReadings.{start_alarm, step_alarm, release_alarm}
+use Rattle.bus_machine.specs.EarliestReadings.{start_alarm, step_alarm, release_reading}
 use Rattle.bus_machine.specs.States.{node_at}
 use Rattle.bus_machine.specs.Runs.{Run}
 use Rattle.run_laws.specs.Worlds.{World, since_at, ready_at, flight_since}
@@ -29,7 +29,7 @@ send_deadline run w node =
     let plan = plan_of run.design node in
     let n = node_at w.bus node in
     if may_send plan n then Some
-    (max (ready_at w node) (last_before (release_alarm plan n) run.design.gamma.eps)) else None
+    (max (ready_at w node) (last_before (release_reading plan n) run.design.gamma.eps)) else None
 
 -- where there are two, the lesser counts
 abbrev pub lesser : Option ℕ → Option ℕ → Option ℕ

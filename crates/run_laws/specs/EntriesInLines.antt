@@ -6,7 +6,7 @@ use Rattle.pals_base.specs.declared.values.LinkNo.{LinkNo}
 use Rattle.pals_model.specs.declared.design.DesignParts.{DesignParts}
 use Rattle.pals_model.specs.NamesInTexts.{node_named, link_named}
 use Rattle.pals_runs.specs.declared.journal.JournalEntry.{JournalEntry}
-use Rattle.run_laws.specs.LineForms.{Form, ArriveLine, StartLine, StepLine, FinishLine, SendLine, DropLine, RepeatLine}
+use Rattle.run_laws.specs.LineForms.{LineForm, ArriveLine, StartLine, StepLine, FinishLine, SendLine, DropLine, RepeatLine}
 use Rattle.run_laws.specs.LineForms.{EarlyLine, MissedLine, form_of}
 use Rattle.pals_runs.specs.declared.journal.Stop.TheVariants as stop
 use Rattle.pals_runs.specs.declared.journal.JournalEntry.TheVariants as entry
@@ -19,7 +19,7 @@ abbrev pub of_link : DesignParts → List ℕ → (LinkNo → JournalEntry) → 
 of_link design name go = option_map (λ n. go (record { 0 = n })) (link_named design name)
 
 -- the entry that a form tells, where its name is the design's
-abbrev pub entry_of : DesignParts → Form → Option JournalEntry
+abbrev pub entry_of : DesignParts → LineForm → Option JournalEntry
 entry_of design (ArriveLine name round reading result) =
     of_link design name (λ link. entry.Arrive link round reading result)
 entry_of design (StartLine name round reading) = of_node design name (λ node. entry.Start node round reading)
@@ -33,5 +33,5 @@ entry_of design (EarlyLine name round reading) =
 entry_of design (MissedLine name round reading cause) =
     of_link design name (λ link. entry.Stopped (stop.Missed link round reading cause))
 
-abbrev pub told : DesignParts → List ℕ → Option JournalEntry
-told design line = option_and_then (entry_of design) (form_of line)
+abbrev pub entry_of_line : DesignParts → List ℕ → Option JournalEntry
+entry_of_line design line = option_and_then (entry_of design) (form_of line)

@@ -12,7 +12,7 @@ use Rattle.pals_runs.specs.declared.events_and_faults.EventFault.{EventFault}
 use Rattle.pals_runs.specs.declared.events_and_faults.EventSubject.{EventSubject}
 use Rattle.bus_machine.specs.Plans.{plan_of}
 use Rattle.bus_machine.specs.NodeEvents.{next_step}
-use Rattle.bus_machine.specs.EarliestReadings.{start_alarm, step_alarm, release_alarm}
+use Rattle.bus_machine.specs.EarliestReadings.{start_alarm, step_alarm, release_reading}
 use Rattle.bus_machine.specs.States.{node_at, flight_at}
 use Rattle.bus_machine.specs.Runs.{Run}
 use Rattle.bus_machine.specs.Machine.{BusEvent, Start, Step, Finish, Send, Arrive, is_allowed}
@@ -124,7 +124,7 @@ event_fault run w (event.Finish node) =
     (too_soon w (which.Node node) (since_at w node.0 + run.design.gamma.alpha_min))
 event_fault run w (event.Send node) =
     or_else (wrong_phase run w node (Send node None))
-    (not_due w node (release_alarm (plan_of run.design node.0) (node_at w.bus node.0)))
+    (not_due w node (release_reading (plan_of run.design node.0) (node_at w.bus node.0)))
 event_fault run w (event.Arrive link round) =
     or_else (no_message run w link round)
     (too_soon w (which.Message link round) (flight_since run w link.0 round + run.design.gamma.mu_min))

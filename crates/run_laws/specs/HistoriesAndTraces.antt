@@ -8,7 +8,7 @@ use Rattle.pals_runs.specs.declared.journal.JournalEntry.{JournalEntry}
 use Rattle.pals_runs.specs.JournalLines.{entry_line}
 use Rattle.bus_machine.specs.Plans.{plan_of, link_at}
 use Rattle.bus_machine.specs.NodeEvents.{next_step}
-use Rattle.bus_machine.specs.EarliestReadings.{start_alarm, step_alarm, release_alarm}
+use Rattle.bus_machine.specs.EarliestReadings.{start_alarm, step_alarm, release_reading}
 use Rattle.bus_machine.specs.States.{BusState, opening, node_at, flight_at, finished_by_all}
 use Rattle.bus_machine.specs.Runs.{Run}
 use Rattle.bus_machine.specs.Machine.{BusEvent, Start, Step, Finish, Send, Arrive, Drop, Repeat, IsStep}
@@ -56,7 +56,7 @@ IsInTime run journal s (Start node reading) = StartsInTime run journal s node.0 
 IsInTime run journal s (Step node reading) = StepsInTime run journal s node.0 reading
 IsInTime run journal s (Finish node) = Unit {0}
 IsInTime run journal s (Send node reading) =
-    IsRead run journal node.0 reading (release_alarm (plan_of run.design node.0) (node_at s node.0))
+    IsRead run journal node.0 reading (release_reading (plan_of run.design node.0) (node_at s node.0))
 IsInTime run journal s (Arrive link round reading) = ArrivesInTime run journal s link.0 round reading
 IsInTime run journal s (Drop link round) = ⊥
 IsInTime run journal s (Repeat link round) = ⊥

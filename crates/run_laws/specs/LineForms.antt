@@ -9,16 +9,16 @@ use Rattle.pals_runs.specs.declared.journal.Cause.{Cause}
 use Rattle.pals_runs.specs.declared.journal.Cause.TheVariants.{NotSent, InTransit, Lost}
 
 -- a line with its name as it stands; a reading may be none, as in a loose world
-pub data Form : Type 0 where
-  ArriveLine : List ℕ → ℕ → Option ℕ → Arrived → Form
-  StartLine : List ℕ → ℕ → Option ℕ → Form
-  StepLine : List ℕ → ℕ → ℕ → Option ℕ → Form
-  FinishLine : List ℕ → ℕ → Form
-  SendLine : List ℕ → ℕ → Option ℕ → Form
-  DropLine : List ℕ → ℕ → Form
-  RepeatLine : List ℕ → ℕ → Form
-  EarlyLine : List ℕ → ℕ → Option ℕ → Form
-  MissedLine : List ℕ → ℕ → Option ℕ → Cause → Form
+pub data LineForm : Type 0 where
+  ArriveLine : List ℕ → ℕ → Option ℕ → Arrived → LineForm
+  StartLine : List ℕ → ℕ → Option ℕ → LineForm
+  StepLine : List ℕ → ℕ → ℕ → Option ℕ → LineForm
+  FinishLine : List ℕ → ℕ → LineForm
+  SendLine : List ℕ → ℕ → Option ℕ → LineForm
+  DropLine : List ℕ → ℕ → LineForm
+  RepeatLine : List ℕ → ℕ → LineForm
+  EarlyLine : List ℕ → ℕ → Option ℕ → LineForm
+  MissedLine : List ℕ → ℕ → Option ℕ → Cause → LineForm
 
 -- ---- words
 abbrev pub is : List ℕ → List ℕ → Bool
@@ -55,68 +55,68 @@ cause_in word =
 
 -- ---- parts of a line
 -- a name and a round, and then what is left
-abbrev pub named : List (List ℕ) → (List ℕ → ℕ → List (List ℕ) → Option Form) → Option Form
+abbrev pub named : List (List ℕ) → (List ℕ → ℕ → List (List ℕ) → Option LineForm) → Option LineForm
 named [] go = None
 named (name ∷ []) go = None
 named (name ∷ round ∷ rest) go = option_and_then (λ r. go name r rest) (round_in round)
 
-abbrev pub at_end : Form → List (List ℕ) → Option Form
+abbrev pub at_end : LineForm → List (List ℕ) → Option LineForm
 at_end form [] = Some form
 at_end form (word ∷ rest) = None
 
 -- a reading, and then what is left
-abbrev pub read : List (List ℕ) → (Option ℕ → List (List ℕ) → Option Form) → Option Form
+abbrev pub read : List (List ℕ) → (Option ℕ → List (List ℕ) → Option LineForm) → Option LineForm
 read [] go = None
 read (word ∷ rest) go = option_and_then (λ reading. go reading rest) (reading_in word)
 
-abbrev pub with_result : List (List ℕ) → (Arrived → Form) → Option Form
+abbrev pub with_result : List (List ℕ) → (Arrived → LineForm) → Option LineForm
 with_result [] go = None
 with_result (word ∷ rest) go = option_and_then (λ result. at_end (go result) rest) (arrived_in word)
 
-abbrev pub with_cause : List (List ℕ) → (Cause → Form) → Option Form
+abbrev pub with_cause : List (List ℕ) → (Cause → LineForm) → Option LineForm
 with_cause [] go = None
 with_cause (word ∷ rest) go = option_and_then (λ cause. at_end (go cause) rest) (cause_in word)
 
-abbrev pub with_step : List ℕ → ℕ → List (List ℕ) → Option Form
+abbrev pub with_step : List ℕ → ℕ → List (List ℕ) → Option LineForm
 with_step name round [] = None
 with_step name round (step ∷ rest) =
     option_and_then (λ i. read rest (λ reading left. at_end (StepLine name round i reading) left)) (round_in step)
 
 -- ---- what follows the first word of each line
-abbrev pub arrive_line : List (List ℕ) → Option Form
+abbrev pub arrive_line : List (List ℕ) → Option LineForm
 arrive_line words =
     named words (λ name round more.
     read more (λ reading left. with_result left (λ result. ArriveLine name round reading result)))
 
-abbrev pub start_line : List (List ℕ) → Option Form
+abbrev pub start_line : List (List ℕ) → Option LineForm
 start_line words =
     named words (λ name round more. read more (λ reading left. at_end (StartLine name round reading) left))
 
-abbrev pub step_line : List (List ℕ) → Option Form
+abbrev pub step_line : List (List ℕ) → Option LineForm
 step_line words = named words with_step
 
-abbrev pub finish_line : List (List ℕ) → Option Form
+abbrev pub finish_line : List (List ℕ) → Option LineForm
 finish_line words = named words (λ name round left. at_end (FinishLine name round) left)
 
-abbrev pub send_line : List (List ℕ) → Option Form
+abbrev pub send_line : List (List ℕ) → Option LineForm
 send_line words = named words (λ name round more. read more (λ reading left. at_end (SendLine name round reading) left))
 
-abbrev pub drop_line : List (List ℕ) → Option Form
+abbrev pub drop_line : List (List ℕ) → Option LineForm
 drop_line words = named words (λ name round left. at_end (DropLine name round) left)
 
-abbrev pub repeat_line : List (List ℕ) → Option Form
+abbrev pub repeat_line : List (List ℕ) → Option LineForm
 repeat_line words = named words (λ name round left. at_end (RepeatLine name round) left)
 
-abbrev pub early_line : List (List ℕ) → Option Form
+abbrev pub early_line : List (List ℕ) → Option LineForm
 early_line words =
     named words (λ name round more. read more (λ reading left. at_end (EarlyLine name round reading) left))
 
-abbrev pub missed_line : List (List ℕ) → Option Form
+abbrev pub missed_line : List (List ℕ) → Option LineForm
 missed_line words =
     named words (λ name round more.
     read more (λ reading left. with_cause left (λ cause. MissedLine name round reading cause)))
 
-abbrev pub stop_line : List (List ℕ) → Option Form
+abbrev pub stop_line : List (List ℕ) → Option LineForm
 stop_line [] = None
 stop_line (why ∷ rest) =
     if is why (codes "early") then early_line rest
@@ -124,7 +124,7 @@ stop_line (why ∷ rest) =
     else None
 
 -- ---- lines
-abbrev pub form_of_words : List (List ℕ) → Option Form
+abbrev pub form_of_words : List (List ℕ) → Option LineForm
 form_of_words [] = None
 form_of_words (first ∷ rest) =
     if is first (codes "arrive") then arrive_line rest
@@ -144,5 +144,5 @@ is_there word = not (nat_eq (length word) 0)
 abbrev pub words_of : List ℕ → List (List ℕ)
 words_of line = slice_split (nat_eq 32) line
 
-abbrev pub form_of : List ℕ → Option Form
+abbrev pub form_of : List ℕ → Option LineForm
 form_of line = if list_all is_there (words_of line) then form_of_words (words_of line) else None

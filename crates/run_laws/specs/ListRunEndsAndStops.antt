@@ -41,7 +41,7 @@ PicksEndAt run clocks node goal =
 
 
 -- a stop of a link stands at the pick of its target for the start of this round
-pub record StandsAt (run : Run) (clocks : List ClockState) (number begins : ℕ) (reading : Option ℕ) : Type 0 where
+pub record StopsAtPick (run : Run) (clocks : List ClockState) (number begins : ℕ) (reading : Option ℕ) : Type 0 where
   pub start : ℕ
   pub reading_is : reading ≡ Some start
   pub is_pick : IsPickFor run clocks (link_at run.design number).target.0 (action.Start begins) start
@@ -51,7 +51,7 @@ pub record StandsAt (run : Run) (clocks : List ClockState) (number begins : ℕ)
 -- not sent, its source's picks end before its send
 pub record MissesInput (run : Run) (clocks : List ClockState) (number round : ℕ) (reading : Option ℕ)
     (cause : Cause) : Type 0 where
-  pub stands : StandsAt run clocks number (round + 1) reading
+  pub stands : StopsAtPick run clocks number (round + 1) reading
   pub late : IsTimely run clocks number round → ⊥
   pub not_lost : cause ≢ Lost
   pub unsent : cause ≡ NotSent → (at : ℕ)
@@ -62,7 +62,7 @@ pub record MissesInput (run : Run) (clocks : List ClockState) (number round : �
 -- that very start
 pub record ComesEarly (run : Run) (clocks : List ClockState) (begins number round : ℕ)
     (reading : Option ℕ) : Type 0 where
-  pub stands : StandsAt run clocks number begins reading
+  pub stands : StopsAtPick run clocks number begins reading
   pub not_before : begins ≤ round
   pub send : ℕ
   pub sent : IsPickFor run clocks (link_at run.design number).source.0 (action.Send round) send

@@ -5,7 +5,7 @@ use Rattle.std.specs.Prelude.{option_map, slice_get, slice_index_or, slice_set}
 use Rattle.std.specs.List.Sorted.{IsNonDecreasing}
 use Rattle.pals_base.specs.declared.values.NodeNo.{NodeNo}
 use Rattle.pals_base.specs.declared.values.LinkNo.{LinkNo}
-use Rattle.pals_base.specs.ClockPicks.{reached}
+use Rattle.pals_base.specs.ClockPicks.{remaining_from}
 use Rattle.pals_clock.specs.declared.clock.Clocks.{Clocks}
 use Rattle.pals_clock.specs.declared.clock.Clocks.TheVariants.{Meet, Lists}
 use Rattle.pals_clock.specs.ClockStates.{ClockState, standing_at}
@@ -40,7 +40,7 @@ lists_in (Lists lists) = Some (map (λ (clock : ClockState). clock.readings) lis
 
 -- what is left of a node's list at the target of an action
 abbrev pub left_for : Run → List ClockState → ℕ → NodeAction → List ℕ
-left_for run clocks node action = reached (clock_at clocks node).left (target (plan_of run.design node) action)
+left_for run clocks node action = remaining_from (clock_at clocks node).left (target (plan_of run.design node) action)
 
 -- the reading that a node waits for, or works at; none where it is done
 abbrev pub target_of : Run → BusState → ℕ → Option ℕ
@@ -132,13 +132,13 @@ pub record AreFresh (run : Run) (clocks : List ClockState) : Type 0 where
   pub each : (node : ℕ) → node < length clocks → (clock_at clocks node).left ≡ (clock_at clocks node).readings
   pub order : (node : ℕ) → node < length clocks → IsNonDecreasing (clock_at clocks node).readings
 
-abbrev pub Begin : Run → Clocks → Type 0
-Begin run Meet = Unit {0}
-Begin run (Lists clocks) = AreFresh run clocks
+abbrev pub HaveFreshClocks : Run → Clocks → Type 0
+HaveFreshClocks run Meet = Unit {0}
+HaveFreshClocks run (Lists clocks) = AreFresh run clocks
 
 -- the clocks, the journal and the state that steps leave, one after another: a pick of a list, or an event
 pub data Runs (run : Run) : Clocks → List JournalEntry → BusState → Type 0 where
-  opens : (clocks : Clocks) → Begin run clocks → Runs run clocks [] (opening run)
+  opens : (clocks : Clocks) → HaveFreshClocks run clocks → Runs run clocks [] (opening run)
   picks_for : {clocks later : List ClockState} {journal : List JournalEntry} {s : BusState} (node : ℕ)
       → Runs run (Lists clocks) journal s → Picks run clocks s node later → Runs run (Lists later) journal s
   goes_on : {clocks : Clocks} {journal : List JournalEntry} {s t : BusState} (e : BusEvent)

@@ -16,7 +16,7 @@ use Rattle.pals_runs.specs.JournalLines.{entry_line}
 use Rattle.bus_machine.specs.Plans.{plan_of, link_at}
 use Rattle.bus_machine.specs.Nodes.{round_of}
 use Rattle.bus_machine.specs.NodeEvents.{next_step}
-use Rattle.bus_machine.specs.EarliestReadings.{start_alarm, step_alarm, release_alarm}
+use Rattle.bus_machine.specs.EarliestReadings.{start_alarm, step_alarm, release_reading}
 use Rattle.bus_machine.specs.States.{BusState, node_at, flight_at}
 use Rattle.bus_machine.specs.Runs.{Run}
 use Rattle.bus_machine.specs.Machine.{BusEvent, is_allowed, arrival}
@@ -82,7 +82,7 @@ too_early run s (entry.Step node round step reading) =
     if is_before reading (step_alarm (plan_of run.design node.0) (node_at s node.0) step) then Some rule.Alarm else None
 too_early run s (entry.Finish node round) = None
 too_early run s (entry.Send node round reading) =
-    if is_before reading (release_alarm (plan_of run.design node.0) (node_at s node.0)) then Some rule.Release else None
+    if is_before reading (release_reading (plan_of run.design node.0) (node_at s node.0)) then Some rule.Release else None
 too_early run s (entry.Drop link round) = None
 too_early run s (entry.Repeat link round) = None
 too_early run s (entry.Stopped why) = stop_alarm run s why

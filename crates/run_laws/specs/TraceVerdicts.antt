@@ -15,7 +15,7 @@ use Rattle.pals_runs.specs.declared.verdicts.Verdict.{Verdict}
 use Rattle.pals_runs.specs.declared.verdicts.Verdict.TheVariants.{Sound, Wrong}
 use Rattle.bus_machine.specs.Nodes.{NodeState}
 use Rattle.run_laws.specs.LineForms.{form_of}
-use Rattle.run_laws.specs.EntriesInLines.{told}
+use Rattle.run_laws.specs.EntriesInLines.{entry_of_line}
 use Rattle.run_laws.specs.EntryEventsAndReadings.{Timed, timed, has_reading, event_of}
 use Rattle.run_laws.specs.TraceRules.{broken, is_line_of, reading_of}
 use Rattle.bus_machine.specs.States.{BusState, opening, finished_by_all}
@@ -108,8 +108,8 @@ entry_or o = unwrap_or o (entry.Drop (record { 0 = 0 }) 0)
 abbrev pub journal_verdict : Run → ℕ → ℕ → Audit → List (List ℕ) → Verdict
 journal_verdict run rows index a [] = wrong_or index (end_broken run rows a) (Sound rows a.bus.stop)
 journal_verdict run rows index a (line ∷ lines) =
-    wrong_or index (line_broken run a (told run.design line))
-    (journal_verdict run rows (index + 1) (audit_after run a (entry_or (told run.design line))) lines)
+    wrong_or index (line_broken run a (entry_of_line run.design line))
+    (journal_verdict run rows (index + 1) (audit_after run a (entry_or (entry_of_line run.design line))) lines)
 
 -- ---- the whole
 abbrev pub trace_verdict : Run → ℕ → Option ℕ → List (List ℕ) → Verdict

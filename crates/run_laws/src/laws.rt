@@ -2,7 +2,7 @@
 ghost use Rattle.run_laws.specs.proof.StopBounds.{StopsAreBounded};
 ghost use Rattle.run_laws.specs.proof.RunGuarantees.{ClausesAreKept};
 ghost use Rattle.run_laws.specs.proof.RunTermination.{EachGoesOn, EachRunEnds, EndsAreNamed, JournalsEnd};
-ghost use Rattle.run_laws.specs.proof.RisingReadings.{HourIsLeast, ReadingsRise};
+ghost use Rattle.run_laws.specs.proof.RisingReadings.{ReadingsAreBelowTargets, ReadingsRise};
 ghost use Rattle.run_laws.specs.proof.TimelyRunsAndEnds.{BoundsAreInTime, EndsAgree, NoneStops, PickedAreDone};
 ghost use Rattle.run_laws.specs.proof.StepsUnderLock.{DueArrives, EndsStay, ListEnds, ListPicks};
 ghost use Rattle.run_laws.specs.proof.RunReplay.{RunsReplay};
@@ -79,7 +79,7 @@ pub fn stops_fit()
 /// node that is not done.
 pub fn readings_rise()
     ensures lines { ReadingsRise }
-    ensures hour { HourIsLeast }
+    ensures hour { ReadingsAreBelowTargets }
 {}
 
 /// The journal of a run replays to its state, which agrees with the composition.

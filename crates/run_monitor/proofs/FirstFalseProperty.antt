@@ -11,8 +11,8 @@ use Rattle.pals_base.specs.declared.frames.Frame.{Frame}
 use Rattle.pals_base.specs.UpwardNumbers.{upwards}
 use Rattle.pals_runs.specs.Formula.{Formula}
 use Rattle.run_monitor.specs.declared.false_property.FalseProperty.{FalseProperty}
-use Rattle.run_monitor.specs.FormulaSemantics.{holds, history}
-use Rattle.run_monitor.specs.FalseProperties.{verdicts, violation_at, violation_in}
+use Rattle.run_monitor.specs.FormulaSemantics.{holds, frame_rows}
+use Rattle.run_monitor.specs.FalseProperties.{formula_values, first_false_at, first_false_in}
 use Rattle.run_monitor.specs.proof.FirstFalseProperty.{ViolatedIsFirst, OthersHold}
 
 -- ---- the place of the first that is false
@@ -74,7 +74,7 @@ said_of test (f ∷ fs) (suc k) b is = said_of test fs k b is
 -- ---- the first round
 module _ (fs : List Formula) (h : List (List Frame)) where
   abbrev violated_at : ℕ → Bool
-  violated_at round = list_any not (verdicts fs h round)
+  violated_at round = list_any not (formula_values fs h round)
 
   abbrev Holds : ℕ → Type 0
   Holds round = (k : ℕ) (f : Formula) → slice_get fs k ≡ Some f → holds f h round ≡ true
@@ -84,7 +84,7 @@ module _ (fs : List Formula) (h : List (List Frame)) where
 
   record NoRound (from count : ℕ) : Type 0 where
     all : (round : ℕ) → from ≤ round → round < from + count → Holds round
-    none : violation_in fs h (upwards from count) ≡ None
+    none : first_false_in fs h (upwards from count) ≡ None
     not_any : list_any violated_at (upwards from count) ≡ false
 
   record SomeRound (from count : ℕ) : Type 0 where
@@ -96,21 +96,21 @@ module _ (fs : List Formula) (h : List (List Frame)) where
     false_there : holds f h v.round ≡ false
     before : (r : ℕ) → from ≤ r → r < v.round → Holds r
     first : (j : ℕ) (g : Formula) → j < v.property → slice_get fs j ≡ Some g → holds g h v.round ≡ true
-    finds : violation_in fs h (upwards from count) ≡ Some v
+    finds : first_false_in fs h (upwards from count) ≡ Some v
     any : list_any violated_at (upwards from count) ≡ true
 
-  all_hold : (round : ℕ) → AllTrue 0 (verdicts fs h round) → Holds round
+  all_hold : (round : ℕ) → AllTrue 0 (formula_values fs h round) → Holds round
   all_hold round none k f is = none.each k (holds f h round) (slice_get-map_some (says round) fs k f is)
 
-  no_violation : (round : ℕ) → AllTrue 0 (verdicts fs h round) → violation_at fs h round ≡ None
+  no_violation : (round : ℕ) → AllTrue 0 (formula_values fs h round) → first_false_at fs h round ≡ None
   no_violation round none =
-      ap (option_map (λ k. record { property = k; round = round })) (position-is (verdicts fs h round) ∙ none.none)
+      ap (option_map (λ k. record { property = k; round = round })) (position-is (formula_values fs h round) ∙ none.none)
 
-  a_violation : (round : ℕ) (found : OneFalse 0 (verdicts fs h round))
-      → violation_at fs h round ≡ Some (record { property = found.at; round = round })
+  a_violation : (round : ℕ) (found : OneFalse 0 (formula_values fs h round))
+      → first_false_at fs h round ≡ Some (record { property = found.at; round = round })
   a_violation round found =
       ap (option_map (λ k. record { property = k; round = round }))
-      (position-is (verdicts fs h round) ∙ found.finds ∙ ap Some (zero-add found.at))
+      (position-is (formula_values fs h round) ∙ found.finds ∙ ap Some (zero-add found.at))
 
   from_later : (from r : ℕ) → Holds from → ((round : ℕ) → suc from ≤ round → round < r → Holds round) → (round : ℕ)
       → from ≤ round
@@ -122,9 +122,9 @@ module _ (fs : List Formula) (h : List (List Frame)) where
       ]
 
   abbrev later : ℕ → ℕ → Option FalseProperty
-  later from count = violation_in fs h (upwards (suc from) count)
+  later from count = first_false_in fs h (upwards (suc from) count)
 
-  round-by : (from count : ℕ) → AllTrue 0 (verdicts fs h from) ⊎ OneFalse 0 (verdicts fs h from)
+  round-by : (from count : ℕ) → AllTrue 0 (formula_values fs h from) ⊎ OneFalse 0 (formula_values fs h from)
       → NoRound (suc from) count ⊎ SomeRound (suc from) count
       → NoRound from (suc count) ⊎ SomeRound from (suc count)
   round-by from count (inr found) rest =
@@ -164,12 +164,12 @@ module _ (fs : List Formula) (h : List (List Frame)) where
   rounds_search : (from count : ℕ) → NoRound from count ⊎ SomeRound from count
   rounds_search from zero = inl (record { all = λ round low high. absurd (omega arith); none = refl; not_any = refl })
   rounds_search from (suc count) =
-      round-by from count (find_false 0 (verdicts fs h from)) (rounds_search (suc from) count)
+      round-by from count (find_false 0 (formula_values fs h from)) (rounds_search (suc from) count)
 
 -- ---- of a design
 pub violated_is_first : ViolatedIsFirst
 violated_is_first design env rounds fs violated =
-    elim (rounds_search fs (history design env rounds) 0 rounds) [
+    elim (rounds_search fs (frame_rows design env rounds) 0 rounds) [
       | inl none ↦ absurd (false≢true (sym none.not_any ∙ violated))
       | inr some ↦ (
         some.v,
@@ -187,7 +187,7 @@ violated_is_first design env rounds fs violated =
 
 pub others_hold : OthersHold
 others_hold design env rounds fs fine =
-    elim (rounds_search fs (history design env rounds) 0 rounds) [
+    elim (rounds_search fs (frame_rows design env rounds) 0 rounds) [
       | inl none ↦ (λ round below. none.all round (omega arith) (omega arith), none.none)
       | inr some ↦ absurd (true≢false (sym some.any ∙ fine))
     ]

@@ -9,7 +9,7 @@ use Rattle.pals_runs.specs.declared.forms.Compare.{Compare}
 use Rattle.pals_runs.specs.Formula.{Formula, Var, Halted, Not, And, Or, Previous, Once, Historically, Since}
 use Rattle.run_monitor.specs.TemporalOperators.{since}
 use Rattle.run_monitor.specs.FormulaSemantics.{frame_in, variable_in, compares, holds}
-use Rattle.run_monitor.specs.proof.BitPerFormula.{further, bits_after}
+use Rattle.run_monitor.specs.proof.BitPerFormula.{next_value, bits_after}
 use Rattle.run_monitor.specs.proof.FormulaAndHistoryLaws.{PreviousReads, OnceReads, HistoricallyReads, SinceReads}
 use Rattle.run_monitor.specs.proof.FormulaAndHistoryLaws.{PastStays, OneBitEach}
 use Rattle.run_monitor.proofs.TemporalOperators.{once-first, once-next, always-first, always-next, since-first}
@@ -87,7 +87,7 @@ one_bit_each (Historically f) (first ∷ h) row =
     ∙ sym (always-next (holds f (first ∷ h ++ row ∷ [])) (length h))
 one_bit_each (Since f g) [] row = one_bit_each g [] row ∙ sym (since-first (holds f (row ∷ [])) (holds g (row ∷ [])))
 one_bit_each (Since f g) (first ∷ h) row =
-    ap₂ (λ b p. continued b p (further (bits_after (first ∷ h)) row g)) (last_stays (Since f g) first h row)
+    ap₂ (λ b p. continued b p (next_value (bits_after (first ∷ h)) row g)) (last_stays (Since f g) first h row)
     (one_bit_each f (first ∷ h) row)
     ∙ ap (continued (since (holds f (first ∷ h ++ row ∷ [])) (holds g (first ∷ h ++ row ∷ [])) (length h))
     (holds f (first ∷ h ++ row ∷ []) (suc (length h))))

@@ -8,7 +8,7 @@ use Rattle.std.proofs.lemmas.Option.{slice_get_within, slice_get-get_or, get_or_
 use Rattle.pals_base.specs.declared.frames.Frame.{Frame}
 use Rattle.pals_runs.specs.Formula.{Formula, Var, Halted}
 use Rattle.run_monitor.specs.FormulaSemantics.{frame_in, variable_in, compares, holds}
-use Rattle.run_monitor.specs.proof.BitPerFormula.{bit_of, further, bits_after}
+use Rattle.run_monitor.specs.proof.BitPerFormula.{bit_of, next_value, bits_after}
 use Rattle.run_monitor.proofs.FormulaLaws.{one_bit_each}
 use Rattle.run_monitor.specs.declared.flat_form.FlatForm.{FlatForm}
 use Rattle.run_monitor.specs.declared.flat_form.FlatForm.TheVariants as flat
@@ -49,14 +49,14 @@ form-at es k f order is =
 seen-here : (fs : List Formula) (e : FlatForm) (row : List Frame) (node : ℕ) (frame : Frame) (before : Bool)
     → frame_in row node ≡ frame
     → reads (built fs e) node ≡ true
-    → seen_bit e node frame before ≡ further None row (built fs e)
+    → seen_bit e node frame before ≡ next_value None row (built fs e)
 seen-here fs (flat.Var of variable op number) row node frame before is read =
     ap (λ b. if b then compares op (variable_in frame variable) number else before) read
     ∙ ap (λ (x : Frame). compares op (variable_in x variable) number)
     (sym is ∙ ap (frame_in row) (sym (eqb-true of.0 node read)))
 seen-here fs (flat.Halted of) row node frame before is read =
-    ap (λ b. if b then further None (frame ∷ []) (Halted 0) else before) read
-    ∙ ap (λ (x : Frame). further None (x ∷ []) (Halted 0)) (sym is ∙ ap (frame_in row) (sym (eqb-true of.0 node read)))
+    ap (λ b. if b then next_value None (frame ∷ []) (Halted 0) else before) read
+    ∙ ap (λ (x : Frame). next_value None (x ∷ []) (Halted 0)) (sym is ∙ ap (frame_in row) (sym (eqb-true of.0 node read)))
 seen-here fs (flat.Not f) row node frame before is read = absurd (false≢true read)
 seen-here fs (flat.And f g) row node frame before is read = absurd (false≢true read)
 seen-here fs (flat.Or f g) row node frame before is read = absurd (false≢true read)
@@ -74,7 +74,7 @@ seen-other : (fs : List Formula) (e : FlatForm) (node other : ℕ) (frame : Fram
 seen-other fs (flat.Var of variable op number) node other frame before differ read =
     ap (λ b. if b then compares op (variable_in frame variable) number else before) (apart of.0 node other differ read)
 seen-other fs (flat.Halted of) node other frame before differ read =
-    ap (λ b. if b then further None (frame ∷ []) (Halted 0) else before) (apart of.0 node other differ read)
+    ap (λ b. if b then next_value None (frame ∷ []) (Halted 0) else before) (apart of.0 node other differ read)
 seen-other fs (flat.Not f) node other frame before differ read = refl
 seen-other fs (flat.And f g) node other frame before differ read = refl
 seen-other fs (flat.Or f g) node other frame before differ read = refl
@@ -96,7 +96,7 @@ sees es begun kept seen new node frame order each = record {
         each k form at.1
         ∙ seen-here (forms_of es) form row node frame (bit_at seen k) is
         (ap (λ (x : Formula). reads x node) (sym at.2) ∙ read)
-        ∙ ap (further None row) (sym at.2));
+        ∙ ap (next_value None row) (sym at.2));
   };
   others = λ row other differ before. record {
     each = λ k f is_f read.
@@ -112,7 +112,7 @@ sees es begun kept seen new node frame order each = record {
 -- the frames of all components
 seen-in_row : (fs : List Formula) (e : FlatForm) (row : List Frame) (node : ℕ) (before : Bool)
     → reads (built fs e) node ≡ true
-    → row_bit e row before ≡ further None row (built fs e)
+    → row_bit e row before ≡ next_value None row (built fs e)
 seen-in_row fs (flat.Var of variable op number) row node before read = refl
 seen-in_row fs (flat.Halted of) row node before read = refl
 seen-in_row fs (flat.Not f) row node before read = absurd (false≢true read)
@@ -135,7 +135,7 @@ sees_all es begun kept seen new row order each = record {
         let form : FlatForm = at.0 in
         each k form at.1
         ∙ seen-in_row (forms_of es) form row node (bit_at seen k) (ap (λ (x : Formula). reads x node) (sym at.2) ∙ read)
-        ∙ ap (further None row) (sym at.2));
+        ∙ ap (next_value None row) (sym at.2));
   };
 }
 
@@ -193,7 +193,7 @@ module _ (es : List FlatForm) (begun : Bool) (kept seen new : List Bool) (order 
   fs = forms_of es
 
   abbrev SaysBelow : ℕ → Type 0
-  SaysBelow n = (p : ℕ) → p < n → p < length es → bit_at new p ≡ further (bits_after h) row (formula_at fs p)
+  SaysBelow n = (p : ℕ) → p < n → p < length es → bit_at new p ≡ next_value (bits_after h) row (formula_at fs p)
 
   kept_false : (k : ℕ) → k < length es → (begun && bit_at kept k) ≡ bit_of false (bits_after h) (formula_at fs k)
   kept_false k within = kept-before fs begun kept h k stands.kept (omega (arith, within, length-forms es))
@@ -202,7 +202,7 @@ module _ (es : List FlatForm) (begun : Bool) (kept seen new : List Bool) (order 
   kept_true k within = kept-always fs begun kept h k stands.kept (omega (arith, within, length-forms es))
 
   says : (k : ℕ) (e : FlatForm) → slice_get es k ≡ Some e → k < length es → HasParts k e → SaysBelow k
-      → next_bit e k begun kept new (bit_at seen k) ≡ further (bits_after h) row (built fs e)
+      → next_bit e k begun kept new (bit_at seen k) ≡ next_value (bits_after h) row (built fs e)
   says k (flat.Var node variable op number) is within parts below =
       let seen_it = has_seen node.0 in
       seen_it.each k (Var node.0 variable op number) (formula-got es k (flat.Var node variable op number) order is)
@@ -240,7 +240,7 @@ module _ (es : List FlatForm) (begun : Bool) (kept seen new : List Bool) (order 
       each p e entry.1
       ∙ says p e entry.1 within (order.parts p e entry.1)
       (λ q under inside. says-below n q (omega (arith, under, less)) inside)
-      ∙ ap (further (bits_after h) row) (sym (form-is es p e order entry.1))
+      ∙ ap (next_value (bits_after h) row) (sym (form-is es p e order entry.1))
 
   pub says-there : (k : ℕ) → k < length es → bit_at new k ≡ holds (formula_at fs k) (h ++ row ∷ []) (length h)
   says-there k within = says-below (suc k) k (omega arith) within ∙ one_bit_each (formula_at fs k) h row

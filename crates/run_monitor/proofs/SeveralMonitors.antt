@@ -15,11 +15,11 @@ use Rattle.pals_model.specs.declared.environment.Env.{Env}
 use Rattle.pals_model.specs.Composition.{comp}
 use Rattle.pals_runs.specs.Formula.{Formula}
 use Rattle.run_monitor.specs.declared.false_property.FalseProperty.{FalseProperty}
-use Rattle.run_monitor.specs.FormulaSemantics.{holds, history}
-use Rattle.run_monitor.specs.FalseProperties.{verdicts}
+use Rattle.run_monitor.specs.FormulaSemantics.{holds, frame_rows}
+use Rattle.run_monitor.specs.FalseProperties.{formula_values}
 use Rattle.run_monitor.specs.proof.MonitorState.{MonitorState, whole, said, StandsFor, IsNew, GoesOn}
 use Rattle.run_monitor.specs.proof.SeveralMonitors.{MonitorsState, HasWatched, WatchesOn, WatchesRound, EachGoesOn}
-use Rattle.run_monitor.proofs.WatchTextGrowth.{violation-more}
+use Rattle.run_monitor.proofs.WatchTextGrowth.{first_false-more}
 use Rattle.run_monitor.proofs.HistoryGrowth.{history_goes_on, history_has_rounds}
 
 abbrev no_monitor : MonitorState
@@ -98,7 +98,7 @@ module _ (old new : List MonitorState) (fs : List Formula) (h : List (List Frame
       let on = each.each k d inside in
       on.stands h (stand k d inside)
 
-  pub all_say : map said new ≡ verdicts fs longer (length h)
+  pub all_say : map said new ≡ formula_values fs longer (length h)
   all_say =
       let test : Formula → Bool = λ f. holds f longer (length h) in
       all-same said (λ m. test (whole m)) old new each.size (λ k within.
@@ -158,22 +158,22 @@ watch_on old new round row each first fs h watched at =
             ∙ ap₂ option_or watched.first
             (ap (false_in new) at ∙ ap (at_round (length h))
             (image-position not said new.monitors ∙ ap (position not) says))
-            ∙ sym (violation-more fs h row);
+            ∙ sym (first_false-more fs h row);
       };
       says = says;
     }
 
 pub watch_round : (new : MonitorsState) (design : DesignParts) (env : Env) (fs : List Formula) (round : ℕ)
     (row : List Frame)
-    → row ≡ (comp design env (round + 1)).frames → WatchesOn new fs (history design env round) row
+    → row ≡ (comp design env (round + 1)).frames → WatchesOn new fs (frame_rows design env round) row
     → WatchesRound new design env fs round
 watch_round new design env fs round row is on =
-    let h = history design env round in
-    let next : history design env (round + 1) ≡ h ++ row ∷ [] =
-    ap (history design env) (add-one round) ∙ history_goes_on design env round
+    let h = frame_rows design env round in
+    let next : frame_rows design env (round + 1) ≡ h ++ row ∷ [] =
+    ap (frame_rows design env) (add-one round) ∙ history_goes_on design env round
     ∙ ap (λ n. h ++ (comp design env n).frames ∷ []) (sym (add-one round))
     ∙ ap (λ (r : List Frame). h ++ r ∷ []) (sym is) in
     record {
       watched = subst (HasWatched new fs) (sym next) on.watched;
-      says = on.says ∙ ap₂ (verdicts fs) (sym next) (history_has_rounds design env round);
+      says = on.says ∙ ap₂ (formula_values fs) (sym next) (history_has_rounds design env round);
     }

@@ -9,14 +9,14 @@ use Rattle.pals_base.proofs.UpwardNumbers.{upwards-more}
 use Rattle.pals_model.specs.Composition.{comp}
 use Rattle.pals_model.specs.RoundTexts.{line_end, text_of, round_line}
 use Rattle.pals_runs.specs.Formula.{Formula}
-use Rattle.run_monitor.specs.FormulaSemantics.{holds, history}
+use Rattle.run_monitor.specs.FormulaSemantics.{holds, frame_rows}
 use Rattle.run_monitor.specs.WatchText.{verdict_line, watched_lines}
 use Rattle.run_monitor.specs.proof.FrameRowGrowth.{RowsGoOn}
 use Rattle.run_monitor.proofs.FormulaLaws.{past_stays}
 use Rattle.run_monitor.proofs.HistoryGrowth.{history_goes_on, history_has_rounds}
 use Rattle.std.specs.Option.{option_or}
 use Rattle.list_lemmas.proofs.Options.{option_or-none}
-use Rattle.run_monitor.specs.FalseProperties.{verdicts, violation_at, violation_in, violation}
+use Rattle.run_monitor.specs.FalseProperties.{formula_values, first_false_at, first_false_in, first_false}
 use Rattle.run_monitor.proofs.FirstFalseProperty.{or_assoc, violation_of}
 
 lines-stay : (properties : List (List ℕ × Formula)) (h more : List (List Frame)) (round : ℕ) → round < length h
@@ -38,8 +38,8 @@ rows-stay properties h more from (suc count) within =
 
 pub rows_go_on : RowsGoOn
 rows_go_on design env rounds properties =
-    let before = history design env rounds in
-    let after = history design env (suc rounds) in
+    let before = frame_rows design env rounds in
+    let after = frame_rows design env (suc rounds) in
     let row : List Frame = (comp design env (suc rounds)).frames in
     let size = history_has_rounds design env rounds in
     ap (λ ns. text_of (flat_map (watched_lines properties after) ns))
@@ -52,38 +52,38 @@ rows_go_on design env rounds properties =
     ∙ rows-stay properties before (row ∷ []) 0 rounds (omega (arith, size)))
     (append-nil (watched_lines properties after rounds))
 
-pub verdicts-stay : (fs : List Formula) (h more : List (List Frame)) (round : ℕ) → round < length h
-    → verdicts fs (h ++ more) round ≡ verdicts fs h round
-verdicts-stay [] h more round within = refl
-verdicts-stay (f ∷ fs) h more round within =
-    ap₂ (λ b bs. b ∷ bs) (past_stays f h more round within) (verdicts-stay fs h more round within)
+pub formula_values-stay : (fs : List Formula) (h more : List (List Frame)) (round : ℕ) → round < length h
+    → formula_values fs (h ++ more) round ≡ formula_values fs h round
+formula_values-stay [] h more round within = refl
+formula_values-stay (f ∷ fs) h more round within =
+    ap₂ (λ b bs. b ∷ bs) (past_stays f h more round within) (formula_values-stay fs h more round within)
 
 
-violations-stay : (fs : List Formula) (h more : List (List Frame)) (from count : ℕ) → from + count ≤ length h
-    → violation_in fs (h ++ more) (upwards from count) ≡ violation_in fs h (upwards from count)
-violations-stay fs h more from zero within = refl
-violations-stay fs h more from (suc count) within =
-    ap₂ option_or (ap (violation_of from) (verdicts-stay fs h more from (omega arith)))
-    (violations-stay fs h more (suc from) count (omega arith))
+first_false_in-stay : (fs : List Formula) (h more : List (List Frame)) (from count : ℕ) → from + count ≤ length h
+    → first_false_in fs (h ++ more) (upwards from count) ≡ first_false_in fs h (upwards from count)
+first_false_in-stay fs h more from zero within = refl
+first_false_in-stay fs h more from (suc count) within =
+    ap₂ option_or (ap (violation_of from) (formula_values-stay fs h more from (omega arith)))
+    (first_false_in-stay fs h more (suc from) count (omega arith))
 
 
-violation-append : (fs : List Formula) (h : List (List Frame)) (xs ys : List ℕ)
-    → violation_in fs h (xs ++ ys) ≡ option_or (violation_in fs h xs) (violation_in fs h ys)
-violation-append fs h [] ys = refl
-violation-append fs h (x ∷ xs) ys =
-    ap (option_or (violation_at fs h x)) (violation-append fs h xs ys)
-    ∙ or_assoc (violation_at fs h x) (violation_in fs h xs) (violation_in fs h ys)
+first_false-append : (fs : List Formula) (h : List (List Frame)) (xs ys : List ℕ)
+    → first_false_in fs h (xs ++ ys) ≡ option_or (first_false_in fs h xs) (first_false_in fs h ys)
+first_false-append fs h [] ys = refl
+first_false-append fs h (x ∷ xs) ys =
+    ap (option_or (first_false_at fs h x)) (first_false-append fs h xs ys)
+    ∙ or_assoc (first_false_at fs h x) (first_false_in fs h xs) (first_false_in fs h ys)
 
 
-pub violation-more : (fs : List Formula) (h : List (List Frame)) (row : List Frame)
-    → violation fs (h ++ row ∷ []) (length (h ++ row ∷ []))
-    ≡ option_or (violation fs h (length h)) (violation_at fs (h ++ row ∷ []) (length h))
-violation-more fs h row =
+pub first_false-more : (fs : List Formula) (h : List (List Frame)) (row : List Frame)
+    → first_false fs (h ++ row ∷ []) (length (h ++ row ∷ []))
+    ≡ option_or (first_false fs h (length h)) (first_false_at fs (h ++ row ∷ []) (length h))
+first_false-more fs h row =
     let longer = h ++ row ∷ [] in
     let size : length longer ≡ suc (length h) = length-append h (row ∷ []) ∙ omega arith in
-    ap (violation fs longer) size
-    ∙ ap (violation_in fs longer)
+    ap (first_false fs longer) size
+    ∙ ap (first_false_in fs longer)
     (upwards-more 0 (length h) ∙ ap (λ k. upwards 0 (length h) ++ k ∷ []) (zero-add (length h)))
-    ∙ violation-append fs longer (upwards 0 (length h)) (length h ∷ [])
-    ∙ ap₂ option_or (violations-stay fs h (row ∷ []) 0 (length h) (omega arith))
-    (option_or-none (violation_at fs longer (length h)))
+    ∙ first_false-append fs longer (upwards 0 (length h)) (length h ∷ [])
+    ∙ ap₂ option_or (first_false_in-stay fs h (row ∷ []) 0 (length h) (omega arith))
+    (option_or-none (first_false_at fs longer (length h)))

@@ -42,5 +42,5 @@ holds (Historically f) h n = always (holds f h) n
 holds (Since f g) h n = since (holds f h) (holds g h) n
 
 -- the frames of all components after each of the first rounds
-abbrev pub history : DesignParts → Env → ℕ → List (List Frame)
-history design env rounds = map (λ round. (comp design env (suc round)).frames) (upwards 0 rounds)
+abbrev pub frame_rows : DesignParts → Env → ℕ → List (List Frame)
+frame_rows design env rounds = map (λ round. (comp design env (suc round)).frames) (upwards 0 rounds)

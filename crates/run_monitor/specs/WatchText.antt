@@ -8,8 +8,8 @@ use Rattle.pals_model.specs.declared.environment.Env.{Env}
 use Rattle.pals_model.specs.RoundTexts.{text_of, round_line}
 use Rattle.pals_runs.specs.Formula.{Formula}
 use Rattle.run_monitor.specs.declared.false_property.FalseProperty.{FalseProperty}
-use Rattle.run_monitor.specs.FormulaSemantics.{holds, history}
-use Rattle.run_monitor.specs.FalseProperties.{violation}
+use Rattle.run_monitor.specs.FormulaSemantics.{holds, frame_rows}
+use Rattle.run_monitor.specs.FalseProperties.{first_false}
 
 -- a property is a name and its formula; they come in byte order of their names
 abbrev pub names_of : List (List ℕ × Formula) → List (List ℕ)
@@ -30,9 +30,9 @@ abbrev pub watched_lines : List (List ℕ × Formula) → List (List Frame) → 
 watched_lines properties h round = round_line round ∷ map (λ p. verdict_line p.0 (holds p.1 h round)) properties
 
 -- ---- the last line
-abbrev pub violation_text : List (List ℕ) → Option FalseProperty → List ℕ
-violation_text names None = codes "none"
-violation_text names (Some v) = slice_index_or names v.property [] ++ codes " " ++ decimal v.round
+abbrev pub first_false_text : List (List ℕ) → Option FalseProperty → List ℕ
+first_false_text names None = codes "none"
+first_false_text names (Some v) = slice_index_or names v.property [] ++ codes " " ++ decimal v.round
 
 abbrev pub last_line : ℕ → List ℕ → List ℕ
 last_line rounds first = codes "watch rounds " ++ decimal rounds ++ codes " first " ++ first
@@ -41,10 +41,10 @@ last_line rounds first = codes "watch rounds " ++ decimal rounds ++ codes " firs
 -- the rows of the first rounds
 abbrev pub watched_rows : DesignParts → Env → ℕ → List (List ℕ × Formula) → List ℕ
 watched_rows design env rounds properties =
-    text_of (flat_map (watched_lines properties (history design env rounds)) (upwards 0 rounds))
+    text_of (flat_map (watched_lines properties (frame_rows design env rounds)) (upwards 0 rounds))
 
 abbrev pub watch_text : DesignParts → Env → ℕ → List (List ℕ × Formula) → List ℕ
 watch_text design env rounds properties =
-    let first = violation (formulas_of properties) (history design env rounds) rounds in
+    let first = first_false (formulas_of properties) (frame_rows design env rounds) rounds in
     watched_rows design env rounds properties
-    ++ text_of (last_line rounds (violation_text (names_of properties) first) ∷ [])
+    ++ text_of (last_line rounds (first_false_text (names_of properties) first) ∷ [])

@@ -8,7 +8,7 @@ ghost use Rattle.pals_model.specs.Composition.{comp};
 ghost use Rattle.pals_runs.specs.Formula.{Formula};
 ghost use Rattle.pals_runs.specs.proof.FormulasOfForms.{formula_of};
 ghost use Rattle.run_monitor.specs.proof.FormBits.{row_of};
-ghost use Rattle.run_monitor.specs.FormulaSemantics.{history};
+ghost use Rattle.run_monitor.specs.FormulaSemantics.{frame_rows};
 ghost use Rattle.run_monitor.specs.proof.MonitorState.{said, GoesOn};
 ghost use Rattle.run_monitor.specs.proof.SeveralMonitors.{said_by, EachGoesOn, HasWatched, WatchesOn, WatchesRound};
 
@@ -67,7 +67,7 @@ impl Monitors {
             → WatchesOn self.new fs h (row_of parts.now) }
         // over the rounds of a design
         ensures composed { (design : DesignParts) (env : Env) (fs : List Formula)
-            → HasWatched self.old fs (history design env round)
+            → HasWatched self.old fs (frame_rows design env round)
             → row_of parts.now ≡ (comp design env (round + 1)).frames → WatchesRound self.new design env fs round }
     {
         advance_each(&mut self.monitors, parts);

@@ -25,7 +25,7 @@ use Rattle.scenario_values.specs.NameLookup.{node_at, link_at, root_at}
 use Rattle.scenario_json.specs.InputsAndDelays.{value_list, with_input, inputs_in, with_delay, delay_list}
 use Rattle.scenario_json.specs.InputsAndDelays.{with_link_delays, delays_in}
 use Rattle.scenario_json.specs.Clocks.{last_of, with_reading, reading_list, with_clock, clock_lists, is_meet, clocks_in}
-use Rattle.scenario_json.specs.proof.InputsDelaysAndClocks.{AreInputsOf, IsDelayList, AreDelaysOf, IsOpening}
+use Rattle.scenario_json.specs.proof.InputsDelaysAndClocks.{AreInputsOf, IsDelayList, AreDelaysOf, IsUnpickedClock}
 use Rattle.scenario_json.specs.proof.InputsDelaysAndClocks.{AreClocksOf, AreClocksFor}
 use Rattle.scenario_json.proofs.NonDecreasingReadings.{order_push}
 
@@ -161,7 +161,7 @@ readings_keep place d readings e =
     let items = ok_bind (short_list place LIST_ITEMS d) (λ ds. through (with_reading place) [] ds) readings e in
     through_keeps AreReadings (with_reading place) (reading_keeps place) [] items.0 readings no_readings items.2
 
-opening : (readings : List ℕ) → AreReadings readings → IsOpening (unpicked readings)
+opening : (readings : List ℕ) → AreReadings readings → IsUnpickedClock (unpicked readings)
 opening readings keeps = record { unpicked_yet = refl; within = keeps.within; order = keeps.order }
 
 clock_keeps : (design : DesignParts) (clocks : List ClockState) (entry : List ℕ × Data) (more : List ClockState)
@@ -178,7 +178,7 @@ clock_keeps design clocks entry more keeps e =
     subst (AreClocksOf design) (ok_same (slice_set clocks node.0 (unpicked readings.0)) more readings.2) (record {
       components = length-set clocks node.0 (unpicked readings.0) ∙ keeps.components;
       each =
-          All-set IsOpening clocks node.0 (unpicked readings.0)
+          All-set IsUnpickedClock clocks node.0 (unpicked readings.0)
           (opening readings.0 (readings_keep place entry.1 readings.0 readings.1)) keeps.each;
     })
 
@@ -193,7 +193,7 @@ lists_keep design d clocks e =
     let lists = ok_bind (through (with_clock design) first members.0) (λ lists. Ok (Lists lists)) clocks members.2 in
     let empty : AreClocksOf design first = record {
       components = grind (arith, common_steps);
-      each = All-replicate IsOpening (length design.components) (unpicked []) (opening [] no_readings);
+      each = All-replicate IsUnpickedClock (length design.components) (unpicked []) (opening [] no_readings);
     } in
     subst (AreClocksFor design) (ok_same (Lists lists.0) clocks lists.2)
     (through_keeps (AreClocksOf design) (with_clock design) (clock_keeps design) first members.0 lists.0

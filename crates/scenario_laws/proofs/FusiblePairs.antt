@@ -20,7 +20,7 @@ use Rattle.scenario_values.specs.FieldValues.{entries, text}
 use Rattle.scenario_values.proofs.SuccessfulResults.{ok_same, ok_bind, ok_given, ok_only_if}
 use Rattle.scenario_values.specs.NameLookup.{node_at}
 use Rattle.analysis_fields.specs.declared.plants.NamedPair.{NamedPair}
-use Rattle.analysis_fields.specs.Plants.{pair, named_in, shares, is_between, are_equals, is_alone, is_sound, pair_in}
+use Rattle.analysis_fields.specs.Plants.{pair, named_in, shares, is_between, are_equals, is_alone, is_fusible, pair_in}
 use Rattle.analysis_fields.specs.Plants.{with_pair, plants_in}
 use Rattle.analysis_fields.proofs.ProcessorFacts.{node_within}
 use Rattle.plant_fuse.specs.FusedComposition.{IsPair, AreApart, ArePairs}
@@ -138,8 +138,8 @@ text_is place d path e = ok_given (WrongKind place) (as_str d) path e
 
 sound_is : (design : DesignParts) (all : List NamedPair) (p : Pair) → p.plant.0 < length design.components
     → p.controller.0 < length design.components
-    → is_sound design all p ≡ true → IsRead design all p
-unfolding is_sound
+    → is_fusible design all p ≡ true → IsRead design all p
+unfolding is_fusible
 sound_is design all p plant controller sound =
     let first = and_parts (are_equals design p && is_alone all p) (list_all (is_between p) design.links) sound in
     let second = and_parts (are_equals design p) (is_alone all p) first.0 in
@@ -174,15 +174,15 @@ entry_read design all entry p e =
     let plant =
     ok_bind (node_at place design entry.0)
     (λ plant. text place entry.1 >>= λ path. node_at place design path >>= λ controller.
-    only_if (is_sound design all (pair plant controller)) (OutOfRange place) (Ok (pair plant controller))) p e in
+    only_if (is_fusible design all (pair plant controller)) (OutOfRange place) (Ok (pair plant controller))) p e in
     let path = ok_bind (text place entry.1) (λ path. node_at place design path >>= λ controller.
-    only_if (is_sound design all (pair plant.0 controller)) (OutOfRange place) (Ok (pair plant.0 controller)))
+    only_if (is_fusible design all (pair plant.0 controller)) (OutOfRange place) (Ok (pair plant.0 controller)))
     p plant.2 in
     let controller = ok_bind (node_at place design path.0) (λ controller.
-    only_if (is_sound design all (pair plant.0 controller)) (OutOfRange place)
+    only_if (is_fusible design all (pair plant.0 controller)) (OutOfRange place)
     (Ok (pair plant.0 controller))) p path.2 in
     let made = pair plant.0 controller.0 in
-    let passed = ok_only_if (is_sound design all made) (OutOfRange place) (Ok made) p controller.2 in
+    let passed = ok_only_if (is_fusible design all made) (OutOfRange place) (Ok made) p controller.2 in
     let controller_is =
     ap (option_and_then (node_named design)) (text_is place entry.1 path.0 path.1)
     ∙ named_is place design path.0 controller.0 controller.1 in

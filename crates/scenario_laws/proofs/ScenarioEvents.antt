@@ -26,7 +26,7 @@ use Rattle.scenario_json.specs.Events.{word_of, is_usual, node_part, link_parts,
 use Rattle.scenario_json.specs.Events.{event_in, with_event, events_in}
 use Rattle.analysis_fields.proofs.ProcessorFacts.{node_within}
 use Rattle.loose_world.specs.LooseRuns.{IsLooseIn}
-use Rattle.scenario_laws.specs.proof.LooseEvents.{loosely, AreLooseEvents}
+use Rattle.scenario_laws.specs.proof.LooseEvents.{loose_world_command, AreLooseEvents}
 use Rattle.scenario_laws.proofs.NamesInDesign.{link_below}
 
 -- ---- nodes and links
@@ -80,7 +80,7 @@ by_link design place ds make e loose is =
     (loose link.0.0 link.0.1 (link_parts_below design place ds link.0 link.1))
 
 word_loose : (design : DesignParts) (root place : List ℕ) (word : EventWord) (ds : List Data) (e : Event)
-    → is_usual (loosely root) word ≡ true → event_of design place word ds ≡ Ok e → IsLooseIn design e
+    → is_usual (loose_world_command root) word ≡ true → event_of design place word ds ≡ Ok e → IsLooseIn design e
 unfolding event_of
 word_loose design root place Pass ds e usual is = absurd (cc)
 word_loose design root place Start ds e usual is =
@@ -112,17 +112,17 @@ usual_is command place d word e =
     subst (λ w. is_usual command w ≡ true) (ok_same known.0 word passed.1) passed.0
 
 parts_loose : (design : DesignParts) (root place : List ℕ) (ds : List Data) (e : Event)
-    → event_from design (loosely root) place ds ≡ Ok e → IsLooseIn design e
+    → event_from design (loose_world_command root) place ds ≡ Ok e → IsLooseIn design e
 parts_loose design root place [] e is = absurd (cc)
 parts_loose design root place (d ∷ ds) e is =
-    let word = ok_bind (usual_word (loosely root) place d) (λ word. event_of design place word ds) e is in
-    word_loose design root place word.0 ds e (usual_is (loosely root) place d word.0 word.1) word.2
+    let word = ok_bind (usual_word (loose_world_command root) place d) (λ word. event_of design place word ds) e is in
+    word_loose design root place word.0 ds e (usual_is (loose_world_command root) place d word.0 word.1) word.2
 
 event_loose : (design : DesignParts) (root place : List ℕ) (d : Data) (e : Event)
-    → event_in design (loosely root) place d ≡ Ok e → IsLooseIn design e
+    → event_in design (loose_world_command root) place d ≡ Ok e → IsLooseIn design e
 unfolding event_in
 event_loose design root place d e is =
-    let parts = ok_bind (elements place d) (λ ds. event_from design (loosely root) place ds) e is in
+    let parts = ok_bind (elements place d) (λ ds. event_from design (loose_world_command root) place ds) e is in
     parts_loose design root place parts.0 e parts.2
 
 -- ---- lists of events
@@ -181,7 +181,7 @@ events_few design command d events read =
     (events_keep design command (λ _. Unit {0}) (λ place d e is. tt) d events read).1
 
 pub events_loose : (design : DesignParts) (root : List ℕ) (d : Data) (events : List Event)
-    → events_in design (loosely root) d ≡ Ok events → AreLooseEvents design events
+    → events_in design (loose_world_command root) d ≡ Ok events → AreLooseEvents design events
 events_loose design root d events read =
-    let kept = events_keep design (loosely root) (IsLooseIn design) (event_loose design root) d events read in
+    let kept = events_keep design (loose_world_command root) (IsLooseIn design) (event_loose design root) d events read in
     record { each = kept.0; few = kept.1 }

@@ -24,31 +24,31 @@ use Rattle.scenario_json.specs.declared.scenario.Scenario.{Scenario}
 use Rattle.scenario_json.specs.Scenarios.{only_known, field, needs_events, needs_trace, needs_properties}
 use Rattle.scenario_json.specs.Scenarios.{needs_processors, rounds_in, fields_in, scen}
 use Rattle.scenario_laws.specs.proof.ScenarioOrFault.{HasScenario, HasFault}
-use Rattle.scenario_laws.proofs.FaultsBesidesMemory.{IsNamed, ok, strange, lacking, big, bind, only}
+use Rattle.scenario_laws.proofs.FaultsBesidesMemory.{IsNotMemory, ok, strange, lacking, big, bind, only}
 use Rattle.scenario_laws.proofs.ValueFaults.{entries_named, whole_named}
 use Rattle.scenario_laws.proofs.RunFieldFaults.{inputs_named, delays_named, trace_named, clocks_named, events_named}
 use Rattle.scenario_laws.proofs.AnalysisFieldFaults.{properties_named, replicas_named, faults_named, plants_named}
 use Rattle.scenario_laws.proofs.AnalysisFieldFaults.{processors_named}
 
 by_need : {A : Type 0} (name : List ℕ) (needed : Bool) (otherwise : A) (read : Data → Result A ScenarioFault)
-    → IsNamed (field name needed otherwise read None)
+    → IsNotMemory (field name needed otherwise read None)
 by_need name true otherwise read = lacking
 by_need name false otherwise read = ok
 
 field_named : {A : Type 0} (name : List ℕ) (needed : Bool) (otherwise : A) (read : Data → Result A ScenarioFault)
-    → ((d : Data) → IsNamed (read d))
-    → (o : Option Data) → IsNamed (field name needed otherwise read o)
+    → ((d : Data) → IsNotMemory (read d))
+    → (o : Option Data) → IsNotMemory (field name needed otherwise read o)
 field_named name needed otherwise read n None = by_need name needed otherwise read
 field_named name needed otherwise read n (Some d) = n d
 
-rounds_named : (design : DesignParts) (d : Data) → IsNamed (rounds_in design d)
+rounds_named : (design : DesignParts) (d : Data) → IsNotMemory (rounds_in design d)
 unfolding rounds_in
 rounds_named design d =
     bind _ _ (field_named (codes "rounds") true 0 (whole (codes "rounds") 1 ROUNDS)
     (whole_named (codes "rounds") 1 ROUNDS) (get (codes "rounds") d))
     (λ rounds. only _ _ _ big ok)
 
-fields_named : (d : Data) (design : DesignParts) (command : Command) → IsNamed (fields_in d design command)
+fields_named : (d : Data) (design : DesignParts) (command : Command) → IsNotMemory (fields_in d design command)
 unfolding fields_in
 fields_named d design command =
     bind _ _ (rounds_named design d) (λ rounds.
@@ -74,12 +74,12 @@ fields_named d design command =
     (processors_named design) (get (codes "processors") d)) (λ processors.
     ok)))))))))))
 
-known_named : {A : Type 0} (o : Option (List ℕ × Data)) (next : Result A ScenarioFault) → IsNamed next
-    → IsNamed (only_known o next)
+known_named : {A : Type 0} (o : Option (List ℕ × Data)) (next : Result A ScenarioFault) → IsNotMemory next
+    → IsNotMemory (only_known o next)
 known_named None next n = n
 known_named (Some entry) next n = strange
 
-scen_named : (d : Data) (design : DesignParts) (command : Command) → IsNamed (scen d design command)
+scen_named : (d : Data) (design : DesignParts) (command : Command) → IsNotMemory (scen d design command)
 unfolding scen
 scen_named d design command =
     bind _ _ (entries_named (codes "scenario") d)
@@ -87,7 +87,7 @@ scen_named d design command =
 
 -- ---- bytes
 by_meaning : (bytes : List ℕ) (design : DesignParts) (command : Command) (d : Data) → IsUtf8 bytes → read bytes ≡ Some d
-    → (r : Result Scenario ScenarioFault) → scen d design command ≡ r → IsNamed r
+    → (r : Result Scenario ScenarioFault) → scen d design command ≡ r → IsNotMemory r
     → HasScenario bytes design command ⊎ HasFault bytes design command
 by_meaning bytes design command d utf8 value (Ok s) e n = inl (s, inl (d, (utf8, value), e))
 by_meaning bytes design command d utf8 value (Err fault) e n =

@@ -16,7 +16,7 @@ use Rattle.scenario_json.specs.Scenarios.{needs_events, needs_trace, Means}
 use Rattle.scenario_json.proofs.ScenarioValidity.{answer_keeps}
 use Rattle.plant_fuse.specs.FusedComposition.{ArePairs}
 use Rattle.plant_fuse.proofs.EquationsWithoutPairs.{no_pairs}
-use Rattle.scenario_laws.specs.proof.LooseEvents.{loosely, AreLooseEvents}
+use Rattle.scenario_laws.specs.proof.LooseEvents.{loose_world_command, AreLooseEvents}
 use Rattle.scenario_laws.proofs.SuccessfulFields.{field_keeps, means_fields, means_read}
 use Rattle.scenario_laws.proofs.ScenarioEvents.{events_few, events_loose}
 use Rattle.scenario_laws.proofs.TraceLineLimit.{trace_few}
@@ -41,11 +41,11 @@ traces_are_few bytes command design s means =
     (λ free. omega arith) trace_few s.trace read.1.trace
 
 pub events_are_loose : (bytes root : List ℕ) (design : DesignParts) (s : Scenario)
-    → Means bytes design (loosely root) (Ok s)
+    → Means bytes design (loose_world_command root) (Ok s)
     → AreLooseEvents design s.events
 events_are_loose bytes root design s means =
-    let read = means_read bytes design (loosely root) s means in
-    field_keeps (codes "events") true [] (events_in design (loosely root)) (get (codes "events") read.0)
+    let read = means_read bytes design (loose_world_command root) s means in
+    field_keeps (codes "events") true [] (events_in design (loose_world_command root)) (get (codes "events") read.0)
     (AreLooseEvents design)
     (λ free. absurd (false≢true (sym free))) (events_loose design root) s.events read.1.events
 

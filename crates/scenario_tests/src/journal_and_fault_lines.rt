@@ -139,14 +139,14 @@ const REFUSED_EVENTS: [(u32, EventFault); 13] = [
     (
         0,
         EventFault::PastDeadline {
-            which: EventSubject::Node(A),
+            subject: EventSubject::Node(A),
             last: 9_999_999,
         },
     ),
     (
         4_294_967_295,
         EventFault::PastDeadline {
-            which: EventSubject::Message(TO_B, 3),
+            subject: EventSubject::Message(TO_B, 3),
             last: 5,
         },
     ),
@@ -169,14 +169,14 @@ const REFUSED_EVENTS: [(u32, EventFault); 13] = [
     (
         7,
         EventFault::TooSoon {
-            which: EventSubject::Message(TO_B, 0),
+            subject: EventSubject::Message(TO_B, 0),
             earliest: 10_000_001,
         },
     ),
     (
         8,
         EventFault::TooSoon {
-            which: EventSubject::Node(B),
+            subject: EventSubject::Node(B),
             earliest: 1,
         },
     ),

@@ -13,7 +13,7 @@ use Rattle.step_code.specs.declared.instr.CodeParts.{CodeParts}
 use Rattle.step_code.specs.declared.loops.LoopSpan.{LoopSpan}
 use Rattle.step_code.specs.Loops.{turns_of, around}
 use Rattle.step_code.specs.proof.InnermostLoops.{first, innermost}
-use Rattle.step_code.specs.PathWeights.{onward, leads, product, greatest, weight_at, heaviest, entry_weight, weight}
+use Rattle.step_code.specs.PathWeights.{forward_successors, forward_successors_at, product, greatest, weight_at, heaviest, entry_weight, weight}
 use Rattle.step_code.specs.proof.StackHeights.{Member}
 use Rattle.step_code.specs.proof.VerifierRules.{IsVerified}
 use Rattle.step_code.specs.CappedWeights.{capped, AreBest}
@@ -30,30 +30,30 @@ map_same f g (t ∷ ts) same =
     ap (λ x. x ∷ map f ts) (same t (inl refl)) ∙ ap (λ xs. g t ∷ xs) (map_same f g ts (λ u among. same u (inr among)))
 
 -- each instruction leads to later places
-pub record GoesOn (code : List Instr) : Type 0 where
-  pub there : (p : ℕ) (t : ℕ) → Member (leads code p) t → t < length code
-  pub later : (p : ℕ) (t : ℕ) → Member (leads code p) t → p < t
+pub record LeadsForward (code : List Instr) : Type 0 where
+  pub there : (p : ℕ) (t : ℕ) → Member (forward_successors_at code p) t → t < length code
+  pub later : (p : ℕ) (t : ℕ) → Member (forward_successors_at code p) t → p < t
 
-lead_by : (c : CodeParts) (p t : ℕ) (o : Option Instr) → IsVerified c → slice_get c.instrs p ≡ o → Member (onward p o) t
+lead_by : (c : CodeParts) (p t : ℕ) (o : Option Instr) → IsVerified c → slice_get c.instrs p ≡ o → Member (forward_successors p o) t
     → (t < length c.instrs) × (p < t)
 lead_by c p t None v is among = absurd among
 lead_by c p t (Some i) v is among = let known = verified_known c p i v is in
     ((known_there c p i known).each t among, (known_later c p i known).each t among)
 
-pub goes_on : (c : CodeParts) → IsVerified c → GoesOn c.instrs
-goes_on c v = record {
+pub leads_forward : (c : CodeParts) → IsVerified c → LeadsForward c.instrs
+leads_forward c v = record {
   there = λ p t among. (lead_by c p t (slice_get c.instrs p) v refl among).0;
   later = λ p t among. (lead_by c p t (slice_get c.instrs p) v refl among).1;
 }
 
 -- more instructions than there are places change nothing
-pub same_fuel : (code : List Instr) (m n p : ℕ) → GoesOn code → p < length code → length code - p ≤ m
+pub same_fuel : (code : List Instr) (m n p : ℕ) → LeadsForward code → p < length code → length code - p ≤ m
     → length code - p ≤ n → heaviest code m p ≡ heaviest code n p
 same_fuel code zero n p on within le le' = absurd (omega arith)
 same_fuel code (suc m) zero p on within le le' = absurd (omega arith)
 same_fuel code (suc m) (suc n) p on within le le' =
     ap (λ ts. weight_at code p + greatest ts)
-    (map_same (heaviest code m) (heaviest code n) (leads code p) (λ t among.
+    (map_same (heaviest code m) (heaviest code n) (forward_successors_at code p) (λ t among.
     let there = on.there p t among in
     let later = on.later p t among in
     same_fuel code m n t on there (omega arith) (omega arith)))
@@ -131,29 +131,29 @@ greatest_both f xs ys = ap greatest (map-append f xs ys) ∙ greatest-append (ma
 
 pub best_here : (c : CodeParts) (p : ℕ) (i : Instr) (best : List ℕ) (d : ℕ) → IsVerified c
     → slice_get c.instrs p ≡ Some i → p < length c.instrs → AreBest c.instrs (p + 1) best
-    → capped (capped (weight_at c.instrs p) + greatest (map (λ to. slice_index_or best to d) (onward p (Some i))))
+    → capped (capped (weight_at c.instrs p) + greatest (map (λ to. slice_index_or best to d) (forward_successors p (Some i))))
     ≡ capped (heaviest c.instrs (length c.instrs - p) p)
 best_here c p i best d v here within are =
-    let on = goes_on c v in
+    let on = leads_forward c v in
     let code = c.instrs in
     let m = length code - p - 1 in
     let fuel : length code - p ≡ suc m = omega arith in
-    let ways : leads code p ≡ onward p (Some i) = ap (onward p) here in
-    let each : map (λ to. slice_index_or best to d) (onward p (Some i))
-    ≡ map (λ to. capped (heaviest code m to)) (onward p (Some i)) =
-    map_same (λ to. slice_index_or best to d) (λ to. capped (heaviest code m to)) (onward p (Some i)) (λ t among.
+    let ways : forward_successors_at code p ≡ forward_successors p (Some i) = ap (forward_successors p) here in
+    let each : map (λ to. slice_index_or best to d) (forward_successors p (Some i))
+    ≡ map (λ to. capped (heaviest code m to)) (forward_successors p (Some i)) =
+    map_same (λ to. slice_index_or best to d) (λ to. capped (heaviest code m to)) (forward_successors p (Some i)) (λ t among.
     let among' = subst (λ ts. Member ts t) (sym ways) among in
     let there = on.there p t among' in
     let later = on.later p t among' in
     get_or_from_slice_get best t (capped (heaviest code (length code - t) t)) d (are.each t (omega arith) there)
     ∙ ap capped (same_fuel code (length code - t) m t on there (omega arith) (omega arith))) in
-    let all : greatest (map (λ to. slice_index_or best to d) (onward p (Some i)))
-    ≡ capped (greatest (map (heaviest code m) (leads code p))) =
-    ap greatest each ∙ ap greatest (sym (map-map capped (heaviest code m) (onward p (Some i))))
-    ∙ sym (capped_greatest (map (heaviest code m) (onward p (Some i))))
+    let all : greatest (map (λ to. slice_index_or best to d) (forward_successors p (Some i)))
+    ≡ capped (greatest (map (heaviest code m) (forward_successors_at code p))) =
+    ap greatest each ∙ ap greatest (sym (map-map capped (heaviest code m) (forward_successors p (Some i))))
+    ∙ sym (capped_greatest (map (heaviest code m) (forward_successors p (Some i))))
     ∙ ap (λ ts. capped (greatest (map (heaviest code m) ts))) (sym ways) in
     ap (λ x. capped (capped (weight_at code p) + x)) all
-    ∙ capped_sum (weight_at code p) (greatest (map (heaviest code m) (leads code p)))
+    ∙ capped_sum (weight_at code p) (greatest (map (heaviest code m) (forward_successors_at code p)))
     ∙ ap (λ n. capped (heaviest code n p)) (sym fuel)
 
 pub set_best : (c : CodeParts) (p : ℕ) (best : List ℕ) (b : ℕ) → AreBest c.instrs (p + 1) best → p < length c.instrs
@@ -182,7 +182,7 @@ entry_best c best e d v are among =
       omega arith,
       get_or_from_slice_get best e (capped (heaviest c.instrs (length c.instrs - e) e)) d
           (are.each e (omega arith) there)
-          ∙ ap capped (same_fuel c.instrs (length c.instrs - e) (length c.instrs) e (goes_on c v) there (omega arith)
+          ∙ ap capped (same_fuel c.instrs (length c.instrs - e) (length c.instrs) e (leads_forward c v) there (omega arith)
           (omega arith)),
     )
 

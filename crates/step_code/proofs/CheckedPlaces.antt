@@ -10,8 +10,8 @@ use Rattle.step_code.specs.declared.instr.CodeParts.{CodeParts}
 use Rattle.step_code.specs.declared.fault.CodeFault.{CodeFault}
 use Rattle.step_code.specs.declared.fault.CodeFault.TheVariants as fault
 use Rattle.pals_base.specs.declared.limits.TheConstants.{INSTRUCTIONS}
-use Rattle.step_code.specs.PathWeights.{jump_of, may_go_on, next_of, onward}
-use Rattle.step_code.specs.proof.StackHeights.{takes, after, Member, Reaches, ways}
+use Rattle.step_code.specs.PathWeights.{jump_of, may_go_on, next_of, forward_successors}
+use Rattle.step_code.specs.proof.StackHeights.{takes, after, Member, Reaches, all_successors}
 use Rattle.step_code.specs.proof.VerifierRules.{strays, lacks_next, jumps_badly, jumps_back, lacks_loop, misses_slot}
 use Rattle.step_code.specs.proof.VerifierRules.{is_bad_entry, on_some, finds, Underflows, Differs, Rule, BadJump}
 use Rattle.step_code.specs.proof.VerifierRules.{BackJump, BadSlot, Underflow, HeightsDiffer, rank, Finds, IsCleanBelow}
@@ -34,7 +34,7 @@ next_by p t true among = ⊎_elim (λ (e : p + 1 ≡ t). omega arith) (λ none. 
 next_by p t false among = absurd among
 
 
-pub known_there : (c : CodeParts) (p : ℕ) (i : Instr) → IsKnown c p i → AreThere (onward p (Some i)) (length c.instrs)
+pub known_there : (c : CodeParts) (p : ℕ) (i : Instr) → IsKnown c p i → AreThere (forward_successors p (Some i)) (length c.instrs)
 known_there c p i known =
     let jumps = known.sound.jumps in
     record {
@@ -51,7 +51,7 @@ known_there c p i known =
     }
 
 
-pub known_later : (c : CodeParts) (p : ℕ) (i : Instr) → IsKnown c p i → AreLater p (onward p (Some i))
+pub known_later : (c : CodeParts) (p : ℕ) (i : Instr) → IsKnown c p i → AreLater p (forward_successors p (Some i))
 known_later c p i known = record {
   each = λ t among.
       ⊎_elim
@@ -115,7 +115,7 @@ none_differs c hs new p h i are within here holds on d =
     let is : after d.height d.instr ≡ after h i = ap (λ k. after k d.instr) (sym height) ∙ ap (after h) (sym instr) in
     on.same (record {
       place = d.to;
-      among = subst (λ j. Member (ways p j) d.to) (sym instr) d.leads;
+      among = subst (λ j. Member (all_successors p j) d.to) (sym instr) d.leads;
       other = d.other;
       held = are.held d.to d.other d.place d.given;
       differs = λ e. d.differs (e ∙ sym is);

@@ -10,13 +10,13 @@ use Rattle.pals_base.specs.SingleStep.{holding}
 use Rattle.step_code.specs.declared.instr.Instr.{Instr}
 use Rattle.step_code.specs.declared.instr.CodeParts.{CodeParts}
 use Rattle.step_code.specs.Loops.{turns_of}
-use Rattle.step_code.specs.PathWeights.{leads, product, greatest, weight_at, heaviest, entry_weight, weight}
-use Rattle.step_code.specs.InstructionEffects.{Next, Goes, Ends, Traps, Sticks, Senses, step}
-use Rattle.step_code.specs.InstructionsPerStep.{then_count, count, made_from, unless_halted, made}
+use Rattle.step_code.specs.PathWeights.{forward_successors_at, product, greatest, weight_at, heaviest, entry_weight, weight}
+use Rattle.step_code.specs.InstructionEffects.{Next, Goes, Ends, Traps, Sticks, StepInputs, step}
+use Rattle.step_code.specs.InstructionsPerStep.{then_count, count, instructions_made_from, unless_halted, instructions_made}
 use Rattle.step_code.specs.proof.StackHeights.{Member}
 use Rattle.step_code.specs.proof.CodePaths.{IsPath, path_weight}
 use Rattle.step_code.specs.proof.VerifierRules.{IsVerified}
-use Rattle.step_code.proofs.CappedWeights.{GoesOn, goes_on}
+use Rattle.step_code.proofs.CappedWeights.{LeadsForward, leads_forward}
 use Rattle.step_code.proofs.VerifiedPlaces.{verified_entry}
 use Rattle.step_code.proofs.StepResults.{entry_within}
 
@@ -33,10 +33,10 @@ path_within code zero p rest path short = absurd (omega arith)
 path_within code (suc n) p [] path short = omega arith
 path_within code (suc n) p (q ∷ rest) path short =
     let more = path_within code n q rest path.1 (omega arith) in
-    let among = member_greatest (heaviest code n) (leads code p) q path.0 in
+    let among = member_greatest (heaviest code n) (forward_successors_at code p) q path.0 in
     omega arith
 
-path_short : (code : List Instr) (p : ℕ) (rest : List ℕ) → GoesOn code → p < length code → IsPath code p rest
+path_short : (code : List Instr) (p : ℕ) (rest : List ℕ) → LeadsForward code → p < length code → IsPath code p rest
     → p + length rest < length code
 path_short code p [] on within path = omega arith
 path_short code p (q ∷ rest) on within path =
@@ -49,7 +49,7 @@ pub no_heavier : (c : CodeParts) (e : ℕ) (rest : List ℕ) → IsVerified c �
     → IsPath c.instrs e rest → path_weight c.instrs e rest ≤ weight c.instrs c.entries
 no_heavier c e rest v among path =
     let within = (verified_entry c e v among).there in
-    let short = path_short c.instrs e rest (goes_on c v) within path in
+    let short = path_short c.instrs e rest (leads_forward c v) within path in
     let one = path_within c.instrs (length c.instrs) e rest path (omega arith) in
     let two = entry_within c.instrs c.entries e among in
     omega arith
@@ -77,7 +77,7 @@ attains_with : (code : List Instr) (n p : ℕ) → ((t : ℕ) → Attains code t
     → Attains code p (heaviest code (suc n) p)
 attains_with code n p each =
     ⊎_elim
-    (λ (none : greatest (map (heaviest code n) (leads code p)) ≡ 0).
+    (λ (none : greatest (map (heaviest code n) (forward_successors_at code p)) ≡ 0).
     record { rest = []; path = tt; weighs = omega arith })
     (λ some.
     let is = some.2 in
@@ -86,7 +86,7 @@ attains_with code n p each =
     record { rest = some.0 ∷ one.rest; path = (some.1, one.path); weighs = omega arith })
     (λ (none : heaviest code n some.0 ≡ 0). record { rest = []; path = tt; weighs = omega arith })
     (each some.0))
-    (attained (heaviest code n) (leads code p))
+    (attained (heaviest code n) (forward_successors_at code p))
 
 attains : (code : List Instr) (n p : ℕ) → Attains code p (heaviest code (suc n) p)
 attains code zero p = attains_with code zero p (λ t. inr refl)
@@ -137,7 +137,7 @@ then_within n (Ends state slots outs) rest within = omega arith
 then_within n (Traps trap) rest within = omega arith
 then_within n Sticks rest within = omega arith
 
-count_within : (code : List Instr) (s : Senses) (n p : ℕ) (stack slots : List ℤ) (outs : List Value)
+count_within : (code : List Instr) (s : StepInputs) (n p : ℕ) (stack slots : List ℤ) (outs : List Value)
     → count code s n p stack slots outs ≤ n
 count_within code s zero p stack slots outs = omega arith
 count_within code s (suc n) p stack slots outs =
@@ -146,7 +146,7 @@ count_within code s (suc n) p stack slots outs =
     (λ q st sl o. count_within code s n q st sl o) in omega arith
 
 from_within : (c : CodeParts) (held : Frame) (inputs : List Value) (o : Option (Option ℕ))
-    → made_from c held inputs o ≤ weight c.instrs c.entries
+    → instructions_made_from c held inputs o ≤ weight c.instrs c.entries
 from_within c held inputs None = omega arith
 from_within c held inputs (Some None) = omega arith
 from_within c held inputs (Some (Some e)) = count_within c.instrs _ (weight c.instrs c.entries) e _ _ _
@@ -156,8 +156,8 @@ halted_within None n m le = le
 halted_within (Some trap) n m le = omega arith
 
 pub made_within : (c : CodeParts) (frame : Frame) (inputs : List Value)
-    → made c frame inputs ≤ weight c.instrs c.entries
+    → instructions_made c frame inputs ≤ weight c.instrs c.entries
 made_within c frame inputs =
     let held : Frame = record frame { held = holding frame.held inputs } in
-    halted_within frame.halt (made_from c held inputs (slice_get c.entries frame.state)) (weight c.instrs c.entries)
+    halted_within frame.halt (instructions_made_from c held inputs (slice_get c.entries frame.state)) (weight c.instrs c.entries)
     (from_within c held inputs (slice_get c.entries frame.state))

@@ -6,7 +6,7 @@ use Rattle.std.specs.Prelude.{◌⊎◌, slice_set}
 use Rattle.std.proofs.lemmas.List.{length-set}
 use Rattle.std.proofs.lemmas.Option.{slice_get-get_or}
 use Rattle.step_code.specs.declared.instr.Instr.{Instr}
-use Rattle.step_code.specs.PathWeights.{jump_of, next_of, onward}
+use Rattle.step_code.specs.PathWeights.{jump_of, next_of, forward_successors}
 use Rattle.step_code.specs.proof.StackHeights.{Member}
 use Rattle.step_code.specs.proof.VerifierAnswers.{Holds, AreThere, AreSet}
 use Rattle.step_code.proofs.ListMembers.{get_set_other, get_set_same, member_left, member_right}
@@ -27,14 +27,14 @@ is_set old o p h is there =
     })
 
 -- ---- all that an instruction leads to
-pub there_jump : (p n : ℕ) (i : Instr) → AreThere (onward p (Some i)) n → AreThere (option_to_list (jump_of i)) n
+pub there_jump : (p n : ℕ) (i : Instr) → AreThere (forward_successors p (Some i)) n → AreThere (option_to_list (jump_of i)) n
 there_jump p n i there =
     record {
       each = λ q among.
           there.each q (member_left (option_to_list (jump_of i)) (option_to_list (next_of p i)) q among);
     }
 
-pub there_next : (p n : ℕ) (i : Instr) → AreThere (onward p (Some i)) n → AreThere (option_to_list (next_of p i)) n
+pub there_next : (p n : ℕ) (i : Instr) → AreThere (forward_successors p (Some i)) n → AreThere (option_to_list (next_of p i)) n
 there_next p n i there =
     record {
       each = λ q among.

@@ -6,8 +6,8 @@ use Rattle.std.proofs.lemmas.Bool.{cases_lt, cases_eq}
 use Rattle.std.proofs.lemmas.Option.{slice_get-get_or}
 use Rattle.step_code.specs.declared.instr.Instr.{Instr}
 use Rattle.step_code.specs.declared.instr.Instr.TheVariants.{Store, Jump, JumpZero, LoopStart, LoopNext, Emit, End}
-use Rattle.step_code.specs.PathWeights.{onward}
-use Rattle.step_code.specs.proof.StackHeights.{after, Member, Reaches, ComesFromBelow, Given, ways}
+use Rattle.step_code.specs.PathWeights.{forward_successors}
+use Rattle.step_code.specs.proof.StackHeights.{after, Member, Reaches, ComesFromBelow, Given, all_successors}
 use Rattle.step_code.specs.proof.VerifierRules.{on_some}
 use Rattle.step_code.specs.proof.VerifierAnswers.{Holds, Clashes, AreHeights, PassesOn}
 use Rattle.step_code.proofs.ListMembers.{member_right, member_or_not}
@@ -100,11 +100,11 @@ still_held : (old new : List (Option ℕ)) (p h t k : ℕ) (i : Instr) → Passe
     → Holds new t k
 still_held old new p h t k i on held =
     ⊎_elim
-    (λ (among : Member (onward p (Some i)) t).
-    let e = agreed old (ways p i) t k (after h i) on.same (member_right _ (onward p (Some i)) t among) held in
+    (λ (among : Member (forward_successors p (Some i)) t).
+    let e = agreed old (all_successors p i) t k (after h i) on.same (member_right _ (forward_successors p (Some i)) t among) held in
     subst (Holds new t) (sym e) (on.sets.given t among))
-    (λ (none : Member (onward p (Some i)) t → ⊥). on.sets.kept t none ∙ held)
-    (member_or_not (onward p (Some i)) t)
+    (λ (none : Member (forward_successors p (Some i)) t → ⊥). on.sets.kept t none ∙ held)
+    (member_or_not (forward_successors p (Some i)) t)
 
 -- an instruction that a path comes to gives its height
 split_reached : (code : List Instr) (entries old new : List (Option ℕ)) (p h t k n : ℕ) (i : Instr)
@@ -124,8 +124,8 @@ split_reached code entries old new p h t k (suc n) i are within here holds on sm
     let instr : Some i ≡ Some r.2 = sym here ∙ ap (slice_get code) (sym same) ∙ r.4 in
     let e : i ≡ r.2 = cc in
     let is : k ≡ after h i = r.8 ∙ ap (λ j. after r.1 j) (sym e) ∙ ap (λ j. after j i) (sym height) in
-    let among : Member (onward p (Some i)) t =
-    subst (λ j. Member (onward p (Some j)) t) (sym e) (subst (λ q. Member (onward q (Some r.2)) t) same r.6) in
+    let among : Member (forward_successors p (Some i)) t =
+    subst (λ j. Member (forward_successors p (Some j)) t) (sym e) (subst (λ q. Member (forward_successors q (Some r.2)) t) same r.6) in
     subst (Holds new t) (sym is) (on.sets.given t among))
     (cases_lt r.0 p)
 
@@ -135,11 +135,11 @@ pub record AreLater (p : ℕ) (places : List ℕ) : Type 0 where
 
 given_reached : (code : List Instr) (entries old new : List (Option ℕ)) (p h t k : ℕ) (i : Instr)
     → AreHeights code entries p old → p < length code → slice_get code p ≡ Some i → Holds old p h
-    → PassesOn old new p i h → AreLater p (onward p (Some i))
+    → PassesOn old new p i h → AreLater p (forward_successors p (Some i))
     → t < length code → Holds new t k → Given code entries (p + 1) t k
 given_reached code entries old new p h t k i are within here holds on later small held =
     ⊎_elim
-    (λ (among : Member (onward p (Some i)) t).
+    (λ (among : Member (forward_successors p (Some i)) t).
     let g = are.given p h within holds in
     let is : k ≡ after h i = one_height new t k (after h i) held (on.sets.given t among) in
     record {
@@ -147,13 +147,13 @@ given_reached code entries old new p h t k i are within here holds on later smal
       path = (p, h, i, g.path, here, on.enough, among, later.each t among, is);
       from = omega arith;
     })
-    (λ (none : Member (onward p (Some i)) t → ⊥).
+    (λ (none : Member (forward_successors p (Some i)) t → ⊥).
     given_more code entries p (p + 1) t k (omega arith) (are.given t k small (sym (on.sets.kept t none) ∙ held)))
-    (member_or_not (onward p (Some i)) t)
+    (member_or_not (forward_successors p (Some i)) t)
 
 pub reached_heights : (code : List Instr) (entries old new : List (Option ℕ)) (p h : ℕ) (i : Instr)
     → AreHeights code entries p old → p < length code → slice_get code p ≡ Some i → Holds old p h
-    → PassesOn old new p i h → AreLater p (onward p (Some i))
+    → PassesOn old new p i h → AreLater p (forward_successors p (Some i))
     → AreHeights code entries (p + 1) new
 reached_heights code entries old new p h i are within here holds on later = record {
   count = on.sets.count ∙ are.count;

@@ -12,12 +12,12 @@ use Rattle.step_code.specs.declared.instr.Instr.{Instr}
 use Rattle.step_code.specs.declared.instr.CodeParts.{CodeParts}
 use Rattle.step_code.specs.Loops.{around}
 use Rattle.step_code.specs.PathWeights.{heaviest, entry_weight, weight}
-use Rattle.step_code.specs.proof.CodeRuns.{Outcome, Ended, Trapped, Stuck, Unfinished, left, run_from, from_entry}
-use Rattle.step_code.specs.proof.CodeRuns.{unless_halted, exec, Leaves, has_entry, FitsCode, Sized, IsOver}
-use Rattle.step_code.specs.InstructionsPerStep.{silent, senses, slots_of}
+use Rattle.step_code.specs.proof.CodeRuns.{CodeOutcome, Ended, Trapped, Stuck, Unfinished, what_is_left, run_from, from_entry}
+use Rattle.step_code.specs.proof.CodeRuns.{unless_halted, exec, Leaves, has_entry, FitsCode, HasCodeSizes, IsOver}
+use Rattle.step_code.specs.InstructionsPerStep.{silent, step_inputs, slots_of}
 use Rattle.step_code.specs.proof.StackHeights.{Member}
 use Rattle.step_code.specs.proof.VerifierRules.{IsVerified}
-use Rattle.step_code.specs.proof.LevelAndFedCode.{IsFed, GoesOn}
+use Rattle.step_code.specs.proof.LevelAndFedCode.{HasSlotsAndPorts, IsNotStuck}
 use Rattle.step_code.proofs.WeightBounds.{ends_within}
 use Rattle.step_code.proofs.StuckFreedom.{Begun, never_stuck}
 use Rattle.step_code.proofs.VerifiedPlaces.{verified_entry}
@@ -63,19 +63,19 @@ pub run_over : (c : CodeParts) (held : Frame) (inputs : List Value) (e : ℕ) �
     → IsOver (run_from c held inputs e)
 run_over c held inputs e v among =
     let well = verified_entry c e v among in
-    ends_within c.instrs (senses held.held inputs) (weight c.instrs c.entries) e [] (slots_of c held.vars) (silent c)
+    ends_within c.instrs (step_inputs held.held inputs) (weight c.instrs c.entries) e [] (slots_of c held.vars) (silent c)
     (verified_nested c v) well.there well.outside (entry_within c.instrs c.entries e among)
 
-pub slots_size : (c : CodeParts) (held : Frame) (inputs : List Value) → Sized c held inputs
+pub slots_size : (c : CodeParts) (held : Frame) (inputs : List Value) → HasCodeSizes c held inputs
     → length (slots_of c held.vars) ≡ c.vars + c.loops
 slots_size c held inputs z = let n = z.vars in
     omega (arith, length-append held.vars (replicate c.loops (pos 0)), length-replicate c.loops (pos 0))
 
-pub fed_at : (c : CodeParts) (held : Frame) (inputs : List Value) → IsVerified c → Sized c held inputs
-    → IsFed c.instrs (c.vars + c.loops) (length held.held) c.outs
-fed_at c held inputs v z = subst (λ n. IsFed c.instrs (c.vars + c.loops) n c.outs) (sym z.ins) (verified_fed c v)
+pub fed_at : (c : CodeParts) (held : Frame) (inputs : List Value) → IsVerified c → HasCodeSizes c held inputs
+    → HasSlotsAndPorts c.instrs (c.vars + c.loops) (length held.held) c.outs
+fed_at c held inputs v z = subst (λ n. HasSlotsAndPorts c.instrs (c.vars + c.loops) n c.outs) (sym z.ins) (verified_fed c v)
 
-pub fresh_size : (c : CodeParts) (held : Frame) (inputs : List Value) → Sized c held inputs
+pub fresh_size : (c : CodeParts) (held : Frame) (inputs : List Value) → HasCodeSizes c held inputs
     → length (map is_present inputs) ≡ length held.held
 fresh_size c held inputs z = let a = z.ins in let b = z.inputs' in omega (arith, length-map inputs is_present)
 
@@ -83,23 +83,23 @@ pub begun_at : (c : CodeParts) (e : ℕ) → IsVerified c → Member c.entries (
     → Begun c.instrs c.entries (around c.instrs e)
 begun_at c e v among = subst (Begun c.instrs c.entries) (sym (verified_entry c e v among).outside) tt
 
-pub run_moves : (c : CodeParts) (held : Frame) (inputs : List Value) (e : ℕ) → IsVerified c → Sized c held inputs
-    → Member c.entries (Some e) → GoesOn (run_from c held inputs e)
+pub run_moves : (c : CodeParts) (held : Frame) (inputs : List Value) (e : ℕ) → IsVerified c → HasCodeSizes c held inputs
+    → Member c.entries (Some e) → IsNotStuck (run_from c held inputs e)
 run_moves c held inputs e v z among =
-    never_stuck c.instrs c.entries (senses held.held inputs) (c.vars + c.loops) c.outs (verified_nested c v)
+    never_stuck c.instrs c.entries (step_inputs held.held inputs) (c.vars + c.loops) c.outs (verified_nested c v)
     (verified_level c v) (fed_at c held inputs v z) (fresh_size c held inputs z) (weight c.instrs c.entries)
     0 e [] (slots_of c held.vars) (silent c) (verified_entry c e v among).there (slots_size c held inputs z)
     (length-replicate c.outs Absent) (among, refl) (begun_at c e v among)
 
 -- ---- a step
-leaves_by : (c : CodeParts) (held : Frame) (o : Outcome) → IsOver o → GoesOn o
-    → (f : Fired) × (left c held o ≡ Leaves f)
+leaves_by : (c : CodeParts) (held : Frame) (o : CodeOutcome) → IsOver o → IsNotStuck o
+    → (f : Fired) × (what_is_left c held o ≡ Leaves f)
 leaves_by c held (Ended state slots outs) over on = (_, refl)
 leaves_by c held (Trapped trap) over on = (_, refl)
 leaves_by c held Stuck over on = absurd on
 leaves_by c held Unfinished over on = absurd over
 
-halted_by : (c : CodeParts) (held : Frame) (halt : Option Trap) (o : Outcome) → (f : Fired) × (left c held o ≡ Leaves f)
+halted_by : (c : CodeParts) (held : Frame) (halt : Option Trap) (o : CodeOutcome) → (f : Fired) × (what_is_left c held o ≡ Leaves f)
     → (f : Fired) × (unless_halted c held halt o ≡ Leaves f)
 halted_by c held None o leaves = leaves
 halted_by c held (Some trap) o leaves = (_, refl)
@@ -109,7 +109,7 @@ pub exec_leaves : (c : CodeParts) (frame : Frame) (inputs : List Value) → IsVe
 exec_leaves c frame inputs v fits size =
     let held : Frame = record frame { held = holding frame.held inputs } in
     let b = begins c frame fits in
-    let z : Sized c held inputs =
+    let z : HasCodeSizes c held inputs =
     record { vars = fits.vars; ins = length-holding frame.held inputs ∙ fits.held; inputs' = size } in
     let leaves =
     halted_by c held frame.halt (run_from c held inputs b.0)

@@ -15,16 +15,16 @@ use Rattle.step_code.specs.declared.instr.Instr.{Instr}
 use Rattle.step_code.specs.declared.instr.Instr.TheVariants.{Push, Load, Store, Port, Fresh, Neg, Abs, Not, Add, Sub}
 use Rattle.step_code.specs.declared.instr.Instr.TheVariants.{Mul, Quot, Mod, Rem, Eq, Ne, Lt, Le, Gt, Ge, And, Or, Xor}
 use Rattle.step_code.specs.declared.instr.Instr.TheVariants.{Jump, JumpZero, LoopStart, LoopNext, Emit, End}
-use Rattle.step_code.specs.InstructionEffects.{Next, Goes, Ends, Traps, Sticks, Senses, on_top, on_found, on_result}
+use Rattle.step_code.specs.InstructionEffects.{Next, Goes, Ends, Traps, Sticks, StepInputs, on_top, on_found, on_result}
 use Rattle.step_code.specs.InstructionEffects.{on_two, step}
 use Rattle.step_code.specs.declared.loops.LoopSpan.{LoopSpan}
 use Rattle.step_code.specs.Loops.{around}
-use Rattle.step_code.specs.PathWeights.{onward}
-use Rattle.step_code.specs.proof.CodeRuns.{Rest, then_run, run}
+use Rattle.step_code.specs.PathWeights.{forward_successors}
+use Rattle.step_code.specs.proof.CodeRuns.{Continuation, then_run, run}
 use Rattle.step_code.specs.proof.LoopNesting.{Nests, IsNested}
-use Rattle.step_code.specs.proof.StackHeights.{takes, after, Member, Reaches, ways}
-use Rattle.step_code.specs.proof.SlotsAndPorts.{Fed}
-use Rattle.step_code.specs.proof.LevelAndFedCode.{IsLevel, IsFed, GoesOn}
+use Rattle.step_code.specs.proof.StackHeights.{takes, after, Member, Reaches, all_successors}
+use Rattle.step_code.specs.proof.SlotsAndPorts.{FindsSlotsAndPorts}
+use Rattle.step_code.specs.proof.LevelAndFedCode.{HasAgreeingHeights, HasSlotsAndPorts, IsNotStuck}
 
 abbrev pub Holds : Type 1
 Holds = ℕ → List ℤ → List ℤ → List Value → Type 0
@@ -55,7 +55,7 @@ if_fine P false x y h k = k
 -- what has to hold where an instruction leads
 abbrev Wants : Holds → ℕ → ℕ → List ℤ → List Value → Instr → Type 0
 Wants P p h slots outs i =
-    (q : ℕ) → Member (ways p i) q → (stack' slots' : List ℤ) (outs' : List Value) → length stack' ≡ after h i
+    (q : ℕ) → Member (all_successors p i) q → (stack' slots' : List ℤ) (outs' : List Value) → length stack' ≡ after h i
     → length slots' ≡ length slots → length outs' ≡ length outs → P q stack' slots' outs'
 
 two_fine : (P : Holds) (o : Op) (p : ℕ) (stack slots : List ℤ) (outs : List Value) → 2 ≤ length stack
@@ -67,8 +67,8 @@ two_fine P o p stack slots outs has h =
     (λ a rest f. result_fine P (applied o a b) _
     (λ v. let l : length (v ∷ rest) ≡ length stack - 2 + 1 = omega arith in h (v ∷ rest) l)))
 
-step_fine : (P : Holds) (s : Senses) (i : Instr) (p : ℕ) (stack slots : List ℤ) (outs : List Value)
-    → takes i ≤ length stack → Fed (length slots) (length s.held) (length outs) i → length s.fresh ≡ length s.held
+step_fine : (P : Holds) (s : StepInputs) (i : Instr) (p : ℕ) (stack slots : List ℤ) (outs : List Value)
+    → takes i ≤ length stack → FindsSlotsAndPorts (length slots) (length s.held) (length outs) i → length s.fresh ≡ length s.held
     → Wants P p (length stack) slots outs i → Fine P (step (Some i) s p stack slots outs)
 step_fine P s (Push v) p stack slots outs has fed eq h =
     h (p + 1) (inl refl) (v ∷ stack) slots outs (omega arith) refl refl
@@ -147,8 +147,8 @@ step_fine P s (Emit x) p stack slots outs has fed eq h =
     (length-set outs x (Present v))))
 step_fine P s (End state) p stack slots outs has fed eq h = tt
 
-fine_goes : (rest : Rest) (next : Next) → Fine (λ q stack slots outs. GoesOn (rest q stack slots outs)) next
-    → GoesOn (then_run next rest)
+fine_goes : (rest : Continuation) (next : Next) → Fine (λ q stack slots outs. IsNotStuck (rest q stack slots outs)) next
+    → IsNotStuck (then_run next rest)
 fine_goes rest (Goes q stack slots outs) h = h
 fine_goes rest (Ends state slots outs) h = tt
 fine_goes rest (Traps trap) h = tt
@@ -159,7 +159,7 @@ none_within [] p is within = omega arith
 none_within (i ∷ code) zero is within = cc
 none_within (i ∷ code) (suc p) is within = none_within code p is (omega arith)
 
-onward_later : (code : List Instr) (q p : ℕ) (i : Instr) → Nests code q i → Member (onward q (Some i)) p → q < p
+onward_later : (code : List Instr) (q p : ℕ) (i : Instr) → Nests code q i → Member (forward_successors q (Some i)) p → q < p
 onward_later code q p (Jump to) n way = ⊎_elim (λ e. let on = n.later in omega arith) (λ no'. absurd no') way
 onward_later code q p (JumpZero to) n way =
     ⊎_elim (λ e. let on = n.0.later in omega arith) (λ w. ⊎_elim (λ e. omega arith) (λ no'. absurd no') w) way
@@ -183,8 +183,8 @@ pub record Stands (code : List Instr) (entries : List (Option ℕ)) (slots# outs
   pub reached : Reaches code entries steps p (length stack)
   pub begun : Begun code entries (around code p)
 
-module _ (code : List Instr) (entries : List (Option ℕ)) (s : Senses) (slots# outs# : ℕ) (nested : IsNested code)
-    (level : IsLevel code entries) (fed : IsFed code slots# (length s.held) outs#)
+module _ (code : List Instr) (entries : List (Option ℕ)) (s : StepInputs) (slots# outs# : ℕ) (nested : IsNested code)
+    (level : HasAgreeingHeights code entries) (fed : HasSlotsAndPorts code slots# (length s.held) outs#)
     (eq : length s.fresh ≡ length s.held) where
   -- what holds wherever a run stands
   abbrev Going : Holds → Type 0
@@ -195,7 +195,7 @@ module _ (code : List Instr) (entries : List (Option ℕ)) (s : Senses) (slots# 
 
   -- to a later place
   further : (P : Holds) (m p q h : ℕ) (i : Instr) → Going P → slice_get code p ≡ Some i → Reaches code entries m p h
-      → Member (onward p (Some i)) q → q < length code → Begun code entries (around code q)
+      → Member (forward_successors p (Some i)) q → q < length code → Begun code entries (around code q)
       → (stack slots : List ℤ) (outs : List Value) → length stack ≡ after h i → length slots ≡ slots#
       → length outs ≡ outs# → P q stack slots outs
   further P m p q h i again is reached way within begun stack slots outs high ls lo =
@@ -224,7 +224,7 @@ module _ (code : List Instr) (entries : List (Option ℕ)) (s : Senses) (slots# 
       let k = open'.0.1 in
       let opens = c.1.opens in
       let back = c.1.back in
-      let there : Member (onward l.start (Some (LoopStart l.slot l.low l.high l.exit))) to = inr (inl (sym back)) in
+      let there : Member (forward_successors l.start (Some (LoopStart l.slot l.low l.high l.exit))) to = inr (inl (sym back)) in
       let level' =
       level.same m open'.0.0 p l.start (length stack) k to (LoopNext slot high to)
       (LoopStart l.slot l.low l.high l.exit) reached is (inl refl) open'.0.2 opens there c.1.before (omega arith) in
@@ -297,22 +297,22 @@ module _ (code : List Instr) (entries : List (Option ℕ)) (s : Senses) (slots# 
       → Fine P (step (Some i) s p stack slots outs)
   stands P m p i stack slots outs again is ls lo reached begun =
       step_fine P s i p stack slots outs (level.enough m p (length stack) i reached is)
-      (subst (λ k. Fed k (length s.held) (length outs) i) (sym ls)
-      (subst (λ k. Fed slots# (length s.held) k i) (sym lo) (fed.each p i is))) eq
+      (subst (λ k. FindsSlotsAndPorts k (length s.held) (length outs) i) (sym ls)
+      (subst (λ k. FindsSlotsAndPorts slots# (length s.held) k i) (sym lo) (fed.each p i is))) eq
       (leads_to P m p i stack slots outs again is (nested.each p i is) ls lo reached begun)
 
   goes_on : (n m p : ℕ) (o : Option Instr) (stack slots : List ℤ) (outs : List Value)
-      → Going (λ q stack slots outs. GoesOn (run code s n q stack slots outs)) → slice_get code p ≡ o → p < length code
+      → Going (λ q stack slots outs. IsNotStuck (run code s n q stack slots outs)) → slice_get code p ≡ o → p < length code
       → length slots ≡ slots# → length outs ≡ outs# → Reaches code entries m p (length stack)
       → Begun code entries (around code p)
-      → GoesOn (then_run (step o s p stack slots outs) (run code s n))
+      → IsNotStuck (then_run (step o s p stack slots outs) (run code s n))
   goes_on n m p None stack slots outs again is within ls lo reached begun = absurd (none_within code p is within)
   goes_on n m p (Some i) stack slots outs again is within ls lo reached begun =
       fine_goes (run code s n) (step (Some i) s p stack slots outs)
-      (stands (λ q stack slots outs. GoesOn (run code s n q stack slots outs)) m p i stack slots outs again is ls lo
+      (stands (λ q stack slots outs. IsNotStuck (run code s n q stack slots outs)) m p i stack slots outs again is ls lo
       reached begun)
 
-  pub never_stuck : (n : ℕ) → Going (λ q stack slots outs. GoesOn (run code s n q stack slots outs))
+  pub never_stuck : (n : ℕ) → Going (λ q stack slots outs. IsNotStuck (run code s n q stack slots outs))
   never_stuck zero m p stack slots outs within ls lo reached begun = tt
   never_stuck (suc n) m p stack slots outs within ls lo reached begun =
       goes_on n m p (slice_get code p) stack slots outs (never_stuck n) refl within ls lo reached begun

@@ -10,15 +10,15 @@ use Rattle.step_code.specs.declared.instr.Instr.TheVariants.{LoopNext, Emit, End
 use Rattle.step_code.specs.declared.instr.CodeParts.{CodeParts}
 use Rattle.step_code.specs.declared.loops.LoopSpan.{LoopSpan}
 use Rattle.step_code.specs.Loops.{loop_at, around}
-use Rattle.step_code.specs.PathWeights.{onward}
-use Rattle.step_code.specs.proof.StackHeights.{takes, after, Member, Reaches, ways}
-use Rattle.step_code.specs.proof.SlotsAndPorts.{Fed}
+use Rattle.step_code.specs.PathWeights.{forward_successors}
+use Rattle.step_code.specs.proof.StackHeights.{takes, after, Member, Reaches, all_successors}
+use Rattle.step_code.specs.proof.SlotsAndPorts.{FindsSlotsAndPorts}
 use Rattle.step_code.specs.proof.VerifierRules.{on_some, strays, lacks_next, ends_loop, is_no_loop_slot, Underflow}
 use Rattle.step_code.specs.proof.VerifierRules.{HeightsDiffer, IsVerified}
 use Rattle.step_code.specs.proof.LoopNesting.{Free, IsNested}
 use Rattle.step_code.specs.proof.CleanJumpsAndLoops.{Jumps, IsEnd, Clean}
 use Rattle.step_code.proofs.CleanNesting.{loop_is, clean_nested}
-use Rattle.step_code.specs.proof.LevelAndFedCode.{IsLevel, IsFed}
+use Rattle.step_code.specs.proof.LevelAndFedCode.{HasAgreeingHeights, HasSlotsAndPorts}
 use Rattle.step_code.proofs.LoopCrossings.{not_le, has_slot}
 use Rattle.step_code.proofs.FaultlessInstructions.{goes_well}
 use Rattle.step_code.proofs.CheckedPlaces.{IsKnown, known_there}
@@ -100,7 +100,7 @@ verified_nested c v =
     clean_nested c.instrs c.vars (record { each = λ p i is. cleans c p i v (verified_known c p i v is) })
 
 -- ---- slots and ports
-feeds : (c : CodeParts) (p : ℕ) (i : Instr) → IsKnown c p i → Fed (c.vars + c.loops) c.ins c.outs i
+feeds : (c : CodeParts) (p : ℕ) (i : Instr) → IsKnown c p i → FindsSlotsAndPorts (c.vars + c.loops) c.ins c.outs i
 feeds c p (Load x) k = not_le x (c.vars + c.loops) k.sound.slots
 feeds c p (Store x) k = let less = not_le x c.vars k.sound.slots in omega arith
 feeds c p (Port x) k = not_le x c.ins k.sound.slots
@@ -115,7 +115,7 @@ feeds c p (LoopNext slot high to) k =
     (or_false_right (nat_lt slot c.vars) (not (nat_lt slot (c.vars + c.loops))) k.sound.slots)
 feeds c p other k = tt
 
-pub verified_fed : (c : CodeParts) → IsVerified c → IsFed c.instrs (c.vars + c.loops) c.ins c.outs
+pub verified_fed : (c : CodeParts) → IsVerified c → HasSlotsAndPorts c.instrs (c.vars + c.loops) c.ins c.outs
 verified_fed c v = record { each = λ p i is. feeds c p i (verified_known c p i v is) }
 
 -- ---- heights
@@ -130,8 +130,8 @@ enough_by c n p h i v reached is =
     (cases_lt h (takes i))
 
 same_by : (c : CodeParts) → IsVerified c → (n m p q h k t : ℕ) (i j : Instr) → Reaches c.instrs c.entries n p h
-    → slice_get c.instrs p ≡ Some i → Member (ways p i) t
-    → Reaches c.instrs c.entries m q k → slice_get c.instrs q ≡ Some j → Member (onward q (Some j)) t → q < p → q < t
+    → slice_get c.instrs p ≡ Some i → Member (all_successors p i) t
+    → Reaches c.instrs c.entries m q k → slice_get c.instrs q ≡ Some j → Member (forward_successors q (Some j)) t → q < p → q < t
     → after k j ≡ after h i
 same_by c v n m p q h k t i j reached is way reached' is' way' less later =
     ⊎_elim
@@ -159,5 +159,5 @@ same_by c v n m p q h k t i j reached is way reached' is' way' less later =
     })))
     (cases_eq (after k j) (after h i))
 
-pub verified_level : (c : CodeParts) → IsVerified c → IsLevel c.instrs c.entries
+pub verified_level : (c : CodeParts) → IsVerified c → HasAgreeingHeights c.instrs c.entries
 verified_level c v = record { enough = λ n p h i reached is. enough_by c n p h i v reached is; same = same_by c v }

@@ -17,12 +17,12 @@ use Rattle.step_code.specs.declared.instr.Instr.{Instr}
 use Rattle.step_code.specs.declared.instr.Instr.TheVariants.{Push, Load, Store, Port, Fresh, Neg, Abs, Not, Add, Sub}
 use Rattle.step_code.specs.declared.instr.Instr.TheVariants.{Mul, Quot, Mod, Rem, Eq, Ne, Lt, Le, Gt, Ge, And, Or, Xor}
 use Rattle.step_code.specs.declared.instr.Instr.TheVariants.{Jump, JumpZero, LoopStart, LoopNext, Emit, End}
-use Rattle.step_code.specs.InstructionEffects.{Next, Goes, Ends, Traps, Sticks, Senses, on_top, on_found, on_result}
+use Rattle.step_code.specs.InstructionEffects.{Next, Goes, Ends, Traps, Sticks, StepInputs, on_top, on_found, on_result}
 use Rattle.step_code.specs.InstructionEffects.{on_two, step}
 use Rattle.step_code.specs.declared.loops.LoopSpan.{LoopSpan}
 use Rattle.step_code.specs.Loops.{turns_of, around}
-use Rattle.step_code.specs.PathWeights.{onward, leads, product, greatest, weight_at, heaviest}
-use Rattle.step_code.specs.proof.CodeRuns.{Rest, then_run, run, IsOver}
+use Rattle.step_code.specs.PathWeights.{forward_successors, forward_successors_at, product, greatest, weight_at, heaviest}
+use Rattle.step_code.specs.proof.CodeRuns.{Continuation, then_run, run, IsOver}
 use Rattle.step_code.specs.proof.LoopNesting.{Free, On, Opens, Closes, Nests, IsNested}
 use Rattle.step_code.proofs.ListMembers.{get_set_other, get_set_same}
 -- ---- what an instruction may lead to
@@ -71,7 +71,7 @@ Needs P p slots (Store x) = (v : ℤ) → P (p + 1) (slice_set slots x v)
 Needs P p slots (End state) = Unit {0}
 Needs P p slots other = P (p + 1) slots
 
-step_reached : (P : ℕ → List ℤ → Type 0) (s : Senses) (i : Instr) (p : ℕ) (stack slots : List ℤ) (outs : List Value)
+step_reached : (P : ℕ → List ℤ → Type 0) (s : StepInputs) (i : Instr) (p : ℕ) (stack slots : List ℤ) (outs : List Value)
     → Needs P p slots i → Reached P (step (Some i) s p stack slots outs)
 step_reached P s (Push v) p stack slots outs h = h
 step_reached P s (Load x) p stack slots outs h = found_reached P (slice_get slots x) _ (λ v is. h)
@@ -110,7 +110,7 @@ step_reached P s (Emit x) p stack slots outs h =
     found_reached P (slice_get outs x) _ (λ b is. top_reached P stack _ (λ v rest. h))
 step_reached P s (End state) p stack slots outs h = tt
 
-over : (rest : Rest) (next : Next)
+over : (rest : Continuation) (next : Next)
     → Reached (λ q slots. (stack : List ℤ) (outs : List Value) → IsOver (rest q stack slots outs)) next
     → IsOver (then_run next rest)
 over rest (Goes q stack slots outs) h = h stack outs
@@ -129,7 +129,7 @@ heaviest_more code (suc m) zero p le = absurd (omega arith)
 heaviest_more code (suc m) (suc n) p le =
     let rest =
     greatest_more (heaviest code m) (heaviest code n) (λ q. heaviest_more code m n q (omega arith))
-    (leads code p) in omega arith
+    (forward_successors_at code p) in omega arith
 
 -- the weight of the heaviest path from a place
 abbrev best : List Instr → ℕ → ℕ
@@ -142,29 +142,29 @@ best_here code p within =
     omega arith
 
 best_on : (code : List Instr) (p q : ℕ) (i : Instr) → slice_get code p ≡ Some i
-    → ((f : ℕ → ℕ) → f q ≤ greatest (map f (onward p (Some i)))) → p < q → q < length code
+    → ((f : ℕ → ℕ) → f q ≤ greatest (map f (forward_successors p (Some i)))) → p < q → q < length code
     → weight_at code p + best code q ≤ best code p
 best_on code p q i is among later within =
     let m = length code - p - 1 in
     let e : length code - p ≡ suc m = omega arith in
     let f = ap (λ k. heaviest code k p) e in
-    let g = ap (λ o. greatest (map (heaviest code m) (onward p o))) is in
+    let g = ap (λ o. greatest (map (heaviest code m) (forward_successors p o))) is in
     let h = among (heaviest code m) in
     let more = heaviest_more code (length code - q) m q (omega arith) in
     omega arith
 
 -- ---- turns that are left
 -- the slots of these loops hold numbers of theirs; what all turns but the present ones weigh
-abbrev Stands : List Instr → List ℤ → List LoopSpan → ℕ → Type 0
-Stands code slots [] rest = rest ≡ 0
-Stands code slots (l ∷ ls) rest =
+abbrev TurnsLeft : List Instr → List ℤ → List LoopSpan → ℕ → Type 0
+TurnsLeft code slots [] rest = rest ≡ 0
+TurnsLeft code slots (l ∷ ls) rest =
     (ahead : ℕ) × (done : ℕ) × (outer : ℕ) × (slice_get slots l.slot ≡ Some (l.low +ℤ pos done))
     × (l.high ≡ l.low +ℤ pos (ahead + done)) × (turns_of l ≡ ahead + done + 1)
     × (rest ≡ ahead * best code (l.start + 1) + done * best code l.exit + turns_of l * outer)
-    × Stands code slots ls outer
+    × TurnsLeft code slots ls outer
 
 stands_other : (code : List Instr) (slots : List ℤ) (x : ℕ) (v : ℤ) (ls : List LoopSpan) (rest : ℕ) → Free ls x
-    → Stands code slots ls rest → Stands code (slice_set slots x v) ls rest
+    → TurnsLeft code slots ls rest → TurnsLeft code (slice_set slots x v) ls rest
 stands_other code slots x v [] rest free st = st
 stands_other code slots x v (l ∷ ls) rest free st = (
   st.0,
@@ -177,7 +177,7 @@ stands_other code slots x v (l ∷ ls) rest free st = (
   stands_other code slots x v ls st.2 free.1 st.7,
 )
 
-product_positive : (code : List Instr) (slots : List ℤ) (ls : List LoopSpan) (rest : ℕ) → Stands code slots ls rest
+product_positive : (code : List Instr) (slots : List ℤ) (ls : List LoopSpan) (rest : ℕ) → TurnsLeft code slots ls rest
     → 0 < product (map turns_of ls)
 product_positive code slots [] rest st = omega arith
 product_positive code slots (l ∷ ls) rest st =
@@ -241,30 +241,30 @@ last low high v zero done is top above = refl
 last low high v (suc k) done is top above = absurd (grind (arith, ints))
 
 -- ---- the run
-abbrev Within : List Instr → Senses → ℕ → Type 0
+abbrev Within : List Instr → StepInputs → ℕ → Type 0
 Within code s n =
     (p : ℕ) (stack slots : List ℤ) (outs : List Value) (rest : ℕ) → p < length code
-    → Stands code slots (around code p) rest → best code p + rest ≤ n * weight_at code p
+    → TurnsLeft code slots (around code p) rest → best code p + rest ≤ n * weight_at code p
     → IsOver (run code s n p stack slots outs)
 
 -- what is left at a place that an instruction leads to within the same loops
-onto : (code : List Instr) (s : Senses) (n p q : ℕ) (i : Instr) (slots : List ℤ) (rest : ℕ) → Within code s n
+onto : (code : List Instr) (s : StepInputs) (n p q : ℕ) (i : Instr) (slots : List ℤ) (rest : ℕ) → Within code s n
     → slice_get code p ≡ Some i
-    → ((f : ℕ → ℕ) → f q ≤ greatest (map f (onward p (Some i)))) → On code p q
-    → Stands code slots (around code p) rest → best code p + rest ≤ suc n * weight_at code p
+    → ((f : ℕ → ℕ) → f q ≤ greatest (map f (forward_successors p (Some i)))) → On code p q
+    → TurnsLeft code slots (around code p) rest → best code p + rest ≤ suc n * weight_at code p
     → (stack : List ℤ) (outs : List Value) → IsOver (run code s n q stack slots outs)
 onto code s n p q i slots rest again is among on stands le stack outs =
     let same : weight_at code q ≡ weight_at code p = ap (λ ls. product (map turns_of ls)) on.same in
     let less =
     on_sum n (weight_at code p) (best code p) (best code q) rest
     (best_on code p q i is among on.later on.within) le in
-    again q stack slots outs rest on.within (subst (λ ls. Stands code slots ls rest) (sym on.same) stands)
+    again q stack slots outs rest on.within (subst (λ ls. TurnsLeft code slots ls rest) (sym on.same) stands)
     (subst (λ w. best code q + rest ≤ n * w) (sym same) less)
 
-begins : (code : List Instr) (s : Senses) (n p slot exit : ℕ) (low high : ℤ) (slots : List ℤ) (rest : ℕ)
+begins : (code : List Instr) (s : StepInputs) (n p slot exit : ℕ) (low high : ℤ) (slots : List ℤ) (rest : ℕ)
     → Within code s n → slice_get code p ≡ Some (LoopStart slot low high exit)
     → p + 1 < length code → Opens code p slot low high exit
-    → Stands code slots (around code p) rest → best code p + rest ≤ suc n * weight_at code p
+    → TurnsLeft code slots (around code p) rest → best code p + rest ≤ suc n * weight_at code p
     → int_lt high low ≡ false → (v : ℤ) → slice_get slots slot ≡ Some v
     → (stack : List ℤ) (outs : List Value) → IsOver (run code s n (p + 1) stack (slice_set slots slot low) outs)
 begins code s n p slot exit low high slots rest again is within o stands le above v found stack outs =
@@ -284,7 +284,7 @@ begins code s n p slot exit low high slots rest again is within o stands le abov
     let turns : turns_of l ≡ k + 1 = ap (λ h. count_of (h -ℤ l.low)) o.high_is
     ∙ ap (λ b. count_of (high -ℤ b)) o.low_is ∙ sp.2 in
     let turns' : turns_of l ≡ k + 0 + 1 = omega arith in
-    let stands' : Stands code written (l ∷ ls) inner =
+    let stands' : TurnsLeft code written (l ∷ ls) inner =
     (k, 0, rest, at, top, turns', refl, stands_other code slots slot low ls rest o.free stands) in
     let on = best_on code p (p + 1) (LoopStart slot low high exit) is (λ f. omega arith) (omega arith) within in
     let body : best code (p + 1) ≡ best code (l.start + 1) = ap (λ x. best code (x + 1)) (sym o.start) in
@@ -295,14 +295,14 @@ begins code s n p slot exit low high slots rest again is within o stands le abov
     let w : weight_at code (p + 1) ≡ turns_of l * weight_at code p = ap (λ ls. product (map turns_of ls)) o.inside in
     let sum' : best code (p + 1) + inner ≤ n * (turns_of l * weight_at code p) =
     subst (λ x. x + inner ≤ n * (turns_of l * weight_at code p)) (sym body) sum in
-    again (p + 1) stack written outs inner within (subst (λ ls. Stands code written ls inner) (sym o.inside) stands')
+    again (p + 1) stack written outs inner within (subst (λ ls. TurnsLeft code written ls inner) (sym o.inside) stands')
     (subst (λ x. best code (p + 1) + inner ≤ n * x) (sym w) sum')
 
 -- another turn of a loop
-turns_again : (code : List Instr) (s : Senses) (n p slot to : ℕ) (high : ℤ) (slots : List ℤ) (rest : ℕ)
+turns_again : (code : List Instr) (s : StepInputs) (n p slot to : ℕ) (high : ℤ) (slots : List ℤ) (rest : ℕ)
     → Within code s n → slice_get code p ≡ Some (LoopNext slot high to)
     → p + 1 < length code → (c : Closes code p slot high to)
-    → Stands code slots (c.loop ∷ around code (p + 1)) rest → best code p + rest ≤ suc n * weight_at code p
+    → TurnsLeft code slots (c.loop ∷ around code (p + 1)) rest → best code p + rest ≤ suc n * weight_at code p
     → (v : ℤ) → slice_get slots slot ≡ Some v → int_lt v high ≡ true
     → (stack : List ℤ) (outs : List Value) → IsOver (run code s n to stack (slice_set slots slot (v +ℤ pos 1)) outs)
 turns_again code s n p slot to high slots rest again is within c stands le v found below stack outs =
@@ -322,7 +322,7 @@ turns_again code s n p slot to high slots rest again is within c stands le v fou
     let count : stands.0 + done ≡ ahead + suc done = (let e = more.1 in omega arith) in
     let top : l.high ≡ l.low +ℤ pos (ahead + suc done) = stands.4 ∙ ap (λ j. l.low +ℤ pos j) count in
     let turns : turns_of l ≡ ahead + suc done + 1 = stands.5 ∙ ap (λ j. j + 1) count in
-    let stands' : Stands code written (l ∷ ls) inner = (
+    let stands' : TurnsLeft code written (l ∷ ls) inner = (
       ahead,
       suc done,
       outer,
@@ -345,14 +345,14 @@ turns_again code s n p slot to high slots rest again is within c stands le v fou
     let body : best code (l.start + 1) ≡ best code to = ap (best code) (sym c.back) in
     let sum' : best code to + inner ≤ n * weight_at code p = subst (λ x. x + inner ≤ n * weight_at code p) body sum in
     again to stack written outs inner c.within
-    (subst (λ ls. Stands code written ls inner) (sym c.inside ∙ sym c.same) stands')
+    (subst (λ ls. TurnsLeft code written ls inner) (sym c.inside ∙ sym c.same) stands')
     (subst (λ x. best code to + inner ≤ n * x) w sum')
 
 -- the last turn is over
-leaves : (code : List Instr) (s : Senses) (n p slot to : ℕ) (high : ℤ) (slots : List ℤ) (rest : ℕ) → Within code s n
+leaves : (code : List Instr) (s : StepInputs) (n p slot to : ℕ) (high : ℤ) (slots : List ℤ) (rest : ℕ) → Within code s n
     → slice_get code p ≡ Some (LoopNext slot high to)
     → p + 1 < length code → (c : Closes code p slot high to)
-    → Stands code slots (c.loop ∷ around code (p + 1)) rest → best code p + rest ≤ suc n * weight_at code p
+    → TurnsLeft code slots (c.loop ∷ around code (p + 1)) rest → best code p + rest ≤ suc n * weight_at code p
     → (v : ℤ) → slice_get slots slot ≡ Some v → int_lt v high ≡ false
     → (stack : List ℤ) (outs : List Value) → IsOver (run code s n (p + 1) stack slots outs)
 leaves code s n p slot to high slots rest again is within c stands le v found above stack outs =
@@ -377,9 +377,9 @@ leaves code s n p slot to high slots rest again is within c stands le v found ab
     (close_sum n (weight_at code (p + 1)) (best code p) (best code (l.start + 1)) (best code (p + 1)) outer done
     (turns_of l) turns on' le')
 
-goes_on : (code : List Instr) (s : Senses) (n p : ℕ) (i : Instr) (slots : List ℤ) (rest : ℕ) → Within code s n
+goes_on : (code : List Instr) (s : StepInputs) (n p : ℕ) (i : Instr) (slots : List ℤ) (rest : ℕ) → Within code s n
     → slice_get code p ≡ Some i → Nests code p i
-    → Stands code slots (around code p) rest → best code p + rest ≤ suc n * weight_at code p
+    → TurnsLeft code slots (around code p) rest → best code p + rest ≤ suc n * weight_at code p
     → Needs (λ q slots. (stack : List ℤ) (outs : List Value) → IsOver (run code s n q stack slots outs)) p slots i
 goes_on code s n p (Jump to) slots rest again is nests stands le =
     onto code s n p to (Jump to) slots rest again is (λ f. omega arith) nests stands le
@@ -392,7 +392,7 @@ goes_on code s n p (LoopStart slot low high exit) slots rest again is nests stan
   begins code s n p slot exit low high slots rest again is nests.1 nests.2 stands le,
 )
 goes_on code s n p (LoopNext slot high to) slots rest again is nests stands le =
-    let stands' = subst (λ ls. Stands code slots ls rest) nests.1.inside stands in
+    let stands' = subst (λ ls. TurnsLeft code slots ls rest) nests.1.inside stands in
     (λ v found. (
       turns_again code s n p slot to high slots rest again is nests.0 nests.1 stands' le v found,
       leaves code s n p slot to high slots rest again is nests.0 nests.1 stands' le v found,
@@ -404,7 +404,7 @@ goes_on code s n p (End state) slots rest again is nests stands le = tt
 goes_on code s n p other slots rest again is nests stands le =
     onto code s n p (p + 1) other slots rest again is (λ f. omega arith) nests stands le
 
-at_place : (code : List Instr) (s : Senses) (n p : ℕ) (o : Option Instr) (stack slots : List ℤ) (outs : List Value)
+at_place : (code : List Instr) (s : StepInputs) (n p : ℕ) (o : Option Instr) (stack slots : List ℤ) (outs : List Value)
     → slice_get code p ≡ o
     → ((i : Instr) → slice_get code p ≡ Some i
     → Needs (λ q slots. (stack : List ℤ) (outs : List Value) → IsOver (run code s n q stack slots outs)) p slots i)
@@ -415,7 +415,7 @@ at_place code s n p (Some i) stack slots outs is needs =
     (step_reached (λ q slots. (stack : List ℤ) (outs : List Value) → IsOver (run code s n q stack slots outs)) s i p
     stack slots outs (needs i is))
 
-pub within_weight : (code : List Instr) (s : Senses) → IsNested code → (n : ℕ) → Within code s n
+pub within_weight : (code : List Instr) (s : StepInputs) → IsNested code → (n : ℕ) → Within code s n
 within_weight code s nested zero p stack slots outs rest within stands le =
     let here = best_here code p within in
     let positive = product_positive code slots (around code p) rest stands in
@@ -425,12 +425,12 @@ within_weight code s nested (suc n) p stack slots outs rest within stands le =
     (λ i is. goes_on code s n p i slots rest (within_weight code s nested n) is (nested.each p i is) stands le)
 
 -- from a place in no loop
-pub ends_within : (code : List Instr) (s : Senses) (n p : ℕ) (stack slots : List ℤ) (outs : List Value) → IsNested code
+pub ends_within : (code : List Instr) (s : StepInputs) (n p : ℕ) (stack slots : List ℤ) (outs : List Value) → IsNested code
     → p < length code → around code p ≡ [] → heaviest code (length code) p ≤ n
     → IsOver (run code s n p stack slots outs)
 ends_within code s n p stack slots outs nested within outside le =
     let less = heaviest_more code (length code - p) (length code) p (omega arith) in
     let w : weight_at code p ≡ 1 = ap (λ ls. product (map turns_of ls)) outside in
     let sum : best code p + 0 ≤ n * 1 = omega arith in
-    within_weight code s nested n p stack slots outs 0 within (subst (λ ls. Stands code slots ls 0) (sym outside) refl)
+    within_weight code s nested n p stack slots outs 0 within (subst (λ ls. TurnsLeft code slots ls 0) (sym outside) refl)
     (subst (λ x. best code p + 0 ≤ n * x) (sym w) sum)

@@ -20,7 +20,7 @@ pub data Next : Type 0 where
   Sticks : Next
 
 -- what a step reads and does not change: the held inputs, and which of them came with this step
-pub record Senses : Type 0 where
+pub record StepInputs : Type 0 where
   pub held : List ℤ
   pub fresh : List Bool
 
@@ -49,7 +49,7 @@ on_two o place stack slots outs =
 abbrev pub pushing : ℤ → ℕ → List ℤ → List ℤ → List PortValue → Next
 pushing v place stack slots outs = Goes (place + 1) (v ∷ stack) slots outs
 
-abbrev pub step : Option Instr → Senses → ℕ → List ℤ → List ℤ → List PortValue → Next
+abbrev pub step : Option Instr → StepInputs → ℕ → List ℤ → List ℤ → List PortValue → Next
 step None s place stack slots outs = Sticks
 step (Some (code.Push v)) s place stack slots outs = pushing v place stack slots outs
 step (Some (code.Load x)) s place stack slots outs =

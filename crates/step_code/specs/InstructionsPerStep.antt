@@ -7,7 +7,7 @@ use Rattle.pals_base.specs.declared.values.PortValue.TheVariants.{Absent}
 use Rattle.pals_base.specs.SingleStep.{holding, is_present}
 use Rattle.step_code.specs.declared.instr.Instr.{Instr}
 use Rattle.step_code.specs.declared.instr.CodeParts.{CodeParts}
-use Rattle.step_code.specs.InstructionEffects.{Next, Goes, Ends, Traps, Sticks, Senses, step}
+use Rattle.step_code.specs.InstructionEffects.{Next, Goes, Ends, Traps, Sticks, StepInputs, step}
 use Rattle.step_code.specs.PathWeights.{weight_of}
 
 -- ---- a run
@@ -18,7 +18,7 @@ then_count (Ends state slots outs) rest = 0
 then_count (Traps trap) rest = 0
 then_count Sticks rest = 0
 
-abbrev pub count : List Instr → Senses → ℕ → ℕ → List ℤ → List ℤ → List PortValue → ℕ
+abbrev pub count : List Instr → StepInputs → ℕ → ℕ → List ℤ → List ℤ → List PortValue → ℕ
 count code s zero place stack slots outs = 0
 count code s (suc n) place stack slots outs =
     suc (then_count (step (slice_get code place) s place stack slots outs) (count code s n))
@@ -27,19 +27,19 @@ count code s (suc n) place stack slots outs =
 abbrev pub silent : CodeParts → List PortValue
 silent c = replicate c.outs Absent
 
-abbrev pub senses : List ℤ → List PortValue → Senses
-senses held inputs = record { held = held; fresh = map is_present inputs }
+abbrev pub step_inputs : List ℤ → List PortValue → StepInputs
+step_inputs held inputs = record { held = held; fresh = map is_present inputs }
 
 -- the slots at the start: the variables, and 0 for each loop
 abbrev pub slots_of : CodeParts → List ℤ → List ℤ
 slots_of c vars = vars ++ replicate c.loops (pos 0)
 
 -- ---- a step
-abbrev pub made_from : CodeParts → Frame → List PortValue → Option (Option ℕ) → ℕ
-made_from c held inputs (Some (Some e)) =
-    count c.instrs (senses held.held inputs) (weight_of c) e [] (slots_of c held.vars) (silent c)
-made_from c held inputs (Some None) = 0
-made_from c held inputs None = 0
+abbrev pub instructions_made_from : CodeParts → Frame → List PortValue → Option (Option ℕ) → ℕ
+instructions_made_from c held inputs (Some (Some e)) =
+    count c.instrs (step_inputs held.held inputs) (weight_of c) e [] (slots_of c held.vars) (silent c)
+instructions_made_from c held inputs (Some None) = 0
+instructions_made_from c held inputs None = 0
 
 -- a halted frame makes none
 abbrev pub unless_halted : Option Trap → ℕ → ℕ
@@ -47,7 +47,7 @@ unless_halted None n = n
 unless_halted (Some trap) n = 0
 
 -- how many instructions a step makes, one that traps too
-abbrev pub made : CodeParts → Frame → List PortValue → ℕ
-made c frame inputs =
+abbrev pub instructions_made : CodeParts → Frame → List PortValue → ℕ
+instructions_made c frame inputs =
     let held : Frame = record frame { held = holding frame.held inputs } in
-    unless_halted frame.halt (made_from c held inputs (slice_get c.entries frame.state))
+    unless_halted frame.halt (instructions_made_from c held inputs (slice_get c.entries frame.state))

@@ -24,12 +24,12 @@ abbrev pub next_of : ℕ → Instr → Option ℕ
 next_of place i = if may_go_on i then Some (place + 1) else None
 
 -- the places to which an instruction leads, except LoopNext's way back
-abbrev pub onward : ℕ → Option Instr → List ℕ
-onward place None = []
-onward place (Some i) = option_to_list (jump_of i) ++ option_to_list (next_of place i)
+abbrev pub forward_successors : ℕ → Option Instr → List ℕ
+forward_successors place None = []
+forward_successors place (Some i) = option_to_list (jump_of i) ++ option_to_list (next_of place i)
 
-abbrev pub leads : List Instr → ℕ → List ℕ
-leads code place = onward place (slice_get code place)
+abbrev pub forward_successors_at : List Instr → ℕ → List ℕ
+forward_successors_at code place = forward_successors place (slice_get code place)
 
 abbrev pub product : List ℕ → ℕ
 product [] = 1
@@ -46,7 +46,7 @@ weight_at code place = product (map turns_of (around code place))
 -- the greatest weight of a path of at most n instructions
 abbrev pub heaviest : List Instr → ℕ → ℕ → ℕ
 heaviest code zero place = 0
-heaviest code (suc n) place = weight_at code place + greatest (map (heaviest code n) (leads code place))
+heaviest code (suc n) place = weight_at code place + greatest (map (heaviest code n) (forward_successors_at code place))
 
 abbrev pub entry_weight : List Instr → Option ℕ → ℕ
 entry_weight code None = 0

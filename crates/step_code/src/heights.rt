@@ -1,6 +1,6 @@
 //! The heights of the stack.
 ghost use Rattle.std.specs.Prelude.{◌≤◌, ◌<◌, ◌↔◌, length, option_to_list, IfOk, IsTrue, Some};
-ghost use Rattle.step_code.specs.PathWeights.{onward};
+ghost use Rattle.step_code.specs.PathWeights.{forward_successors};
 ghost use Rattle.step_code.specs.proof.VerifierAnswers.{AreHeights, Clashes, AreThere, AreSet, Passed};
 ghost use Rattle.pals_base.specs.declared.limits.TheConstants.{INSTRUCTIONS};
 
@@ -35,7 +35,7 @@ pub fn pass_on(
 ) -> Result<(), CodeFault>
     requires small { at < INSTRUCTIONS }
     requires low { height ≤ at }
-    requires there { AreThere (onward at (Some instr)) (length heights.old) }
+    requires there { AreThere (forward_successors at (Some instr)) (length heights.old) }
     ensures { Passed heights.old heights.new at instr height result }
 {
     if height < instr.takes() {

@@ -9,14 +9,14 @@ ghost use Rattle.step_code.specs.PathWeights.{weight_of};
 ghost use Rattle.step_code.specs.proof.CodeRuns.{FitsCode, exec, Leaves};
 ghost use Rattle.step_code.specs.proof.StackHeights.{Member};
 ghost use Rattle.step_code.specs.proof.CodePaths.{IsPath, path_weight};
-ghost use Rattle.step_code.specs.InstructionsPerStep.{made};
+ghost use Rattle.step_code.specs.InstructionsPerStep.{instructions_made};
 ghost use Rattle.step_code.specs.proof.VerifierRules.{IsVerified};
 ghost use Rattle.step_code.specs.proof.Examples.{counter, at_four, surface, nested};
 
 /// A counter at 4 that gets 2 makes its nine instructions, keeps 7 and gives it.
 pub fn counter_counts()
     ensures weight { weight_of counter ≡ 9 }
-    ensures made { made counter at_four (Present (pos 2) ∷ []) ≡ 9 }
+    ensures instructions_made { instructions_made counter at_four (Present (pos 2) ∷ []) ≡ 9 }
     ensures step { exec counter at_four (Present (pos 2) ∷ [])
         ≡ Leaves (record { frame = record at_four { vars = pos 7 ∷ []; held = pos 2 ∷ [] }; outs = Present (pos 7) ∷ [] }) }
 {}
@@ -36,7 +36,7 @@ pub fn verified_code_ends()
 
 /// A step makes at most as many instructions as the code weighs.
 pub fn step_is_within_weight()
-    ensures { (c : CodeParts) (frame : Frame) (inputs : List PortValue) → made c frame inputs ≤ weight_of c }
+    ensures { (c : CodeParts) (frame : Frame) (inputs : List PortValue) → instructions_made c frame inputs ≤ weight_of c }
 {}
 
 /// No path from an entry of verified code weighs more than the code, and one weighs as much.

@@ -1,7 +1,7 @@
 //! How many instructions one step may take.
 ghost use Rattle.std.specs.Prelude.{◌≡◌, ◌+◌, ◌-◌, ◌<◌, map, option_to_list, slice_index_or, length, IfOk, Some};
 ghost use Rattle.step_code.specs.proof.InnermostLoops.{AreInnermost};
-ghost use Rattle.step_code.specs.PathWeights.{onward, greatest, weight_at, heaviest, entry_weight, weight_of};
+ghost use Rattle.step_code.specs.PathWeights.{forward_successors, greatest, weight_at, heaviest, entry_weight, weight_of};
 ghost use Rattle.step_code.specs.proof.StackHeights.{Member};
 ghost use Rattle.step_code.specs.proof.VerifierRules.{IsVerified};
 ghost use Rattle.step_code.specs.proof.VerifierAnswers.{AreThere};
@@ -82,8 +82,8 @@ fn best_at(parts: &CodeParts, weights: &[u64], best: &[u64], place: usize) -> u6
 // The greatest of the numbers at the places to which an instruction leads.
 fn best_onward(best: &[u64], place: usize, instr: Instr) -> u64
     requires small { place < INSTRUCTIONS }
-    requires there { AreThere (onward place (Some instr)) (length best.now) }
-    ensures { result ≡ greatest (map (λ to. slice_index_or best.now to 0) (onward place (Some instr))) }
+    requires there { AreThere (forward_successors place (Some instr)) (length best.now) }
+    ensures { result ≡ greatest (map (λ to. slice_index_or best.now to 0) (forward_successors place (Some instr))) }
 {
     number_at(best, instr.jump()).max(number_at(best, instr.next(place)))
 }

@@ -18,7 +18,7 @@ use Rattle.pals_base.specs.ForRanges.{counted_from}
 use Rattle.pals_base.specs.PlainTrees.{Actions}
 use Rattle.step_code.specs.declared.instr.Instr.{Instr}
 use Rattle.step_code.specs.declared.instr.Instr.TheVariants as code
-use Rattle.step_code.specs.InstructionEffects.{Goes, Senses, on_found, step}
+use Rattle.step_code.specs.InstructionEffects.{Goes, StepInputs, on_found, step}
 use Rattle.step_code.specs.CodeLengths.{length_acts}
 use Rattle.step_compiler.proofs.AccessBounds.{Sizes}
 use Rattle.step_code.proofs.ListMembers.{get_set_other, get_set_same}
@@ -42,7 +42,7 @@ past [] x far = refl
 past (y ∷ ys) zero far = absurd (omega arith)
 past (y ∷ ys) (suc x) far = past ys x (omega arith)
 
-pub record Fits (s : Senses) (z : Sizes) (n : ℕ) (slots : List ℤ) (outs : List Value) (frame : Frame)
+pub record Fits (s : StepInputs) (z : Sizes) (n : ℕ) (slots : List ℤ) (outs : List Value) (frame : Frame)
     (fresh : List Bool) : Type 0 where
   pub shows : Shows s slots frame fresh
   pub size : length frame.vars ≡ n
@@ -52,7 +52,7 @@ pub record Fits (s : Senses) (z : Sizes) (n : ℕ) (slots : List ℤ) (outs : Li
   pub above : z.declared ≤ n
 
 -- the code comes from a to a place with this effect; the variables of the loops round it stay
-pub record Arrives (whole : List Instr) (s : Senses) (a : At) (q : ℕ) (stack : List ℤ) (z : Sizes) (n : ℕ)
+pub record Arrives (whole : List Instr) (s : StepInputs) (a : At) (q : ℕ) (stack : List ℤ) (z : Sizes) (n : ℕ)
     (before : List ℤ) (e : Effect) : Type 0 where
   pub slots' : List ℤ
   pub leads : Leads whole s a (at q stack slots' e.outs)
@@ -62,11 +62,11 @@ pub record Arrives (whole : List Instr) (s : Senses) (a : At) (q : ℕ) (stack :
   pub total : length slots' ≡ z.slots
   pub ports : length e.outs ≡ z.outs
 
-abbrev pub Comes : List Instr → Senses → At → ℕ → List ℤ → Sizes → ℕ → List ℤ → Result Effect Trap → Type 0
+abbrev pub Comes : List Instr → StepInputs → At → ℕ → List ℤ → Sizes → ℕ → List ℤ → Result Effect Trap → Type 0
 Comes whole s a q stack z n before (Ok e) = Arrives whole s a q stack z n before e
 Comes whole s a q stack z n before (Err trap) = Traps' whole s a trap
 
-module _ (whole : List Instr) (s : Senses) (z : Sizes) where
+module _ (whole : List Instr) (s : StepInputs) (z : Sizes) where
   pub come_after : (a b : At) (q n : ℕ) (stack before : List ℤ) (r : Result Effect Trap) → Leads whole s a b
       → Comes whole s b q stack z n before r → Comes whole s a q stack z n before r
   come_after a b q n stack before (Ok e) l c =

@@ -17,7 +17,7 @@ use Rattle.pals_base.specs.PlainTrees.{Expression, Action, Assign, Emit, If, For
 use Rattle.pals_base.specs.PlainTrees.{NoBranch, Where}
 use Rattle.step_code.specs.declared.instr.Instr.{Instr}
 use Rattle.step_code.specs.declared.instr.Instr.TheVariants as code
-use Rattle.step_code.specs.InstructionEffects.{Goes, Senses, on_found, step}
+use Rattle.step_code.specs.InstructionEffects.{Goes, StepInputs, on_found, step}
 use Rattle.step_code.specs.CodeLengths.{length_of, length_act, length_acts, length_branches}
 use Rattle.step_compiler.specs.TreeInstructions.{code_of, code_act, code_acts, code_branches}
 use Rattle.step_compiler.proofs.PlacedCodeLengths.{HasAt, has_front, has_back, code-length, act-length, acts-length}
@@ -30,7 +30,7 @@ use Rattle.step_compiler.proofs.ActionAndLoopEffects.{Fits, Arrives, Comes, come
 use Rattle.step_compiler.proofs.ActionAndLoopEffects.{with_value, next_fits, assigned, sent, loop_fits, turn, Bodies}
 use Rattle.step_compiler.proofs.ActionAndLoopEffects.{turns_run}
 
-module _ (whole : List Instr) (s : Senses) (z : Sizes) where
+module _ (whole : List Instr) (s : StepInputs) (z : Sizes) where
   loop_runs : (body : Actions) (b : Bool) (n p : ℕ) (low high : ℤ) (stack slots : List ℤ) (outs : List Value)
       (frame : Frame) (fresh : List Bool) → int_lt high low ≡ b → Fits s z n slots outs frame fresh
       → n < z.slots → slice_get whole p ≡ Some (code.LoopStart n low high (p + length_acts body + 2))

@@ -13,7 +13,7 @@ use Rattle.step_code.specs.declared.instr.Instr.{Instr}
 use Rattle.step_code.specs.CodeLengths.{length_trigger, length_edge}
 use Rattle.step_compiler.specs.TreeInstructions.{code_acts}
 use Rattle.step_compiler.specs.proof.BlockOrder.{is_placed, block_order}
-use Rattle.step_compiler.specs.BlockInstructions.{trigger_code, last_instr, past, edge_code, block_code, block_length}
+use Rattle.step_compiler.specs.BlockInstructions.{trigger_code, last_instr, false_guard_target, edge_code, block_code, block_length}
 use Rattle.step_compiler.specs.BlockInstructions.{start_of, blocks_code, dispatch_offset}
 use Rattle.step_compiler.specs.proof.BlockLengthsAndStarts.{in_list, order_length}
 use Rattle.step_compiler.specs.proof.CompiledCode.{block_starts}
@@ -101,7 +101,7 @@ dispatch_edge : (whole : List Instr) (b : BehaviourParts) (starts : ℕ → ℕ)
     → HasAt whole p (code_acts e.actions (length b.vars) p ++ last_instr b starts e.target ∷ [])
 dispatch_edge whole b starts complete e p is has =
     let plain =
-    λ (t : Trigger). trigger_code t (past complete e p) p
+    λ (t : Trigger). trigger_code t (false_guard_target complete e p) p
     ++ (code_acts e.actions (length b.vars) (p + length_trigger t) ++ last_instr b starts e.target ∷ []) in
     let place : p + 0 ≡ p = omega arith in
     subst (λ k. HasAt whole p (code_acts e.actions (length b.vars) k ++ last_instr b starts e.target ∷ [])) place

@@ -15,7 +15,7 @@ use Rattle.pals_base.specs.BehaviourRules.{is_always}
 use Rattle.pals_base.specs.proof.SettledStates.{settles}
 use Rattle.step_code.specs.declared.instr.Instr.{Instr}
 use Rattle.step_code.specs.declared.instr.Instr.TheVariants as code
-use Rattle.step_code.specs.InstructionEffects.{Senses, step}
+use Rattle.step_code.specs.InstructionEffects.{StepInputs, step}
 use Rattle.step_code.specs.proof.CodeRuns.{Ended, then_run, run}
 use Rattle.step_code.specs.CodeLengths.{length_of, length_acts, length_trigger, length_edge}
 use Rattle.step_compiler.specs.TreeInstructions.{code_of, code_acts}
@@ -42,17 +42,17 @@ take_shows (suc n) (u ∷ slots) (v ∷ vars) size shows =
     ∙ ap (λ xs. v ∷ xs) (take_shows n slots vars (omega arith) (λ x lt. shows (suc x) (omega arith)))
 
 -- the run from a ends in this state with these variables and outputs
-pub record Ran (whole : List Instr) (s : Senses) (n : ℕ) (a : At) (f : Fired) : Type 0 where
+pub record Ran (whole : List Instr) (s : StepInputs) (n : ℕ) (a : At) (f : Fired) : Type 0 where
   pub steps : ℕ
   pub slots' : List ℤ
   pub ended : runs whole s steps a ≡ Ended f.frame.state slots' f.outs
   pub vars : take n slots' ≡ f.frame.vars
 
-abbrev pub Finishes : List Instr → Senses → ℕ → At → Result Fired Trap → Type 0
+abbrev pub Finishes : List Instr → StepInputs → ℕ → At → Result Fired Trap → Type 0
 Finishes whole s n a (Ok f) = Ran whole s n a f
 Finishes whole s n a (Err trap) = Traps' whole s a trap
 
-module _ (whole : List Instr) (s : Senses) (z : Sizes) (b : BehaviourParts) (starts : ℕ → ℕ) (fresh : List Bool)
+module _ (whole : List Instr) (s : StepInputs) (z : Sizes) (b : BehaviourParts) (starts : ℕ → ℕ) (fresh : List Bool)
     (vars : length b.vars ≡ z.declared) where
   finish_after : (a c : At) (r : Result Fired Trap) → Leads whole s a c → Finishes whole s z.declared c r
       → Finishes whole s z.declared a r

@@ -28,11 +28,11 @@ use Rattle.pals_base.proofs.StepTermination.{leaving_sound}
 use Rattle.pals_base.proofs.UpwardNumbers.{length-upwards, slice_get-map_upwards}
 use Rattle.step_code.specs.declared.instr.Instr.{Instr}
 use Rattle.step_code.specs.declared.instr.CodeParts.{CodeParts}
-use Rattle.step_code.specs.InstructionEffects.{Senses}
+use Rattle.step_code.specs.InstructionEffects.{StepInputs}
 use Rattle.step_code.specs.PathWeights.{weight_of}
-use Rattle.step_code.specs.proof.CodeRuns.{Outcome, run, left, run_from, from_entry, unless_halted, exec, Leaves}
+use Rattle.step_code.specs.proof.CodeRuns.{CodeOutcome, run, what_is_left, run_from, from_entry, unless_halted, exec, Leaves}
 use Rattle.step_code.specs.proof.CodeRuns.{has_entry, IsOver}
-use Rattle.step_code.specs.InstructionsPerStep.{silent, senses}
+use Rattle.step_code.specs.InstructionsPerStep.{silent, step_inputs}
 use Rattle.step_code.specs.proof.StackHeights.{Member}
 use Rattle.step_code.specs.proof.VerifierRules.{IsVerified}
 use Rattle.step_code.specs.proof.CodeMeaning.{Means}
@@ -152,7 +152,7 @@ settled_on : (b : BehaviourParts) (m s : ℕ) → is_complete b s ≡ false → 
 settled_on b m s going settle = ap (λ x. x || list_all (λ e. settles m b e.target) (leaving b s)) (sym going) ∙ settle
 
 -- ---- runs that are over
-same_end : (code : List Instr) (s : Senses) (j w : ℕ) (a : At) → IsOver (runs code s j a) → IsOver (runs code s w a)
+same_end : (code : List Instr) (s : StepInputs) (j w : ℕ) (a : At) → IsOver (runs code s j a) → IsOver (runs code s w a)
     → runs code s w a ≡ runs code s j a
 same_end code s j w a first second =
     sym (longer code s j w a.place a.stack a.slots a.outs second)
@@ -204,7 +204,7 @@ shows_vars vars rest x within =
 
 begin_fits : (b : BehaviourParts) (held : Frame) (inputs : List Value) → length held.vars ≡ length b.vars
     → length held.held ≡ length b.ins → length inputs ≡ length b.ins
-    → Fits (senses held.held inputs) (sizes b) (length b.vars)
+    → Fits (step_inputs held.held inputs) (sizes b) (length b.vars)
     (held.vars ++ replicate (depth_edges b.transitions) (pos 0)) (silence b) held (map is_present inputs)
 begin_fits b held inputs vars ins size = record {
   shows = record {
@@ -224,10 +224,10 @@ begin_fits b held inputs vars ins size = record {
 }
 
 -- what the code leaves, by how its run has ended
-left_by : (b : BehaviourParts) (whole : List Instr) (c : CodeParts) (held : Frame) (s : Senses) (a : At) (w : ℕ)
+left_by : (b : BehaviourParts) (whole : List Instr) (c : CodeParts) (held : Frame) (s : StepInputs) (a : At) (w : ℕ)
     (r : Result Fired Trap) → c.vars ≡ length b.vars → c.outs ≡ length b.outs → held.halt ≡ None
     → IsOver (runs whole s w a) → Finishes whole s (length b.vars) a r → Keeps held r
-    → left c held (runs whole s w a) ≡ Leaves (outcome b held r)
+    → what_is_left c held (runs whole s w a) ≡ Leaves (outcome b held r)
 left_by b whole c held s a w (Ok f) vars outs halt over ran keeps =
     let same = same_end whole s ran.steps w a (subst IsOver (sym ran.ended) tt) over ∙ ran.ended in
     let kept : take c.vars ran.slots' ≡ f.frame.vars = ap (λ n. take n ran.slots') vars ∙ ran.vars in
@@ -235,12 +235,12 @@ left_by b whole c held s a w (Ok f) vars outs halt over ran keeps =
     ap (λ h. record held { state = f.frame.state; vars = f.frame.vars; held = h }) (sym keeps.0)
     ∙ ap (λ h. record held { state = f.frame.state; vars = f.frame.vars; held = f.frame.held; halt = h })
     (sym keeps.1) in
-    ap (left c held) same
+    ap (what_is_left c held) same
     ∙ ap (λ vs. Leaves (record { frame = record held { state = f.frame.state; vars = vs }; outs = f.outs })) kept
     ∙ ap (λ fr. Leaves (record { frame = fr; outs = f.outs })) frame_is
 left_by b whole c held s a w (Err trap) vars outs halt over ran keeps =
     let same = same_end whole s ran.0 w a (subst IsOver (sym ran.1) tt) over ∙ ran.1 in
-    ap (left c held) same ∙ ap
+    ap (what_is_left c held) same ∙ ap
     (λ n. Leaves (record { frame = record held { halt = Some trap }; outs = replicate n Absent })) outs
 
 -- the step from an entry
@@ -250,7 +250,7 @@ runs_from : (b : BehaviourParts) (c : CodeParts) (held : Frame) (inputs : List V
     → c.vars ≡ length b.vars → c.loops ≡ depth_edges b.transitions → c.outs ≡ length b.outs
     → held.state < length b.states → is_complete b held.state ≡ true → held.halt ≡ None
     → length held.vars ≡ length b.vars → length held.held ≡ length b.ins → length inputs ≡ length b.ins
-    → left c held (from_entry c held inputs (slice_get c.entries held.state))
+    → what_is_left c held (from_entry c held inputs (slice_get c.entries held.state))
     ≡ Leaves (outcome b held (reaction b (map is_present inputs) held))
 runs_from b c held inputs rules verified instrs entries vars loops outs within complete halt size ins inputs_size =
     let starts = in_list (block_starts b) in
@@ -260,7 +260,7 @@ runs_from b c held inputs rules verified instrs entries vars loops outs within c
     let e = d.edge in
     let place = starts state + dispatch_offset (leaving b state) in
     let fresh = map is_present inputs in
-    let s = senses held.held inputs in
+    let s = step_inputs held.held inputs in
     let slots = held.vars ++ replicate (depth_edges b.transitions) (pos 0) in
     let entry : slice_get c.entries state ≡ Some (Some place) =
     ap (λ xs. slice_get xs state) entries ∙ slice_get-map_upwards (entry_of b starts) n state within
@@ -298,7 +298,7 @@ runs_from b c held inputs rules verified instrs entries vars loops outs within c
     let started : run_from c held inputs place ≡ runs c.instrs s (weight_of c) (at place [] slots (silence b)) =
     ap (λ k. run c.instrs s (weight_of c) place [] (held.vars ++ replicate k (pos 0)) (silent c)) loops
     ∙ ap (λ k. run c.instrs s (weight_of c) place [] slots (replicate k Absent)) outs in
-    ap (λ o. left c held (from_entry c held inputs o)) entry ∙ ap (left c held) started
+    ap (λ o. what_is_left c held (from_entry c held inputs o)) entry ∙ ap (what_is_left c held) started
     ∙ left_by b c.instrs c held s (at place [] slots (silence b)) (weight_of c) (reaction b fresh held) vars outs halt
     (subst IsOver started over) finishes keeps
   where
@@ -314,8 +314,8 @@ begun : (b : BehaviourParts) (s : ℕ) (o : Option StateDecl) → slice_get b.st
 begun b s None is begins = cc
 begun b s (Some d) is begins = (slice_get_within b.states s d is, ap completes is ∙ begins)
 
-halted_or : (b : BehaviourParts) (c : CodeParts) (held : Frame) (halt : Option Trap) (ran : Outcome)
-    (r : Result Fired Trap) → c.outs ≡ length b.outs → (halt ≡ None → left c held ran ≡ Leaves (outcome b held r))
+halted_or : (b : BehaviourParts) (c : CodeParts) (held : Frame) (halt : Option Trap) (ran : CodeOutcome)
+    (r : Result Fired Trap) → c.outs ≡ length b.outs → (halt ≡ None → what_is_left c held ran ≡ Leaves (outcome b held r))
     → unless_halted c held halt ran ≡ Leaves (base.unless_halted b held halt r)
 halted_or b c held None ran r outs going = going refl
 halted_or b c held (Some trap) ran r outs going =

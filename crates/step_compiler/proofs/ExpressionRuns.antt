@@ -13,8 +13,8 @@ use Rattle.pals_base.specs.PlainTrees.{Expression, Literal, Variable, PortRead, 
 use Rattle.pals_base.specs.PlainTrees.{NoMore, Then}
 use Rattle.step_code.specs.declared.instr.Instr.{Instr}
 use Rattle.step_code.specs.declared.instr.Instr.TheVariants as code
-use Rattle.step_code.specs.InstructionEffects.{Goes, Traps, Senses, on_found, on_result, on_two, step}
-use Rattle.step_code.specs.proof.CodeRuns.{Outcome, Trapped, then_run, run}
+use Rattle.step_code.specs.InstructionEffects.{Goes, Traps, StepInputs, on_found, on_result, on_two, step}
+use Rattle.step_code.specs.proof.CodeRuns.{CodeOutcome, Trapped, then_run, run}
 use Rattle.step_code.specs.CodeLengths.{operand_length, length_of, length_rest}
 use Rattle.step_compiler.specs.TreeInstructions.{operator, operand_code, code_of, code_rest}
 use Rattle.step_compiler.proofs.PlacedCodeLengths.{HasAt, has_front, has_back, code-length, operand-length}
@@ -30,28 +30,28 @@ pub record At : Type 0 where
 abbrev pub at : ℕ → List ℤ → List ℤ → List Value → At
 at p stack slots outs = record { place = p; stack = stack; slots = slots; outs = outs }
 
-abbrev pub runs : List Instr → Senses → ℕ → At → Outcome
+abbrev pub runs : List Instr → StepInputs → ℕ → At → CodeOutcome
 runs whole s n a = run whole s n a.place a.stack a.slots a.outs
 
 -- whatever comes of b comes of a
-pub record Leads (whole : List Instr) (s : Senses) (a b : At) : Type 0 where
+pub record Leads (whole : List Instr) (s : StepInputs) (a b : At) : Type 0 where
   pub by : (k : ℕ) → (j : ℕ) × (runs whole s j a ≡ runs whole s k b)
 
-abbrev pub Traps' : List Instr → Senses → At → Trap → Type 0
+abbrev pub Traps' : List Instr → StepInputs → At → Trap → Type 0
 Traps' whole s a trap = (j : ℕ) × (runs whole s j a ≡ Trapped trap)
 
 -- from a the code comes to a place with the value on this stack, or traps
-abbrev pub Gives : List Instr → Senses → At → ℕ → List ℤ → Result ℤ Trap → Type 0
+abbrev pub Gives : List Instr → StepInputs → At → ℕ → List ℤ → Result ℤ Trap → Type 0
 Gives whole s a q stack (Ok v) = Leads whole s a (at q (v ∷ stack) a.slots a.outs)
 Gives whole s a q stack (Err trap) = Traps' whole s a trap
 
 -- what the step sees of a frame
-pub record Shows (s : Senses) (slots : List ℤ) (frame : Frame) (fresh : List Bool) : Type 0 where
+pub record Shows (s : StepInputs) (slots : List ℤ) (frame : Frame) (fresh : List Bool) : Type 0 where
   pub vars : (x : ℕ) → x < length frame.vars → slice_get slots x ≡ Some (slice_index_or frame.vars x (pos 0))
   pub held : (x : ℕ) → x < length frame.held → slice_get s.held x ≡ Some (slice_index_or frame.held x (pos 0))
   pub fresh' : (x : ℕ) → x < length frame.held → slice_get s.fresh x ≡ Some (slice_index_or fresh x false)
 
-module _ (whole : List Instr) (s : Senses) where
+module _ (whole : List Instr) (s : StepInputs) where
   pub stays : (a : At) → Leads whole s a a
   stays a = record { by = λ k. (k, refl) }
 

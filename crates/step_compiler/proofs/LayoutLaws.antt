@@ -16,7 +16,7 @@ use Rattle.step_code.specs.CodeLengths.{length_edge, length_trigger}
 use Rattle.step_compiler.specs.LaidOutCode.{states_of, IsLaidOut, AreLaidOut}
 use Rattle.step_compiler.specs.proof.BlockOrder.{block_order}
 use Rattle.step_compiler.specs.TreeInstructions.{code_acts}
-use Rattle.step_compiler.specs.BlockInstructions.{trigger_code, past, last_instr, edge_code, block_code, block_length}
+use Rattle.step_compiler.specs.BlockInstructions.{trigger_code, false_guard_target, last_instr, edge_code, block_code, block_length}
 use Rattle.step_compiler.specs.BlockInstructions.{blocks_code, start_of, entry_of}
 use Rattle.step_compiler.specs.proof.BlockLengthsAndStarts.{in_list}
 use Rattle.step_compiler.specs.proof.CompiledCode.{block_starts, compiled}
@@ -40,7 +40,7 @@ module _ (b : BehaviourParts) (f g : ℕ → ℕ) (same : (s : ℕ) → s < leng
   same_edge : (complete : Bool) (e : Edge) (p : ℕ) → e.target < length b.states
       → edge_code b f complete e p ≡ edge_code b g complete e p
   same_edge complete e p within =
-      ap (λ (i : Instr). trigger_code e.trigger (past complete e p) p
+      ap (λ (i : Instr). trigger_code e.trigger (false_guard_target complete e p) p
       ++ (code_acts e.actions (length b.vars) (p + length_trigger e.trigger) ++ i ∷ [])) (same_last e.target within)
 
   same_block : (complete : Bool) (es : List Edge) (p : ℕ) → Every (λ (e : Edge). e.target < length b.states) es

@@ -9,7 +9,7 @@ use Rattle.step_code.specs.declared.instr.Instr.{Instr}
 use Rattle.step_code.specs.declared.instr.Instr.TheVariants as code
 use Rattle.step_code.specs.CodeLengths.{length_of, length_acts, length_trigger, length_edge, length_edges}
 use Rattle.step_compiler.specs.TreeInstructions.{code_of, code_acts}
-use Rattle.step_compiler.specs.BlockInstructions.{trigger_code, last_instr, past, edge_code, block_code, block_length}
+use Rattle.step_compiler.specs.BlockInstructions.{trigger_code, last_instr, false_guard_target, edge_code, block_code, block_length}
 use Rattle.step_compiler.specs.BlockInstructions.{start_of, blocks_code}
 use Rattle.step_compiler.proofs.PlacedCodeLengths.{HasAt, has_front, has_back, code-length, acts-length, trigger-length}
 use Rattle.step_compiler.proofs.PlacedCodeLengths.{edge-length, block-length}
@@ -42,16 +42,16 @@ pub edge_closed : (whole : List Instr) (b : BehaviourParts) (starts : ℕ → �
 edge_closed whole b starts complete e p has =
     let t = length_trigger e.trigger in
     let m = length_acts e.actions in
-    let guard = trigger_code e.trigger (past complete e p) p in
+    let guard = trigger_code e.trigger (false_guard_target complete e p) p in
     let body = code_acts e.actions (length b.vars) (p + t) in
     let i = last_instr b starts e.target in
     let back =
-    has_back whole p t (p + t) guard (body ++ i ∷ []) (trigger-length e.trigger (past complete e p) p) refl has in
+    has_back whole p t (p + t) guard (body ++ i ∷ []) (trigger-length e.trigger (false_guard_target complete e p) p) refl has in
     let here =
     (has_back whole (p + t) m (p + t + m) body (i ∷ []) (acts-length e.actions (length b.vars) (p + t))
     refl back).0 in
     closed_both whole p (p + t) (p + (t + m + 1)) (omega arith)
-    (trigger_closed whole e.trigger (past complete e p) p (has_front whole p guard (body ++ i ∷ []) has))
+    (trigger_closed whole e.trigger (false_guard_target complete e p) p (has_front whole p guard (body ++ i ∷ []) has))
     (closed_both whole (p + t) (p + t + m) (p + (t + m + 1)) (omega arith)
     (acts_closed whole e.actions (length b.vars) (p + t) (p + t + m)
     (has_front whole (p + t) body (i ∷ []) back) refl)
@@ -73,12 +73,12 @@ block_closed whole b starts complete (e ∷ es) p has =
     (block_closed whole b starts complete es q back))
 
 -- at a place no loop is under way, and the stack is empty
-pub record IsCalm (whole : List Instr) (p : ℕ) : Type 0 where
+pub record IsLoopFree (whole : List Instr) (p : ℕ) : Type 0 where
   pub closed : Closed whole 0 p
   pub level : height whole p ≡ 0
 
 calm_on : (whole : List Instr) (b : BehaviourParts) (starts : ℕ → ℕ) (complete : Bool) (es : List Edge) (p : ℕ)
-    → HasAt whole p (block_code b starts complete es p) → IsCalm whole p → IsCalm whole (p + length_edges es)
+    → HasAt whole p (block_code b starts complete es p) → IsLoopFree whole p → IsLoopFree whole (p + length_edges es)
 calm_on whole b starts complete es p has calm = record {
   closed =
       closed_both whole 0 p (p + length_edges es) (omega arith) calm.closed
@@ -87,17 +87,17 @@ calm_on whole b starts complete es p has calm = record {
 }
 
 pub calm_edge : (whole : List Instr) (b : BehaviourParts) (starts : ℕ → ℕ) (complete : Bool) (e : Edge) (p : ℕ)
-    → HasAt whole p (edge_code b starts complete e p) → IsCalm whole p → IsCalm whole (p + length_edge e)
+    → HasAt whole p (edge_code b starts complete e p) → IsLoopFree whole p → IsLoopFree whole (p + length_edge e)
 calm_edge whole b starts complete e p has calm = record {
   closed =
       closed_both whole 0 p (p + length_edge e) (omega arith) calm.closed (edge_closed whole b starts complete e p has);
   level = edge_height whole b starts complete e p has calm.level;
 }
 
-pub calm_at : (whole : List Instr) (p q : ℕ) → p ≡ q → IsCalm whole p → IsCalm whole q
-calm_at whole p q same calm = subst (IsCalm whole) same calm
+pub calm_at : (whole : List Instr) (p q : ℕ) → p ≡ q → IsLoopFree whole p → IsLoopFree whole q
+calm_at whole p q same calm = subst (IsLoopFree whole) same calm
 
-pub calm_round : (whole : List Instr) (p q n : ℕ) → IsCalm whole p → Round whole p q n
+pub calm_round : (whole : List Instr) (p q n : ℕ) → IsLoopFree whole p → Round whole p q n
 calm_round whole p q n calm = record { each = λ k l is before. inl (calm.closed.each k l is (omega arith) before) }
 
 pub calm_outer : (whole : List Instr) (p q : ℕ) → Closed whole 0 p → Outer whole p q
@@ -105,15 +105,15 @@ calm_outer whole p q closed = record { each = λ k l is before. inl (closed.each
 
 -- ---- where blocks begin
 calm_by : (whole : List Instr) (b : BehaviourParts) (starts : ℕ → ℕ) (order : List ℕ) (t s p : ℕ) (r : Bool)
-    → IsCalm whole p → (r ≡ false → IsCalm whole (p + block_length b t + start_of b order s))
-    → IsCalm whole (p + (if r then 0 else block_length b t + start_of b order s))
+    → IsLoopFree whole p → (r ≡ false → IsLoopFree whole (p + block_length b t + start_of b order s))
+    → IsLoopFree whole (p + (if r then 0 else block_length b t + start_of b order s))
 calm_by whole b starts order t s p true calm later = calm_at whole p (p + 0) (omega arith) calm
 calm_by whole b starts order t s p false calm later =
     calm_at whole (p + block_length b t + start_of b order s) (p + (block_length b t + start_of b order s))
     (omega arith) (later refl)
 
 pub calm_start : (whole : List Instr) (b : BehaviourParts) (starts : ℕ → ℕ) (order : List ℕ) (s p : ℕ)
-    → HasAt whole p (blocks_code b starts order p) → IsCalm whole p → IsCalm whole (p + start_of b order s)
+    → HasAt whole p (blocks_code b starts order p) → IsLoopFree whole p → IsLoopFree whole (p + start_of b order s)
 calm_start whole b starts [] s p has calm = calm_at whole p (p + 0) (omega arith) calm
 calm_start whole b starts (t ∷ order) s p has calm =
     let part = block_code b starts (is_complete b t) (leaving b t) p in

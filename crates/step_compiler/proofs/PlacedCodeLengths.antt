@@ -15,7 +15,7 @@ use Rattle.step_code.specs.CodeLengths.{operand_length, length_of, length_rest, 
 use Rattle.step_code.specs.CodeLengths.{length_branches, length_trigger, length_edge, length_edges}
 use Rattle.step_compiler.specs.TreeInstructions.{operator, operand_code, code_of, code_rest, code_act, code_acts}
 use Rattle.step_compiler.specs.TreeInstructions.{code_branches}
-use Rattle.step_compiler.specs.BlockInstructions.{trigger_code, last_instr, past, edge_code, block_code, block_length}
+use Rattle.step_compiler.specs.BlockInstructions.{trigger_code, last_instr, false_guard_target, edge_code, block_code, block_length}
 use Rattle.step_compiler.specs.BlockInstructions.{blocks_code}
 use Rattle.step_compiler.specs.proof.BlockLengthsAndStarts.{order_length}
 
@@ -121,13 +121,13 @@ edge-length b starts complete e p =
     let n = length b.vars in
     let q = p + length_trigger e.trigger in
     let i = last_instr b starts e.target in
-    let l = trigger-length e.trigger (past complete e p) p in
+    let l = trigger-length e.trigger (false_guard_target complete e p) p in
     let k = acts-length e.actions n q in
     let inner = length-append (code_acts e.actions n q) (i ∷ []) in
     omega (
       arith,
       inner,
-      length-append (trigger_code e.trigger (past complete e p) p)
+      length-append (trigger_code e.trigger (false_guard_target complete e p) p)
           (code_acts e.actions n q ++ i ∷ []),
     )
 

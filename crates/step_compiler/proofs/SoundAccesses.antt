@@ -15,7 +15,7 @@ use Rattle.pals_base.specs.declared.expression_kinds.Kinds.{Kinds}
 use Rattle.pals_base.specs.PlainTrees.{Expression, Literal, Variable, PortRead, Fresh, Neg, Abs, Not, Chain, Operands}
 use Rattle.pals_base.specs.PlainTrees.{NoMore, Then, Action, Assign, Emit, If, For, Actions, Nothing, Do, Branches}
 use Rattle.pals_base.specs.PlainTrees.{NoBranch, Where, Trigger, Dispatch, Always, When}
-use Rattle.pals_base.specs.TypingRules.{allows, port_kinds, declared_or, joined, kinds_of, kinds_along, suits_variable}
+use Rattle.pals_base.specs.TypingRules.{allows, port_kinds, declared_or, operator_kinds, kinds_of, kinds_along, suits_variable}
 use Rattle.pals_base.specs.TypingRules.{suits_port, turns, is_short, is_sound, are_sound, branches_are_sound}
 use Rattle.pals_base.specs.BehaviourRules.{has_condition}
 use Rattle.step_compiler.specs.LoopDepths.{depth_act, depth_acts, depth_branches}
@@ -69,7 +69,7 @@ either a b is = by (a.integer && b.integer) refl is
     by true is any = both_numbers a b is
     by false is any = both_truths a b any
 
-joined_typed : (o : Op) (a b : Kinds) → Typed (joined o a b) → Typed a × Typed b
+joined_typed : (o : Op) (a b : Kinds) → Typed (operator_kinds o a b) → Typed a × Typed b
 joined_typed op.Add a b is = both_numbers a b (first_of (a.integer && b.integer) is)
 joined_typed op.Sub a b is = both_numbers a b (first_of (a.integer && b.integer) is)
 joined_typed op.Mul a b is = both_numbers a b (first_of (a.integer && b.integer) is)
@@ -108,7 +108,7 @@ mutual
       → Typed left × SeesAll (length b.vars + loops) (length b.ins) os
   rest_seen NoMore b loops left typed = (typed, tt)
   rest_seen (Then o e rest) b loops left typed =
-      let later = rest_seen rest b loops (joined o left (kinds_of e b loops)) typed in
+      let later = rest_seen rest b loops (operator_kinds o left (kinds_of e b loops)) typed in
       let both = joined_typed o left (kinds_of e b loops) later.0 in
       (both.0, (expr_seen e b loops both.1, later.1))
 

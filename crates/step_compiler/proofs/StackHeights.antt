@@ -16,7 +16,7 @@ use Rattle.step_code.specs.CodeLengths.{operand_length, length_of, length_rest, 
 use Rattle.step_code.specs.CodeLengths.{length_branches, length_trigger, length_edge, length_edges}
 use Rattle.step_compiler.specs.TreeInstructions.{operator, operand_code, code_of, code_rest, code_act, code_acts}
 use Rattle.step_compiler.specs.TreeInstructions.{code_branches}
-use Rattle.step_compiler.specs.BlockInstructions.{trigger_code, last_instr, past, edge_code, block_code}
+use Rattle.step_compiler.specs.BlockInstructions.{trigger_code, last_instr, false_guard_target, edge_code, block_code}
 use Rattle.step_compiler.proofs.PlacedCodeLengths.{HasAt, has_front, has_back, code-length, operand-length, act-length}
 use Rattle.step_compiler.proofs.PlacedCodeLengths.{acts-length, branches-length, trigger-length, edge-length}
 
@@ -218,12 +218,12 @@ module _ (whole : List Instr) where
       let t = length_trigger e.trigger in
       let n = length b.vars in
       let m = length_acts e.actions in
-      let guard = trigger_code e.trigger (past complete e p) p in
+      let guard = trigger_code e.trigger (false_guard_target complete e p) p in
       let body = code_acts e.actions n (p + t) in
       let i = last_instr b starts e.target in
       let back =
-      has_back whole p t (p + t) guard (body ++ i ∷ []) (trigger-length e.trigger (past complete e p) p) refl has in
-      let first = trigger_height e.trigger (past complete e p) p (has_front whole p guard (body ++ i ∷ []) has) at in
+      has_back whole p t (p + t) guard (body ++ i ∷ []) (trigger-length e.trigger (false_guard_target complete e p) p) refl has in
+      let first = trigger_height e.trigger (false_guard_target complete e p) p (has_front whole p guard (body ++ i ∷ []) has) at in
       one_behind (p + t) m (p + (t + m + 1)) 0 0 body i back (acts-length e.actions n (p + t)) (omega arith)
       (acts_height e.actions n (p + t) (has_front whole (p + t) body (i ∷ []) back) first)
       (last_height b starts e.target)

@@ -8,7 +8,7 @@ use Rattle.pals_base.specs.BehaviourRules.{is_always, ends_unguarded}
 use Rattle.step_code.specs.proof.StackHeights.{Member}
 use Rattle.step_code.specs.CodeLengths.{length_edge, length_edges}
 use Rattle.step_compiler.specs.LoopDepths.{depth_acts, depth_edges}
-use Rattle.step_compiler.specs.BlockInstructions.{past}
+use Rattle.step_compiler.specs.BlockInstructions.{false_guard_target}
 
 pub member_leaving : (es : List Edge) (s : ℕ) (e : Edge) → Member (filter (λ e. nat_eq e.source s) es) e
     → Member es e × (e.source ≡ s)
@@ -54,7 +54,7 @@ rest_open e (f ∷ es) is = is
 
 
 pub past_inside : (complete : Bool) (e : Edge) (es : List Edge) (p n : ℕ) → is_always e.trigger ≡ false
-    → p + (length_edge e + length_edges es) ≤ n → (complete ≡ false → LastOpen (e ∷ es)) → past complete e p < n
+    → p + (length_edge e + length_edges es) ≤ n → (complete ≡ false → LastOpen (e ∷ es)) → false_guard_target complete e p < n
 past_inside true e es p n guarded most unguarded = omega arith
 past_inside false e [] p n guarded most unguarded = absurd (true≢false (sym (unguarded refl) ∙ guarded))
 past_inside false e (f ∷ es) p n guarded most unguarded = omega arith

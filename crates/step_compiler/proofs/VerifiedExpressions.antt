@@ -11,7 +11,7 @@ use Rattle.step_code.specs.declared.instr.Instr.{Instr}
 use Rattle.step_code.specs.declared.instr.Instr.TheVariants as code
 use Rattle.step_code.specs.declared.instr.CodeParts.{CodeParts}
 use Rattle.step_code.specs.PathWeights.{jump_of, may_go_on, next_of}
-use Rattle.step_code.specs.proof.StackHeights.{takes, after, Member, back_of, ways}
+use Rattle.step_code.specs.proof.StackHeights.{takes, after, Member, back_of, all_successors}
 use Rattle.step_code.specs.proof.VerifierRules.{stays, lacks_loop, misses_slot}
 use Rattle.step_code.specs.CodeLengths.{operand_length, length_of, length_rest}
 use Rattle.step_compiler.specs.TreeInstructions.{operator, operand_code, code_of, code_rest}
@@ -27,7 +27,7 @@ pub record IsFine (c : CodeParts) (p : ℕ) (i : Instr) : Type 0 where
   pub loop : lacks_loop c.instrs p i ≡ false
   pub slot : misses_slot c p i ≡ false
   pub enough : takes i ≤ height c.instrs p
-  pub level : (t : ℕ) → Member (ways p i) t → height c.instrs t ≡ after (height c.instrs p) i
+  pub level : (t : ℕ) → Member (all_successors p i) t → height c.instrs t ≡ after (height c.instrs p) i
 
 pub record AreFine (c : CodeParts) (p q : ℕ) : Type 0 where
   pub each : (k : ℕ) (i : Instr) → p ≤ k → k < q → slice_get c.instrs k ≡ Some i → IsFine c k i
@@ -90,7 +90,7 @@ module _ (c : CodeParts) where
       → height c.instrs p ≡ h → takes i ≤ h → misses_slot c p i ≡ false → AreFine c p (p + 1)
   plain_fine p h i is here inside at enough slot =
       let f = plain c.instrs p h i is in
-      let only : ways p i ≡ (p + 1) ∷ [] =
+      let only : all_successors p i ≡ (p + 1) ∷ [] =
       ap (λ o. option_to_list o ++ (option_to_list (jump_of i) ++ option_to_list (next_of p i))) f.back
       ∙ ap (λ o. option_to_list o ++ option_to_list (next_of p i)) f.jump
       ∙ ap (λ b. option_to_list (if b then Some (p + 1) else None)) f.on in

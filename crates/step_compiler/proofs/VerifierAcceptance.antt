@@ -20,9 +20,9 @@ use Rattle.step_code.specs.declared.fault.CodeFault.{CodeFault}
 use Rattle.step_code.specs.declared.fault.CodeFault.TheVariants as fault
 use Rattle.step_code.specs.declared.loops.LoopSpan.{LoopSpan}
 use Rattle.step_code.specs.Loops.{around}
-use Rattle.step_code.specs.PathWeights.{jump_of, may_go_on, onward}
+use Rattle.step_code.specs.PathWeights.{jump_of, may_go_on, forward_successors}
 use Rattle.step_code.specs.proof.CodeRuns.{has_entry}
-use Rattle.step_code.specs.proof.StackHeights.{after, Member, Reaches, back_of, ways}
+use Rattle.step_code.specs.proof.StackHeights.{after, Member, Reaches, back_of, all_successors}
 use Rattle.step_code.specs.proof.VerifierRules.{on_some, strays, stays, lacks_next, jumps_badly, jumps_back, lacks_loop}
 use Rattle.step_code.specs.proof.VerifierRules.{misses_slot, is_none, enters_badly, is_entry, is_bad_entry, finds, Rule}
 use Rattle.step_code.specs.proof.VerifierRules.{BadJump, BackJump, BadSlot, Underflow, HeightsDiffer, Finds, IsFaultOf}
@@ -31,7 +31,7 @@ use Rattle.step_code.specs.CodeLengths.{length_of, length_acts, length_trigger, 
 use Rattle.step_compiler.specs.TreeInstructions.{code_of, code_acts}
 use Rattle.step_compiler.specs.proof.BlockOrder.{block_order}
 use Rattle.step_compiler.specs.LaidOutCode.{states_of}
-use Rattle.step_compiler.specs.BlockInstructions.{trigger_code, last_instr, past, edge_code, block_code, block_length}
+use Rattle.step_compiler.specs.BlockInstructions.{trigger_code, last_instr, false_guard_target, edge_code, block_code, block_length}
 use Rattle.step_compiler.specs.BlockInstructions.{start_of, blocks_code, dispatch_offset, entry_of}
 use Rattle.step_compiler.specs.proof.BlockLengthsAndStarts.{order_length, in_list}
 use Rattle.step_compiler.specs.proof.CompiledCode.{block_starts, compiled}
@@ -50,7 +50,7 @@ use Rattle.step_compiler.proofs.StackHeights.{height, height_at, expr_height, ac
 use Rattle.step_compiler.proofs.VerifiedExpressions.{IsFine, AreFine, one_fine, both_fine, none_fine, fine_at}
 use Rattle.step_compiler.proofs.VerifiedExpressions.{jump_fine, zero_fine}
 use Rattle.step_compiler.proofs.VerifiedActions.{none_round, Matches, value_fine, acts_fine}
-use Rattle.step_compiler.proofs.LoopFreePlaces.{trigger_closed, edge_closed, IsCalm, calm_edge, calm_at, calm_round}
+use Rattle.step_compiler.proofs.LoopFreePlaces.{trigger_closed, edge_closed, IsLoopFree, calm_edge, calm_at, calm_round}
 use Rattle.step_compiler.proofs.LoopFreePlaces.{calm_outer, calm_start}
 use Rattle.step_compiler.proofs.UnguardedLastTransition.{member_leaving, edge_depth, some_edges, LastOpen, last_open}
 use Rattle.step_compiler.proofs.UnguardedLastTransition.{rest_open, past_inside}
@@ -65,9 +65,9 @@ module _ (b : BehaviourParts) (c : CodeParts) (rules : IsBehaviour b)
   whole_length : length c.instrs ≡ order_length b (block_order b)
   whole_length = ap length instrs ∙ blocks-length b starts (block_order b) 0
 
-  begins : (s : ℕ) → s < length b.states → IsCalm c.instrs (starts s)
+  begins : (s : ℕ) → s < length b.states → IsLoopFree c.instrs (starts s)
   begins s within =
-      let first : IsCalm c.instrs 0 = record { closed = none_closed c.instrs 0 0 (omega arith); level = refl } in
+      let first : IsLoopFree c.instrs 0 = record { closed = none_closed c.instrs 0 0 (omega arith); level = refl } in
       let place : 0 + start_of b (block_order b) s ≡ starts s = (let e = start_is b s within in omega arith) in
       calm_at c.instrs (0 + start_of b (block_order b) s) (starts s) place
       (calm_start c.instrs b starts (block_order b) s 0 (subst (HasAt c.instrs 0) instrs (whole_at c.instrs)) first)
@@ -116,18 +116,18 @@ module _ (b : BehaviourParts) (c : CodeParts) (rules : IsBehaviour b)
 
   -- a guard
   trigger_fine : (t : Trigger) (complete : Bool) (e : Edge) (p : ℕ) → e.trigger ≡ t
-      → HasAt c.instrs p (edge_code b starts complete e p) → HasAt c.instrs p (trigger_code t (past complete e p) p)
-      → IsCalm c.instrs p → SeesTrigger (sizes b) t
-      → height c.instrs (past complete e p) ≡ 0 → Closed c.instrs p (past complete e p)
-      → (is_always t ≡ false → is_dispatch t ≡ false → past complete e p < length c.instrs)
-      → p + length_trigger t < length c.instrs → p + length_trigger t ≤ past complete e p
+      → HasAt c.instrs p (edge_code b starts complete e p) → HasAt c.instrs p (trigger_code t (false_guard_target complete e p) p)
+      → IsLoopFree c.instrs p → SeesTrigger (sizes b) t
+      → height c.instrs (false_guard_target complete e p) ≡ 0 → Closed c.instrs p (false_guard_target complete e p)
+      → (is_always t ≡ false → is_dispatch t ≡ false → false_guard_target complete e p < length c.instrs)
+      → p + length_trigger t < length c.instrs → p + length_trigger t ≤ false_guard_target complete e p
       → AreFine c p (p + length_trigger t)
   trigger_fine Dispatch complete e p is all has calm sees level closed inside on before =
       none_fine c p (p + 0) (omega arith)
   trigger_fine Always complete e p is all has calm sees level closed inside on before =
       none_fine c p (p + 0) (omega arith)
   trigger_fine (When g) complete e p is all has calm sees level closed inside on before =
-      let to = past complete e p in
+      let to = false_guard_target complete e p in
       let r = p + length_of g in
       let front = has_front c.instrs p (code_of g p) (code.JumpZero to ∷ []) has in
       let here =
@@ -145,16 +145,16 @@ module _ (b : BehaviourParts) (c : CodeParts) (rules : IsBehaviour b)
 
   -- a transition of a state
   edge_fine : (complete : Bool) (e : Edge) (s p : ℕ) → Member b.transitions e → e.source ≡ s → s < length b.states
-      → HasAt c.instrs p (edge_code b starts complete e p) → IsCalm c.instrs p
+      → HasAt c.instrs p (edge_code b starts complete e p) → IsLoopFree c.instrs p
       → p + length_edge e ≤ starts s + block_length b s
-      → (is_always e.trigger ≡ false → is_dispatch e.trigger ≡ false → past complete e p < length c.instrs)
+      → (is_always e.trigger ≡ false → is_dispatch e.trigger ≡ false → false_guard_target complete e p < length c.instrs)
       → AreFine c p (p + length_edge e)
   edge_fine complete e s p among from within has calm before inside =
       let edge = edge_has b e (all_member (is_edge b) b.transitions e rules.edges among) in
       let t = length_trigger e.trigger in
       let m = length_acts e.actions in
       let n = length b.vars in
-      let to = past complete e p in
+      let to = false_guard_target complete e p in
       let guard = trigger_code e.trigger to p in
       let body = code_acts e.actions n (p + t) in
       let i = last_instr b starts e.target in
@@ -170,7 +170,7 @@ module _ (b : BehaviourParts) (c : CodeParts) (rules : IsBehaviour b)
       let guard_closed = trigger_closed c.instrs e.trigger to p front in
       let body_closed = acts_closed c.instrs e.actions n (p + t) q acted refl in
       let upto_body = closed_both c.instrs p (p + t) q (omega arith) guard_closed body_closed in
-      let calm_q : IsCalm c.instrs (p + t) =
+      let calm_q : IsLoopFree c.instrs (p + t) =
       record { closed = closed_both c.instrs 0 p (p + t) (omega arith) calm.closed guard_closed; level = one } in
       let room = edge_depth b.transitions e among in
       let sees = acts_seen e.actions b (sizes b) n 0 1 (fitting b) (omega arith) (omega arith) edge.sound in
@@ -187,22 +187,22 @@ module _ (b : BehaviourParts) (c : CodeParts) (rules : IsBehaviour b)
       (closed_both c.instrs 0 p q (omega arith) calm.closed upto_body) two here)))
     where
       past_calm : (complete : Bool) (e : Edge) (p q all : ℕ) → HasAt c.instrs p (edge_code b starts complete e p)
-          → IsCalm c.instrs p → q ≡ p + length_edge e - 1 → all ≡ p + length_edge e → height c.instrs q ≡ 0
+          → IsLoopFree c.instrs p → q ≡ p + length_edge e - 1 → all ≡ p + length_edge e → height c.instrs q ≡ 0
           → Closed c.instrs p q
-          → (height c.instrs (past complete e p) ≡ 0) × Closed c.instrs p (past complete e p)
+          → (height c.instrs (false_guard_target complete e p) ≡ 0) × Closed c.instrs p (false_guard_target complete e p)
       past_calm true e p q all has calm q_is all_is level closed =
           (height_at c.instrs q (p + length_edge e - 1) 0 q_is level, subst (Closed c.instrs p) q_is closed)
       past_calm false e p q all has calm q_is all_is level closed =
           (edge_height c.instrs b starts false e p has calm.level, edge_closed c.instrs b starts false e p has)
 
-      past_behind : (complete : Bool) (e : Edge) (p : ℕ) → p + length_trigger e.trigger ≤ past complete e p
+      past_behind : (complete : Bool) (e : Edge) (p : ℕ) → p + length_trigger e.trigger ≤ false_guard_target complete e p
       past_behind true e p = omega arith
       past_behind false e p = omega arith
 
   -- the transitions of a state, the last of which has no guard unless the state is complete
   block_fine : (complete : Bool) (es : List Edge) (s p : ℕ)
       → ((e : Edge) → Member es e → Member b.transitions e × (e.source ≡ s)) → s < length b.states
-      → HasAt c.instrs p (block_code b starts complete es p) → IsCalm c.instrs p
+      → HasAt c.instrs p (block_code b starts complete es p) → IsLoopFree c.instrs p
       → p + length_edges es ≡ starts s + block_length b s
       → (complete ≡ false → LastOpen es) → AreFine c p (p + length_edges es)
   block_fine complete [] s p members within has calm at unguarded = none_fine c p (p + 0) (omega arith)
@@ -245,7 +245,7 @@ module _ (b : BehaviourParts) (c : CodeParts) (rules : IsBehaviour b)
   -- ---- entries
   entry_calm : (complete : Bool) (es : List Edge) (e : Edge) (p : ℕ)
       → HasAt c.instrs p (block_code b starts complete es p) → find (λ e. is_dispatch e.trigger) es ≡ Some e
-      → IsCalm c.instrs p → IsCalm c.instrs (p + dispatch_offset es) × (dispatch_offset es < length_edges es)
+      → IsLoopFree c.instrs p → IsLoopFree c.instrs (p + dispatch_offset es) × (dispatch_offset es < length_edges es)
   entry_calm complete [] e p has found calm = cc
   entry_calm complete (f ∷ es) e p has found calm =
       let part = edge_code b starts complete f p in
@@ -259,8 +259,8 @@ module _ (b : BehaviourParts) (c : CodeParts) (rules : IsBehaviour b)
     where
       by : (t : Bool) → (if t then Some f else find (λ e. is_dispatch e.trigger) es) ≡ Some e
           → (find (λ e. is_dispatch e.trigger) es ≡ Some e
-          → IsCalm c.instrs (p + length_edge f + dispatch_offset es) × (dispatch_offset es < length_edges es))
-          → IsCalm c.instrs (p + (if t then 0 else length_edge f + dispatch_offset es))
+          → IsLoopFree c.instrs (p + length_edge f + dispatch_offset es) × (dispatch_offset es < length_edges es))
+          → IsLoopFree c.instrs (p + (if t then 0 else length_edge f + dispatch_offset es))
           × ((if t then 0 else length_edge f + dispatch_offset es) < length_edge f + length_edges es)
       by true is later = (calm_at c.instrs p (p + 0) (omega arith) calm, omega arith)
       by false is later = let x = later is in let less = x.1 in (
@@ -271,7 +271,7 @@ module _ (b : BehaviourParts) (c : CodeParts) (rules : IsBehaviour b)
 
   entry_at : (s e : ℕ) (t : Bool) → s < length b.states → is_complete b s ≡ t
       → (if t then Some (starts s + dispatch_offset (leaving b s)) else None) ≡ Some e
-      → IsCalm c.instrs e × (e < length c.instrs)
+      → IsLoopFree c.instrs e × (e < length c.instrs)
   entry_at s e false within is entry = cc
   entry_at s e true within is entry =
       let place : starts s + dispatch_offset (leaving b s) ≡ e = cc in
@@ -290,7 +290,7 @@ module _ (b : BehaviourParts) (c : CodeParts) (rules : IsBehaviour b)
       ⊎_elim (λ (here : f from ≡ y). (from, omega arith, here))
       (λ later. let x = mapped f (suc from) n y later in let less = x.1 in (x.0, omega arith, x.2)) among
 
-  pub entry_good : (e : ℕ) → Member c.entries (Some e) → IsCalm c.instrs e × (e < length c.instrs)
+  pub entry_good : (e : ℕ) → Member c.entries (Some e) → IsLoopFree c.instrs e × (e < length c.instrs)
   entry_good e among =
       let x =
       mapped (entry_of b starts) 0 (length b.states) (Some e) (subst (λ es. Member es (Some e)) entries among) in
@@ -298,10 +298,10 @@ module _ (b : BehaviourParts) (c : CodeParts) (rules : IsBehaviour b)
       entry_at x.0 e (is_complete b x.0) (omega arith) refl x.2
 
   -- ---- heights of paths
-  onward_way : (p t : ℕ) (i : Instr) → Member (onward p (Some i)) t → Member (ways p i) t
+  onward_way : (p t : ℕ) (i : Instr) → Member (forward_successors p (Some i)) t → Member (all_successors p i) t
   onward_way p t i way = by (back_of i)
     where
-      by : (o : Option ℕ) → Member (option_to_list o ++ onward p (Some i)) t
+      by : (o : Option ℕ) → Member (option_to_list o ++ forward_successors p (Some i)) t
       by None = way
       by (Some x) = inr way
 

@@ -19,12 +19,12 @@ abbrev pub last_instr : BehaviourParts → (ℕ → ℕ) → ℕ → Instr
 last_instr b starts target = if is_complete b target then code.End target else code.Jump (starts target)
 
 -- where a guard that is not true leads: behind the transition, or, where it is never taken, to its last instruction
-abbrev pub past : Bool → Edge → ℕ → ℕ
-past complete e p = if complete then p + length_edge e - 1 else p + length_edge e
+abbrev pub false_guard_target : Bool → Edge → ℕ → ℕ
+false_guard_target complete e p = if complete then p + length_edge e - 1 else p + length_edge e
 
 abbrev pub edge_code : BehaviourParts → (ℕ → ℕ) → Bool → Edge → ℕ → List Instr
 edge_code b starts complete e p =
-    trigger_code e.trigger (past complete e p) p
+    trigger_code e.trigger (false_guard_target complete e p) p
     ++ (code_acts e.actions (length b.vars) (p + length_trigger e.trigger) ++ last_instr b starts e.target ∷ [])
 
 -- the block of a state: the transitions that leave it, in the text's order

@@ -5,7 +5,7 @@ ghost use Rattle.pals_base.specs.PlainTrees.{For};
 ghost use Rattle.step_compiler.specs.TreeInstructions.{code_act, code_acts, code_branches};
 ghost use Rattle.step_compiler.specs.proof.AppendedCode.{Adds};
 
-use crate::checked_numbers::{behind, deeper};
+use crate::checked_numbers::{behind, next_depth};
 use crate::expressions::push_expr;
 use crate::lengths::{acts_length, branches_length, expr_length};
 use pals_base::{Act, Branch, Items, NoMemory};
@@ -70,7 +70,7 @@ fn push_for(
         high,
         exit,
     })?;
-    push_acts(code, body, deeper(variables)?)?;
+    push_acts(code, body, next_depth(variables)?)?;
     code.push(Instr::LoopNext { slot, high, to })
 }
 

@@ -18,7 +18,7 @@ pub fn count(things: usize) -> Result<u32, NoMemory>
 }
 
 /// The place `length` instructions behind another.
-pub fn behind(place: usize, length: u64) -> Result<u32, NoMemory>
+pub fn place_behind(place: usize, length: u64) -> Result<u32, NoMemory>
     ensures { (n : ℕ) → length ≡ capped n → IfOk result (λ to. to ≡ place + n) }
 {
     match (place as u64).checked_add(length) {
@@ -28,7 +28,7 @@ pub fn behind(place: usize, length: u64) -> Result<u32, NoMemory>
 }
 
 /// One more loop round a place.
-pub fn deeper(depth: u32) -> Result<u32, NoMemory>
+pub fn next_depth(depth: u32) -> Result<u32, NoMemory>
     ensures { IfOk result (λ more. more ≡ depth + 1) }
 {
     depth.checked_add(1).ok_or(AllocError)

@@ -4,7 +4,7 @@ ghost use Rattle.std.specs.Prelude.{◌≡◌, IfOk};
 ghost use Rattle.pals_base.specs.proof.TreeViews.{action_of, actions_along, branches_along};
 ghost use Rattle.step_compiler.specs.LoopDepths.{depth_act, depth_acts, depth_branches, depth_edges};
 
-use crate::checked_numbers::deeper;
+use crate::checked_numbers::next_depth;
 use pals_base::{Act, Branch, NoMemory, Transition};
 
 /// How deep loops nest in actions.
@@ -33,7 +33,7 @@ fn act_depth(act: &Act) -> Result<u32, NoMemory>
             let depth = branches_depth(branches)?;
             Ok(depth.max(acts_depth(otherwise)?))
         }
-        Act::For { body, .. } => deeper(acts_depth(body)?),
+        Act::For { body, .. } => next_depth(acts_depth(body)?),
     }
 }
 

@@ -2,7 +2,7 @@
 ghost use Rattle.std.specs.Prelude.{◌≡◌, IfOk, OnOk, slice_get};
 ghost use Rattle.pals_base.specs.proof.TreeViews.{trigger_of};
 ghost use Rattle.pals_base.specs.SingleStep.{completes};
-ghost use Rattle.step_compiler.specs.BlockInstructions.{trigger_code, last_instr, past};
+ghost use Rattle.step_compiler.specs.BlockInstructions.{trigger_code, last_instr, false_guard_target};
 ghost use Rattle.step_compiler.specs.proof.BlockLengthsAndStarts.{in_list};
 ghost use Rattle.step_compiler.specs.proof.CompiledCode.{transition_code};
 ghost use Rattle.step_compiler.specs.proof.AppendedCode.{Adds};
@@ -37,31 +37,31 @@ pub fn push_transition(
 {
     let variables = count(behaviour.vars().len())?;
     let never_taken = is_complete(behaviour.states(), transition.source as usize);
-    let past = past(code.len(), transition, never_taken)?;
-    push_guard(code, &transition.guard, past)?;
+    let false_guard_target = false_guard_target(code.len(), transition, never_taken)?;
+    push_guard(code, &transition.guard, false_guard_target)?;
     push_acts(code, &transition.acts, variables)?;
     code.push(last_instr(behaviour, starts, transition.target))
 }
 
 // Where a guard that is not true leads: behind the transition, or to its last instruction in a
 // complete state, of which no step takes a guarded transition and behind which nothing may stand.
-fn past(place: usize, transition: &Transition, never_taken: bool) -> Result<u32, NoMemory>
-    ensures { IfOk result (λ to. to ≡ past never_taken transition.now place) }
+fn false_guard_target(place: usize, transition: &Transition, never_taken: bool) -> Result<u32, NoMemory>
+    ensures { IfOk result (λ to. to ≡ false_guard_target never_taken transition.now place) }
 {
     let end = behind(place, transition_length(transition))?;
     if never_taken { Ok(end - 1) } else { Ok(end) }
 }
 
 // A guard, and the jump to a place where it is not true.
-fn push_guard(code: &mut Items<Instr>, guard: &Guard, past: u32) -> Result<(), NoMemory>
-    ensures { OnOk result (Adds code.old code.new (trigger_code (trigger_of guard.now) past)) }
+fn push_guard(code: &mut Items<Instr>, guard: &Guard, false_guard_target: u32) -> Result<(), NoMemory>
+    ensures { OnOk result (Adds code.old code.new (trigger_code (trigger_of guard.now) false_guard_target)) }
 {
     match guard {
         Guard::Dispatch => Ok(()),
         Guard::Always => Ok(()),
         Guard::When(condition) => {
             push_expr(code, condition)?;
-            code.push(Instr::JumpZero(past))
+            code.push(Instr::JumpZero(false_guard_target))
         }
     }
 }

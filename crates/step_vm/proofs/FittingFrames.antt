@@ -18,11 +18,11 @@ use Rattle.step_code.specs.declared.instr.Instr.TheVariants.{Push, Load, Store, 
 use Rattle.step_code.specs.declared.instr.Instr.TheVariants.{Mul, Quot, Mod, Rem, Eq, Ne, Lt, Le, Gt, Ge, And, Or, Xor}
 use Rattle.step_code.specs.declared.instr.Instr.TheVariants.{Jump, JumpZero, LoopStart, LoopNext, Emit, End}
 use Rattle.step_code.specs.declared.instr.CodeParts.{CodeParts}
-use Rattle.step_code.specs.InstructionEffects.{Next, Goes, Ends, Traps, Sticks, Senses, on_top, on_found, on_result}
+use Rattle.step_code.specs.InstructionEffects.{Next, Goes, Ends, Traps, Sticks, StepInputs, on_top, on_found, on_result}
 use Rattle.step_code.specs.InstructionEffects.{on_two, step}
-use Rattle.step_code.specs.proof.CodeRuns.{Outcome, Ended, Trapped, Stuck, Unfinished, then_run, run, left, from_entry}
+use Rattle.step_code.specs.proof.CodeRuns.{CodeOutcome, Ended, Trapped, Stuck, Unfinished, then_run, run, what_is_left, from_entry}
 use Rattle.step_code.specs.proof.CodeRuns.{unless_halted, exec, Leaves, has_entry, FitsCode}
-use Rattle.step_code.specs.InstructionsPerStep.{silent, senses, slots_of}
+use Rattle.step_code.specs.InstructionsPerStep.{silent, step_inputs, slots_of}
 use Rattle.step_code.specs.proof.VerifierRules.{finds, misses_slot, on_some, BadSlot, IsVerified}
 use Rattle.step_code.proofs.FaultlessInstructions.{untrue}
 use Rattle.step_code.proofs.StepResults.{length-holding, begins}
@@ -61,7 +61,7 @@ two_keeps i o p stack slots outs =
     (λ b below. top_keeps (length slots) i below _
     (λ a rest. result_keeps (length slots) i (applied o a b) _ (λ v. refl)))
 
-step_keeps : (s : Senses) (i : Instr) (p : ℕ) (stack slots : List ℤ) (outs : List Value)
+step_keeps : (s : StepInputs) (i : Instr) (p : ℕ) (stack slots : List ℤ) (outs : List Value)
     → Keeps (length slots) (Some i) (step (Some i) s p stack slots outs)
 step_keeps s (Push v) p stack slots outs = refl
 step_keeps s (Load x) p stack slots outs = found_keeps (length slots) (Some (Load x)) (slice_get slots x) _ (λ v. refl)
@@ -116,7 +116,7 @@ pub record EndsAt (code : List Instr) (n state : ℕ) (slots : List ℤ) : Type 
   pub here : slice_get code place ≡ Some (End state)
   pub size : length slots ≡ n
 
-ends_by : (code : List Instr) (n p state : ℕ) (rest : ℕ → List ℤ → List ℤ → List Value → Outcome) (i : Option Instr)
+ends_by : (code : List Instr) (n p state : ℕ) (rest : ℕ → List ℤ → List ℤ → List Value → CodeOutcome) (i : Option Instr)
     (next : Next) (slots' : List ℤ) (outs' : List Value) → slice_get code p ≡ i → Keeps n i next
     → ((q : ℕ) (stack slots : List ℤ) (outs : List Value) → length slots ≡ n
     → rest q stack slots outs ≡ Ended state slots' outs' → EndsAt code n state slots')
@@ -130,12 +130,12 @@ ends_by code n p state rest i (Ends t slots outs) slots' outs' is keeps again en
 ends_by code n p state rest i (Traps trap) slots' outs' is keeps again ended = cc
 ends_by code n p state rest i Sticks slots' outs' is keeps again ended = cc
 
-any_keeps : (s : Senses) (i : Option Instr) (p : ℕ) (stack slots : List ℤ) (outs : List Value)
+any_keeps : (s : StepInputs) (i : Option Instr) (p : ℕ) (stack slots : List ℤ) (outs : List Value)
     → Keeps (length slots) i (step i s p stack slots outs)
 any_keeps s None p stack slots outs = tt
 any_keeps s (Some i) p stack slots outs = step_keeps s i p stack slots outs
 
-ends_at : (code : List Instr) (s : Senses) (m n p state : ℕ) (stack slots slots' : List ℤ) (outs outs' : List Value)
+ends_at : (code : List Instr) (s : StepInputs) (m n p state : ℕ) (stack slots slots' : List ℤ) (outs outs' : List Value)
     → length slots ≡ n → run code s m p stack slots outs ≡ Ended state slots' outs' → EndsAt code n state slots'
 ends_at code s zero n p state stack slots slots' outs outs' size ended = cc
 ends_at code s (suc m) n p state stack slots slots' outs outs' size ended =
@@ -152,9 +152,9 @@ entered c p state v here =
     not-false (has_entry (slice_get c.entries state))
     (ap (λ o. on_some o (misses_slot c p)) (sym here) ∙ untrue (finds c (misses_slot c p) p) (v.clean p BadSlot))
 
-ended_fits : (c : CodeParts) (held : Frame) (o : Outcome) (f : Fired) → IsVerified c → FitsCode c held
+ended_fits : (c : CodeParts) (held : Frame) (o : CodeOutcome) (f : Fired) → IsVerified c → FitsCode c held
     → ((state : ℕ) (slots : List ℤ) (outs : List Value) → o ≡ Ended state slots outs
-    → EndsAt c.instrs (c.vars + c.loops) state slots) → left c held o ≡ Leaves f → FitsCode c f.frame
+    → EndsAt c.instrs (c.vars + c.loops) state slots) → what_is_left c held o ≡ Leaves f → FitsCode c f.frame
 ended_fits c held (Ended state slots outs) f v fits ends is =
     let e = ends state slots outs refl in
     let size = e.size in
@@ -170,8 +170,8 @@ ended_fits c held (Trapped trap) f v fits ends is =
 ended_fits c held Stuck f v fits ends is = cc
 ended_fits c held Unfinished f v fits ends is = cc
 
-halted_fits : (c : CodeParts) (held : Frame) (halt : Option Trap) (o : Outcome) (f : Fired) → FitsCode c held
-    → (left c held o ≡ Leaves f → FitsCode c f.frame) → unless_halted c held halt o ≡ Leaves f → FitsCode c f.frame
+halted_fits : (c : CodeParts) (held : Frame) (halt : Option Trap) (o : CodeOutcome) (f : Fired) → FitsCode c held
+    → (what_is_left c held o ≡ Leaves f → FitsCode c f.frame) → unless_halted c held halt o ≡ Leaves f → FitsCode c f.frame
 halted_fits c held None o f fits going is = going is
 halted_fits c held (Some trap) o f fits going is = let same : held ≡ f.frame = cc in subst (FitsCode c) same fits
 
@@ -189,5 +189,5 @@ frame_fits c frame inputs f v fits is =
     (λ leaves.
     ended_fits c held (from_entry c held inputs (slice_get c.entries frame.state)) f v fits'
     (λ state slots outs ended.
-    ends_at c.instrs (senses held.held inputs) _ (c.vars + c.loops) b.0 state [] (slots_of c held.vars) slots (silent c)
+    ends_at c.instrs (step_inputs held.held inputs) _ (c.vars + c.loops) b.0 state [] (slots_of c held.vars) slots (silent c)
     outs size (ap (from_entry c held inputs) (sym b.1.is) ∙ ended)) leaves) is

@@ -3,7 +3,7 @@ ghost use Rattle.std.specs.Prelude.{◌≡◌, ◌≤◌, ◌<◌, ◌+◌, leng
 ghost use Rattle.pals_base.specs.SingleStep.{is_present};
 ghost use Rattle.pals_base.specs.declared.limits.TheConstants.{INSTRUCTIONS};
 ghost use Rattle.step_code.specs.proof.StackHeights.{takes};
-ghost use Rattle.step_code.specs.proof.SlotsAndPorts.{Fed};
+ghost use Rattle.step_code.specs.proof.SlotsAndPorts.{FindsSlotsAndPorts};
 ghost use Rattle.step_vm.specs.proof.MachineAnswers.{Met, GivesResult, GivesBoth, done_by};
 
 use crate::operators::{apply, holds, number_of};
@@ -77,7 +77,7 @@ pub fn advance(
     inputs: CodeInputs,
 ) -> Continuation
     requires operands { takes instr ≤ length stack.old.numbers }
-    requires there { Fed (length slots.old) (length inputs.held.now) (length outs.old) instr }
+    requires there { FindsSlotsAndPorts (length slots.old) (length inputs.held.now) (length outs.old) instr }
     requires inputs { length inputs.present.now ≡ length inputs.held.now }
     requires room { length stack.old.numbers < stack.old.size }
     requires small { place < INSTRUCTIONS }

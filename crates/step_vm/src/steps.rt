@@ -1,7 +1,7 @@
 //! Steps of code.
 ghost use Rattle.std.specs.Prelude.{◌≡◌, ◌≤◌, ◌-◌, ◌++◌, [], length, take, replicate, pos, Some, true, slice_get, ◌+◌};
 ghost use Rattle.pals_base.specs.SingleStep.{holding};
-ghost use Rattle.step_code.specs.proof.CodeRuns.{FitsCode, Sized, Leaves, exec, has_entry, left, run_from};
+ghost use Rattle.step_code.specs.proof.CodeRuns.{FitsCode, HasCodeSizes, Leaves, exec, has_entry, what_is_left, run_from};
 ghost use Rattle.step_code.specs.InstructionsPerStep.{silent};
 ghost use Rattle.step_code.specs.proof.StackHeights.{Member};
 ghost use Rattle.step_code.specs.proof.VerifierRules.{IsVerified};
@@ -79,9 +79,9 @@ fn react(
     requires verified { IsVerified parts.now }
     requires entry { Member parts.now.entries (Some entry) }
     requires room { IsRoomOf parts.now room.old }
-    requires sizes { Sized parts.now frame.old inputs.now }
+    requires sizes { HasCodeSizes parts.now frame.old inputs.now }
     requires outs { outs.old ≡ silent parts.now }
-    ensures step { left parts.now frame.old (run_from parts.now frame.old inputs.now entry)
+    ensures step { what_is_left parts.now frame.old (run_from parts.now frame.old inputs.now entry)
         ≡ Leaves (record { frame = frame.new; outs = outs.new }) }
     ensures room { room.new ≡ room.old }
 {

@@ -7,7 +7,7 @@ use Rattle.pals_base.specs.declared.values.PortValue.{PortValue}
 use Rattle.pals_base.specs.declared.values.PortValue.TheVariants.{Absent}
 use Rattle.pals_base.specs.Tuples.{column, cut}
 use Rattle.pals_base.proofs.ColumnsAndCutTuples.{cut-at}
-use Rattle.sync_product.specs.proof.Rounds.{place_before}
+use Rattle.sync_product.specs.proof.Rounds.{value_if_before}
 
 pub column-at : (rows : List (List PortValue)) (port at : ℕ) (d : PortValue) (row : List PortValue) → at < length rows
     → slice_index_or (column port rows) at d ≡ slice_index_or (slice_index_or rows at row) port Absent
@@ -29,11 +29,11 @@ length-column_of_map f xs step =
 -- a place of a row that counts
 pub cut_column-at : (rows : List (List PortValue)) (port count at : ℕ) (row : List PortValue) (d : PortValue)
     → at < length rows → row ≡ slice_index_or rows at row
-    → place_before (nat_lt at count) port row ≡ slice_index_or (cut count (column port rows)) at d
+    → value_if_before (nat_lt at count) port row ≡ slice_index_or (cut count (column port rows)) at d
 cut_column-at rows port count at row d within item =
     let inside : at < length (column port rows) =
     omega (arith, length-map rows (λ (r : List PortValue). slice_index_or r port Absent)) in
-    ap (λ r. place_before (nat_lt at count) port r) item
+    ap (λ r. value_if_before (nat_lt at count) port r) item
     ∙ ap (λ p. if nat_lt at count then p else Absent) (sym (column-at rows port at d row within))
     ∙ sym (cut-at count at (column port rows) d inside)
 

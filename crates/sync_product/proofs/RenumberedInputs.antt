@@ -14,7 +14,7 @@ use Rattle.pals_model.specs.declared.design.Feed.{Feed}
 use Rattle.pals_model.specs.declared.design.DesignParts.{DesignParts}
 use Rattle.pals_model.specs.declared.environment.Env.{Env}
 use Rattle.pals_model.specs.ComponentInputs.{feed_names, root_inputs, root_of, place_of, values_at, link_goes_to}
-use Rattle.pals_model.specs.ComponentInputs.{feed_goes_to, source_of, read_link, read_feed, reading}
+use Rattle.pals_model.specs.ComponentInputs.{feed_goes_to, source_of, read_link, read_feed, brought_tuple}
 use Rattle.pals_model.specs.DesignRules.{IsDesign, IsLink, IsFeed}
 use Rattle.pals_model.proofs.FirstMatches.{at_element}
 use Rattle.pals_model.proofs.SourceLaws.{link_is_source, feed_is_source, nothing_is_source}
@@ -78,23 +78,23 @@ module _ (to : ℕ → ℕ) (a b : DesignParts) (sound_a : IsDesign a) (sound_b 
       (messages_a messages_b : List (List PortValue))
       (same : SameMessages to a b messages_a messages_b) where
     abbrev brought_a : ℕ → ℕ → ℕ → List PortValue
-    brought_a rate node port = reading a (values_at env_a round) messages_a rate (source_of a node port)
+    brought_a rate node port = brought_tuple a (values_at env_a round) messages_a rate (source_of a node port)
 
     abbrev brought_b : ℕ → ℕ → ℕ → List PortValue
-    brought_b rate node port = reading b (values_at env_b round) messages_b rate (source_of b node port)
+    brought_b rate node port = brought_tuple b (values_at env_b round) messages_b rate (source_of b node port)
 
     link_brings : (rate l m : ℕ) (link : Link) → slice_get a.links l ≡ Some link
         → slice_get b.links m ≡ Some (renumbered_link to link)
         → brought_b rate (to link.target.0) link.in_port ≡ brought_a rate link.target.0 link.in_port
     link_brings rate l m link is_a is_b =
         let sound = at_element (IsLink a) a.links l link sound_a.links.each is_a in
-        ap (reading b (values_at env_b round) messages_b rate)
+        ap (brought_tuple b (values_at env_b round) messages_b rate)
         (link_is_source b m (renumbered_link to link) sound_b is_b)
         ∙ ap (read_link b rate (slice_index_or messages_b m [])) is_b
         ∙ ap₂ (λ k message. adapt link.adaptor k rate message) (rate_there to a b r link.source.0 sound.source.node_is)
         (same l m link is_a is_b)
         ∙ sym (ap (read_link a rate (slice_index_or messages_a l [])) is_a)
-        ∙ sym (ap (reading a (values_at env_a round) messages_a rate) (link_is_source a l link sound_a is_a))
+        ∙ sym (ap (brought_tuple a (values_at env_a round) messages_a rate) (link_is_source a l link sound_a is_a))
 
     value_there : (f g : ℕ) (feed : Feed) → slice_get a.feeds f ≡ Some feed
         → slice_get b.feeds g ≡ Some (renumbered_feed to feed)
@@ -112,12 +112,12 @@ module _ (to : ℕ → ℕ) (a b : DesignParts) (sound_a : IsDesign a) (sound_b 
         → slice_get b.feeds g ≡ Some (renumbered_feed to feed)
         → brought_b rate (to feed.target.0) feed.in_port ≡ brought_a rate feed.target.0 feed.in_port
     feed_brings rate f g feed is_a is_b =
-        ap (reading b (values_at env_b round) messages_b rate)
+        ap (brought_tuple b (values_at env_b round) messages_b rate)
         (feed_is_source b g (renumbered_feed to feed) sound_b is_b)
         ∙ ap (read_feed (slice_index_or (values_at env_b round) (root_of b g) Absent) rate) is_b
         ∙ ap (λ value. adapt feed.adaptor 1 rate (value ∷ [])) (value_there f g feed is_a is_b)
         ∙ sym (ap (read_feed (slice_index_or (values_at env_a round) (root_of a f) Absent) rate) is_a)
-        ∙ sym (ap (reading a (values_at env_a round) messages_a rate) (feed_is_source a f feed sound_a is_a))
+        ∙ sym (ap (brought_tuple a (values_at env_a round) messages_a rate) (feed_is_source a f feed sound_a is_a))
 
     abbrev Brings : ℕ → ℕ → ℕ → Type 0
     Brings rate node port = brought_b rate (to node) port ≡ brought_a rate node port
@@ -136,10 +136,10 @@ module _ (to : ℕ → ℕ) (a b : DesignParts) (sound_a : IsDesign a) (sound_b 
         brings_to rate feed.target.0 feed.in_port node port (port_is feed.target.0 feed.in_port node port fed.3)
         (feed_brings rate fed.0 there.0 feed fed.2 there.1)
     without_link rate node port within no_link (inr no_feed) =
-        ap (reading b (values_at env_b round) messages_b rate)
+        ap (brought_tuple b (values_at env_b round) messages_b rate)
         (nothing_is_source b (to node) port (no_link_there node port within no_link)
         (no_feed_there node port within no_feed))
-        ∙ sym (ap (reading a (values_at env_a round) messages_a rate) (nothing_is_source a node port no_link no_feed))
+        ∙ sym (ap (brought_tuple a (values_at env_a round) messages_a rate) (nothing_is_source a node port no_link no_feed))
 
     brings_by : (rate node port : ℕ) → node < length a.components
         → Passes (link_goes_to node port) a.links ⊎ All (λ link. link_goes_to node port link ≡ false) a.links

@@ -17,7 +17,7 @@ use Rattle.pals_model.specs.declared.design.Tap.{Tap}
 use Rattle.pals_model.specs.declared.design.DesignParts.{DesignParts}
 use Rattle.pals_model.specs.declared.environment.Env.{Env}
 use Rattle.pals_model.specs.declared.part.Part.{Part}
-use Rattle.pals_model.specs.ComponentInputs.{values_at, source_of, reading, inputs_in, feed}
+use Rattle.pals_model.specs.ComponentInputs.{values_at, source_of, brought_tuple, inputs_in, input_vectors}
 use Rattle.pals_model.specs.Composition.{comp, state, msg, part, taps_of}
 use Rattle.pals_model.specs.DesignRules.{IsDesign, IsLink, IsTap}
 use Rattle.pals_model.specs.proof.CompositionLaws.{own_steps}
@@ -44,9 +44,9 @@ module _ (to : ℕ → ℕ) (a b : DesignParts) (sound_a : IsDesign a) (sound_b 
   -- ---- one round
   module _ (round : ℕ) (states : SameStates round) (waiting : SameWaiting round) where
     same_ports : (rate node : ℕ) → node < length a.components → (ports : List ℕ)
-        → map (reading b (values_at env_b round) (comp b env_b round).messages rate)
+        → map (brought_tuple b (values_at env_b round) (comp b env_b round).messages rate)
         (map (λ port. source_of b (to node) port) ports)
-        ≡ map (reading a (values_at env_a round) (comp a env_a round).messages rate)
+        ≡ map (brought_tuple a (values_at env_a round) (comp a env_a round).messages rate)
         (map (λ port. source_of a node port) ports)
     same_ports rate node within [] = refl
     same_ports rate node within (port ∷ ports) =
@@ -57,9 +57,9 @@ module _ (to : ℕ → ℕ) (a b : DesignParts) (sound_a : IsDesign a) (sound_b 
         (same_ports rate node within ports)
 
     same_feed : (node : ℕ) (c : Component) → slice_get a.components node ≡ Some c
-        → feed b env_b (comp b env_b round).messages (to node) round
-        ≡ feed a env_a (comp a env_a round).messages node round
-    unfolding feed
+        → input_vectors b env_b (comp b env_b round).messages (to node) round
+        ≡ input_vectors a env_a (comp a env_a round).messages node round
+    unfolding input_vectors
     same_feed node c is =
         ap (inputs_in b (values_at env_b round) (comp b env_b round).messages (to node))
         (component_there to a b r node c is)

@@ -28,12 +28,12 @@ pub fn write_inputs(inputs: &mut Tuple, round: RoundInputs, wired: WiredComponen
 {
     let rate = wired.component.rate;
     for at in 0..wired.sources.len() {
-        inputs.set(at, place_brought(round, rate, wired.sources[at], step));
+        inputs.set(at, value_brought(round, rate, wired.sources[at], step));
     }
 }
 
 /// What an in port of a component of this rate has in a step.
-pub fn place_brought(round: RoundInputs, rate: u32, source: PortSource, step: usize) -> PortValue
+pub fn value_brought(round: RoundInputs, rate: u32, source: PortSource, step: usize) -> PortValue
     requires { step < rate }
     ensures { result ≡ slice_index_or (brought round.entry rate source) step Absent }
 {

@@ -1,7 +1,7 @@
 //! Tuples written place by place. The calls take no memory.
 ghost use Rattle.std.specs.Prelude.{◌≡◌, length};
 ghost use Rattle.pals_base.specs.Tuples.{column, cut};
-ghost use Rattle.sync_product.specs.proof.Rounds.{place_before};
+ghost use Rattle.sync_product.specs.proof.Rounds.{value_if_before};
 
 use pals_base::tuples::place;
 use pals_base::{PortValue, Tuple};
@@ -12,13 +12,13 @@ pub fn write_port_tuple(to: &mut Tuple, rows: &[Tuple], port: usize, count: usiz
     ensures { to.new ≡ cut count (column port rows.now) }
 {
     for at in 0..rows.len() {
-        to.set(at, place_before(rows[at].as_slice(), port, at < count));
+        to.set(at, value_if_before(rows[at].as_slice(), port, at < count));
     }
 }
 
 // A place of a row where it counts, else an absent one.
-fn place_before(row: &[PortValue], port: usize, counts: bool) -> PortValue
-    ensures { result ≡ place_before counts port row.now }
+fn value_if_before(row: &[PortValue], port: usize, counts: bool) -> PortValue
+    ensures { result ≡ value_if_before counts port row.now }
 {
     if counts {
         place(row, port)

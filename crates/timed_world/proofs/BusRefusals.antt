@@ -32,10 +32,10 @@ use Rattle.run_laws.proofs.WorldNodeTiming.{may_is}
 use Rattle.run_laws.proofs.WorldTimeRanges.{times_are_readings}
 use Rattle.run_laws.proofs.KeptWorldInvariant.{event_keeps_time}
 use Rattle.timed_world.specs.proof.WorldValues.{WorldValue, world_of, KeepsWorld}
-use Rattle.timed_world.proofs.EventEffects.{IsFine, Reads}
+use Rattle.timed_world.proofs.EventEffects.{HasNoFault, Reads}
 
 -- no stop stands after a start
-start_goes : (old : WorldValue) (node : NodeNo) (new : BusState) → KeepsWorld old → IsFine old (event.Start node)
+start_goes : (old : WorldValue) (node : NodeNo) (new : BusState) → KeepsWorld old → HasNoFault old (event.Start node)
     → new ≡ after old.bus.run old.bus.state (Start node (Some (reading_at (world_of old) node.0))) → new.stop ≡ None
 start_goes old node new keeps fine is =
     ap (λ (s : BusState). s.stop) is
@@ -43,7 +43,7 @@ start_goes old node new keeps fine is =
 
 -- a start is refused for memory alone, and then the bus is as before
 start_ends : (old : WorldValue) (node : NodeNo) (new : BusValue) (end : BusError StartEnd) → KeepsWorld old
-    → IsFine old (event.Start node)
+    → HasNoFault old (event.Start node)
     → BusStartEnds old.bus node (Some (reading_at (world_of old) node.0)) new end
     → (end ≡ fault.Refused start.Memory) × (new ≡ old.bus)
 start_ends old node new (fault.Stopped why) keeps fine cause = elim cause [
@@ -65,7 +65,7 @@ start_ends old node new (fault.Refused (start.Missed port)) keeps fine cause = a
 start_ends old node new (fault.Refused start.Memory) keeps fine cause = (refl, cause.same)
 
 pub start_only : (old : WorldValue) (node : NodeNo) (reading : ℕ) (new : BusValue) (end : BusError StartEnd)
-    → KeepsWorld old → IsFine old (event.Start node)
+    → KeepsWorld old → HasNoFault old (event.Start node)
     → Reads old node reading → BusStartEnds old.bus node (Some reading) new end
     → (end ≡ fault.Refused start.Memory) × (new ≡ old.bus)
 start_only old node reading new end keeps fine reads cause =
@@ -73,7 +73,7 @@ start_only old node reading new end keeps fine reads cause =
 
 -- a step is refused for memory alone
 step_ends : (old : WorldValue) (node : NodeNo) (end : BusError StepEnd) → KeepsWorld old
-    → IsFine old (event.Step node)
+    → HasNoFault old (event.Step node)
     → BusStepEnds old.bus node (Some (reading_at (world_of old) node.0)) end → end ≡ fault.Refused step.Memory
 step_ends old node (fault.Stopped why) keeps fine cause = absurd (none-some why (sym keeps.keeps.going ∙ cause))
 step_ends old node (fault.Refused step.NotBetween) keeps fine cause =
@@ -91,14 +91,14 @@ step_ends old node (fault.Refused (step.NotYet alarm)) keeps fine cause =
 step_ends old node (fault.Refused step.Memory) keeps fine cause = refl
 
 pub step_only : (old : WorldValue) (node : NodeNo) (reading : ℕ) (end : BusError StepEnd)
-    → KeepsWorld old → IsFine old (event.Step node)
+    → KeepsWorld old → HasNoFault old (event.Step node)
     → Reads old node reading → BusStepEnds old.bus node (Some reading) end → end ≡ fault.Refused step.Memory
 step_only old node reading end keeps fine reads cause =
     step_ends old node end keeps fine (subst (λ at. BusStepEnds old.bus node (Some at) end) reads cause)
 
 -- an arrival is refused for memory alone
 pub arrival_only : (old : WorldValue) (link : LinkNo) (round : ℕ) (end : BusError MessageError) → KeepsWorld old
-    → IsFine old (event.Arrive link round) → LinkEnds old.bus link round end → end ≡ fault.Refused message.Memory
+    → HasNoFault old (event.Arrive link round) → LinkEnds old.bus link round end → end ≡ fault.Refused message.Memory
 arrival_only old link round (fault.Stopped why) keeps fine cause =
     absurd (none-some why (sym keeps.keeps.going ∙ cause))
 arrival_only old link round (fault.Refused message.NoSuchMessage) keeps fine cause =
@@ -109,7 +109,7 @@ arrival_only old link round (fault.Refused message.Memory) keeps fine cause = re
 not_done : (p : Phase) (steps rate : ℕ) → finished_steps rate p ≡ Some steps → p ≢ Done
 not_done p steps rate is done = none-some steps (sym (ap (finished_steps rate) done) ∙ is)
 
-pub send_reads : (old : WorldValue) (node : NodeNo) (reading : ℕ) → KeepsWorld old → IsFine old (event.Send node)
+pub send_reads : (old : WorldValue) (node : NodeNo) (reading : ℕ) → KeepsWorld old → HasNoFault old (event.Send node)
     → Reads old node reading → reading ≤ READING
 send_reads old node reading keeps fine reads =
     let w = world_of old in

@@ -35,11 +35,11 @@ pub bus_stays : (old : WorldValue) (e : Event) (new : WorldValue) → Moves old 
     → new.bus ≡ record old.bus { state = new.bus.state; journal = new.bus.journal }
 bus_stays old e new moves = others_stay old.bus (bus_event (world_of old) e) new.bus moves.bus
 
-abbrev pub IsFine : WorldValue → Event → Type 0
-IsFine v e = fault_of v.bus.run (world_of v) e ≡ None
+abbrev pub HasNoFault : WorldValue → Event → Type 0
+HasNoFault v e = fault_of v.bus.run (world_of v) e ≡ None
 
 -- an event without a fault keeps what every world keeps
-pub moves_keep : (old : WorldValue) (e : Event) (new : WorldValue) → KeepsWorld old → IsFine old e → Moves old e new
+pub moves_keep : (old : WorldValue) (e : Event) (new : WorldValue) → KeepsWorld old → HasNoFault old e → Moves old e new
     → KeepsWorld new
 moves_keep old e new keeps fine moves =
     let stays = bus_stays old e new moves in
@@ -84,7 +84,7 @@ passed old time readings left is =
     (record { world = refl; bus = refl })
 
 pub begun : (old : WorldValue) (node : NodeNo) (reading : ℕ) (bus : BusValue) (since : List ℕ) → KeepsWorld old
-    → IsFine old (event.Start node)
+    → HasNoFault old (event.Start node)
     → Reads old node reading → Happens old.bus (Start node (Some reading)) bus
     → since ≡ slice_set old.since node.0 old.time
     → Moves old (event.Start node) (record old { bus = bus; since = since })

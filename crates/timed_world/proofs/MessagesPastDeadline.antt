@@ -5,7 +5,7 @@ use Rattle.std.specs.Prelude.{is_some, if◌then◌else◌}
 use Rattle.std.proofs.lemmas.Bool.{cases_eq, eq-eqb, ne_eqb}
 use Rattle.pals_model.specs.declared.flight_copy.FlightCopy.{FlightCopy}
 use Rattle.pals_runs.specs.declared.events_and_faults.EventFault.{EventFault}
-use Rattle.pals_runs.specs.declared.events_and_faults.EventSubject.TheVariants as which
+use Rattle.pals_runs.specs.declared.events_and_faults.EventSubject.TheVariants as subject
 use Rattle.bus_machine.specs.LinkEvents.{is_in_flight}
 use Rattle.bus_machine.specs.Runs.{Run}
 use Rattle.bus_machine.specs.proof.AgreementLaws.{IsRunOf}
@@ -22,7 +22,7 @@ module _ (run : Run) (w : World) (rules : IsRunOf run) (keeps : KeepsTime run w)
   module _ (time : ℕ) where
     abbrev flying_of : Bool → ℕ → Option EventFault
     flying_of b round =
-        if b then past time (which.Message (record { 0 = number }) round)
+        if b then past time (subject.Message (record { 0 = number }) round)
         (Some (message_deadline run w number round)) else None
 
     abbrev Same : List FlightCopy → Type 0

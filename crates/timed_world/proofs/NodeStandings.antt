@@ -16,7 +16,7 @@ use Rattle.bus_machine.specs.Agreement.{PhaseAgrees}
 use Rattle.bus_machine.specs.proof.AgreementLaws.{IsRunOf}
 use Rattle.run_laws.specs.Worlds.{World, since_at, ready_at}
 use Rattle.run_laws.specs.Deadlines.{node_deadline, phase_deadline, lesser}
-use Rattle.run_laws.specs.proof.WorldInvariant.{IsInTime, KeepsTime}
+use Rattle.run_laws.specs.proof.WorldInvariant.{KeepsDeadline, KeepsTime}
 use Rattle.run_laws.proofs.WorldNodeTiming.{deadline_is, phase_agrees, rounds_at_most, send_last as of_send}
 use Rattle.run_laws.proofs.WorldNodeTiming.{phase_last as of_phase}
 use Rattle.run_laws.proofs.WorldTimeRanges.{times_are_readings}
@@ -29,7 +29,7 @@ some_lesser : (a : ℕ) (b : Option ℕ) → is_some (lesser (Some a) b) ≡ tru
 some_lesser a None = refl
 some_lesser a (Some b) = refl
 
-time_small : (time most : ℕ) (o : Option ℕ) → is_some o ≡ true → IsInTime time o
+time_small : (time most : ℕ) (o : Option ℕ) → is_some o ≡ true → KeepsDeadline time o
     → ((last : ℕ) → o ≡ Some last → last ≤ most) → time ≤ most
 time_small time most None some in_time small = absurd (false≢true some)
 time_small time most (Some last) some in_time small = let few = small last refl in

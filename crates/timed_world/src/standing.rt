@@ -29,7 +29,7 @@ pub struct NodeStanding {
 
 impl NodeStanding {
     ghost use Rattle.timed_world.specs.proof.NodeFaults.{IsSound, alarm_of_step, release_of, start_fault, step_fault};
-    ghost use Rattle.timed_world.specs.proof.NodeFaults.{finish_fault, send_fault, may_go, phase_last, send_last};
+    ghost use Rattle.timed_world.specs.proof.NodeFaults.{finish_fault, send_fault, may_send_round, phase_last, send_last};
     ghost use Rattle.timed_world.specs.proof.NodeFaults.{last_time};
 
     /// Why it may not start its next round, if so.
@@ -86,7 +86,7 @@ impl NodeStanding {
         requires sound { IsSound plan.now self.now }
         ensures { result ≡ send_fault plan.now self.now }
     {
-        if !self.may_go(plan) {
+        if !self.may_send_round(plan) {
             return Some(EventFault::WrongPhase { node: plan.node });
         }
         not_due(plan.node, self.release_of(plan), self.reading)
@@ -143,7 +143,7 @@ impl NodeStanding {
         requires sound { IsSound plan.now self.now }
         ensures { result ≡ send_last plan.now self.now gamma.now }
     {
-        if !self.may_go(plan) {
+        if !self.may_send_round(plan) {
             return None;
         }
         let released = last_before(self.release_of(plan), gamma.eps);
@@ -151,8 +151,8 @@ impl NodeStanding {
     }
 
     // Whether its round may be sent: it is not sent, and enough of its steps are finished.
-    fn may_go(&self, plan: &Plan) -> bool
-        ensures { result ≡ may_go plan.now self.now }
+    fn may_send_round(&self, plan: &Plan) -> bool
+        ensures { result ≡ may_send_round plan.now self.now }
     {
         if self.sent {
             return false;
@@ -187,11 +187,11 @@ impl NodeStanding {
 }
 
 /// A fault where the time is below the earliest one.
-pub fn too_soon(which: EventSubject, earliest: Nanos, time: Nanos) -> Option<EventFault>
-    ensures { result ≡ found_if (nat_lt time earliest) (fault.TooSoon which earliest) }
+pub fn too_soon(subject: EventSubject, earliest: Nanos, time: Nanos) -> Option<EventFault>
+    ensures { result ≡ found_if (nat_lt time earliest) (fault.TooSoon subject earliest) }
 {
     if time < earliest {
-        return Some(EventFault::TooSoon { which, earliest });
+        return Some(EventFault::TooSoon { subject, earliest });
     }
     None
 }

@@ -127,15 +127,15 @@ impl World {
 }
 
 // A fault where the time is past the last one that is allowed.
-fn past(time: Nanos, which: EventSubject, last: Option<u128>) -> Option<EventFault>
-    ensures { result ≡ past time which last }
+fn past(time: Nanos, subject: EventSubject, last: Option<u128>) -> Option<EventFault>
+    ensures { result ≡ past time subject last }
 {
     match last {
         None => None,
         Some(last) => {
             if last < u128::from(time) {
                 let last = last as u64;
-                return Some(EventFault::PastDeadline { which, last });
+                return Some(EventFault::PastDeadline { subject, last });
             }
             None
         }

@@ -9,7 +9,7 @@ use Rattle.std.proofs.lemmas.List.Splits.{length-slice_split, slice_split_none, 
 use Rattle.std.proofs.lemmas.Str.Pattern.{IsSplitOnceResult, split_parts}
 use denote.Ref.{Bor}
 use Rattle.list_lemmas.proofs.Numbers.{nat_eq-swapped}
-use Rattle.run_laws.specs.LineForms.{Form, at_end, words_of}
+use Rattle.run_laws.specs.LineForms.{LineForm, at_end, words_of}
 use Rattle.trace_audit.specs.proof.RemainingWords.{is_space}
 
 -- ---- the space on either side
@@ -41,9 +41,9 @@ pub cut_once : (line : List ℕ) (word more : Bor (List ℕ)) → IsSplitOnceRes
 cut_once line word more cut = first_word line (Some (word, more)) cut
 
 -- ---- the end of a line
-none_left : (form : Form) (words : List (List ℕ)) → 1 ≤ length words → at_end form words ≡ None
+none_left : (form : LineForm) (words : List (List ℕ)) → 1 ≤ length words → at_end form words ≡ None
 none_left form [] some = absurd (omega arith)
 none_left form (word ∷ words) some = refl
 
-pub words_left : (form : Form) (rest : List ℕ) → at_end form (words_of rest) ≡ None
+pub words_left : (form : LineForm) (rest : List ℕ) → at_end form (words_of rest) ≡ None
 words_left form rest = none_left form (words_of rest) (let size = length-slice_split (nat_eq 32) rest in omega arith)

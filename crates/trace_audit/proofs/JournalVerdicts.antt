@@ -8,7 +8,7 @@ use Rattle.pals_runs.specs.declared.verdicts.TraceRule.{TraceRule}
 use Rattle.pals_runs.specs.declared.verdicts.Verdict.{Verdict}
 use Rattle.pals_runs.specs.declared.verdicts.Verdict.TheVariants.{Sound, Wrong}
 use Rattle.bus_machine.specs.Runs.{Run}
-use Rattle.run_laws.specs.EntriesInLines.{told}
+use Rattle.run_laws.specs.EntriesInLines.{entry_of_line}
 use Rattle.run_laws.specs.TraceVerdicts.{Audit, audit_after, end_broken, entry_or, journal_verdict, line_broken}
 use Rattle.run_laws.specs.TraceVerdicts.{opening_audit, report_size, row_size, trace_verdict, verdict, wrong_or}
 use Rattle.run_laws.specs.TraceVerdicts.{wrong_row}
@@ -16,7 +16,7 @@ use Rattle.trace_audit.specs.declared.replay.Replay.{Replay}
 use Rattle.trace_audit.specs.proof.AuditReplays.{Follows, IsReplay, audit_in}
 
 judged_at : (run : Run) (rows index : ℕ) (a : Audit) (lines : List (List ℕ)) (line : List ℕ) (o : Option JournalEntry)
-    → index < length lines → line ≡ get_or lines index line → o ≡ told run.design line
+    → index < length lines → line ≡ get_or lines index line → o ≡ entry_of_line run.design line
     → journal_verdict run rows index a (drop index lines)
     ≡ wrong_or index (line_broken run a o)
     (journal_verdict run rows (index + 1) (audit_after run a (entry_or o)) (drop (index + 1) lines))
@@ -29,7 +29,7 @@ judged_at run rows index a lines line o within is tells =
 -- a line that breaks a rule
 pub judged_wrong : (run now : Run) (rows index : ℕ) (a : Audit) (lines : List (List ℕ)) (line : List ℕ)
     (o : Option JournalEntry) (why : TraceRule) (r : Option TraceRule) (all : Verdict) → index < length lines
-    → line ≡ get_or lines index line → o ≡ told run.design line
+    → line ≡ get_or lines index line → o ≡ entry_of_line run.design line
     → now ≡ run → r ≡ line_broken now a o → r ≡ Some why → journal_verdict run rows index a (drop index lines) ≡ all
     → Wrong index why ≡ all
 judged_wrong run now rows index a lines line o why r all within is tells same breaks here before =
@@ -45,7 +45,7 @@ pub record IsNext (run : Run) (rows index : ℕ) (lines : List (List ℕ)) (new 
 
 pub judged_next : (run : Run) (old new : Replay) (rows index : ℕ) (lines : List (List ℕ)) (line : List ℕ)
     (o : Option JournalEntry) (r : Option TraceRule) (all : Verdict) → index < length lines
-    → line ≡ get_or lines index line → o ≡ told run.design line
+    → line ≡ get_or lines index line → o ≡ entry_of_line run.design line
     → old.bus.run ≡ run → r ≡ line_broken old.bus.run (audit_in old) o → r ≡ None → IfSome o (λ e. Follows old e new)
     → journal_verdict run rows index (audit_in old) (drop index lines) ≡ all → IsNext run rows index lines new all
 judged_next run old new rows index lines line None r all within is tells same breaks here next before =

@@ -5,7 +5,7 @@ ghost use Rattle.pals_runs.specs.declared.journal.JournalEntry.TheVariants as en
 ghost use Rattle.run_laws.specs.EntriesOfDesigns.{IsEntryIn};
 ghost use Rattle.run_laws.specs.EntryEventsAndReadings.{has_reading, timed};
 ghost use Rattle.run_laws.specs.TraceRules.{broken};
-ghost use Rattle.trace_audit.specs.proof.ToldEvents.{IsReady, IsRedone};
+ghost use Rattle.trace_audit.specs.proof.ToldEvents.{IsReady, IsReplayed};
 
 use crate::entry_clocks::{falls, target};
 use crate::redone_events::{arrive, begin, finish, send, step};
@@ -15,7 +15,7 @@ use pals_runs::{Cause, JournalEntry, Stop, TraceRule};
 
 /// Does what an entry tells, and gives the first rule that the entry breaks, or none. Where one is
 /// broken, nothing is said of what the bus is left in.
-pub fn redo(
+pub fn replay_entry(
     bus: &mut Bus,
     readings: &[Nanos],
     entry: &JournalEntry,
@@ -24,7 +24,7 @@ pub fn redo(
     requires entry { IsEntryIn bus.old.run.design entry.now }
     requires reading { has_reading (timed bus.old.run.design entry.now) ≡ true }
     ensures rule { IfOk result (λ rule. rule ≡ broken bus.old.run bus.old.state readings.now entry.now) }
-    ensures next { result ≡ Ok None → IsRedone bus.old entry.now bus.new }
+    ensures next { result ≡ Ok None → IsReplayed bus.old entry.now bus.new }
 {
     match *entry {
         JournalEntry::Arrive {
@@ -80,7 +80,7 @@ fn start(
     requires ready { IsReady bus.old readings.now }
     requires entry { IsEntryIn bus.old.run.design (entry.Start node round (Some reading)) }
     ensures rule { IfOk result (λ rule. rule ≡ broken bus.old.run bus.old.state readings.now (entry.Start node round (Some reading))) }
-    ensures next { result ≡ Ok None → IsRedone bus.old (entry.Start node round (Some reading)) bus.new }
+    ensures next { result ≡ Ok None → IsReplayed bus.old (entry.Start node round (Some reading)) bus.new }
 {
     if round != bus.count(node) {
         return Ok(Some(TraceRule::Order));
@@ -105,7 +105,7 @@ fn miss(
     requires ready { IsReady bus.old readings.now }
     requires entry { IsEntryIn bus.old.run.design (entry.Stopped (stop.Missed link round (Some reading) cause)) }
     ensures rule { IfOk result (λ rule. rule ≡ broken bus.old.run bus.old.state readings.now (entry.Stopped (stop.Missed link round (Some reading) cause))) }
-    ensures next { result ≡ Ok None → IsRedone bus.old (entry.Stopped (stop.Missed link round (Some reading) cause)) bus.new }
+    ensures next { result ≡ Ok None → IsReplayed bus.old (entry.Stopped (stop.Missed link round (Some reading) cause)) bus.new }
 {
     let node = target(bus.design(), link);
     if round + 1 != bus.count(node) {

@@ -10,7 +10,7 @@ ghost use Rattle.bus_machine.specs.NodeEvents.{next_step};
 ghost use Rattle.bus_machine.specs.States.{node_at};
 ghost use Rattle.run_laws.specs.EntriesOfDesigns.{IsEntryIn};
 ghost use Rattle.run_laws.specs.TraceRules.{broken, is_due};
-ghost use Rattle.trace_audit.specs.proof.ToldEvents.{IsReady, SaysStart, IsRedone};
+ghost use Rattle.trace_audit.specs.proof.ToldEvents.{IsReady, SaysStart, IsReplayed};
 
 use crate::entry_clocks::{falls, target};
 use crate::entry_comparison::is_last;
@@ -35,7 +35,7 @@ pub fn begin(
     requires entry { IsEntryIn bus.old.run.design entry.now }
     requires says { SaysStart bus.old readings.now entry.now node reading }
     ensures rule { IfOk result (λ rule. rule ≡ broken bus.old.run bus.old.state readings.now entry.now) }
-    ensures next { result ≡ Ok None → IsRedone bus.old entry.now bus.new }
+    ensures next { result ≡ Ok None → IsReplayed bus.old entry.now bus.new }
 {
     keeps(bus, node);
     let falls = falls(readings, node, reading);
@@ -64,7 +64,7 @@ pub fn step(
     requires ready { IsReady bus.old readings.now }
     requires entry { IsEntryIn bus.old.run.design (entry.Step node round step (Some reading)) }
     ensures rule { IfOk result (λ rule. rule ≡ broken bus.old.run bus.old.state readings.now (entry.Step node round step (Some reading))) }
-    ensures next { result ≡ Ok None → IsRedone bus.old (entry.Step node round step (Some reading)) bus.new }
+    ensures next { result ≡ Ok None → IsReplayed bus.old (entry.Step node round step (Some reading)) bus.new }
 {
     if round != in_hand(bus, node) {
         return Ok(Some(TraceRule::Order));
@@ -90,7 +90,7 @@ pub fn finish(bus: &mut Bus, readings: &[Nanos], node: NodeNo, round: u32) -> Op
     requires ready { IsReady bus.old readings.now }
     requires entry { IsEntryIn bus.old.run.design (entry.Finish node round) }
     ensures rule { result ≡ broken bus.old.run bus.old.state readings.now (entry.Finish node round) }
-    ensures next { result ≡ None → IsRedone bus.old (entry.Finish node round) bus.new }
+    ensures next { result ≡ None → IsReplayed bus.old (entry.Finish node round) bus.new }
 {
     if round != in_hand(bus, node) {
         return Some(TraceRule::Order);
@@ -112,7 +112,7 @@ pub fn send(
     requires ready { IsReady bus.old readings.now }
     requires entry { IsEntryIn bus.old.run.design (entry.Send node round (Some reading)) }
     ensures rule { result ≡ broken bus.old.run bus.old.state readings.now (entry.Send node round (Some reading)) }
-    ensures next { result ≡ None → IsRedone bus.old (entry.Send node round (Some reading)) bus.new }
+    ensures next { result ≡ None → IsReplayed bus.old (entry.Send node round (Some reading)) bus.new }
 {
     if round != in_hand(bus, node) {
         return Some(TraceRule::Order);
@@ -141,7 +141,7 @@ pub fn arrive(
     requires ready { IsReady bus.old readings.now }
     requires entry { IsEntryIn bus.old.run.design (entry.Arrive link round (Some reading) outcome) }
     ensures rule { IfOk result (λ rule. rule ≡ broken bus.old.run bus.old.state readings.now (entry.Arrive link round (Some reading) outcome)) }
-    ensures next { result ≡ Ok None → IsRedone bus.old (entry.Arrive link round (Some reading) outcome) bus.new }
+    ensures next { result ≡ Ok None → IsReplayed bus.old (entry.Arrive link round (Some reading) outcome) bus.new }
 {
     let falls = falls(readings, target(bus.design(), link), reading);
     let due = is_due(bus.in_flight(link, round), reading);

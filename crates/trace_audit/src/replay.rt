@@ -9,7 +9,7 @@ ghost use Rattle.trace_audit.specs.proof.AuditReplays.{IsReplay, Follows, IsCloc
 
 use crate::entry_clocks::{ClockReading, clock_of, has_reading, note};
 use crate::entry_comparison::is_line_of;
-use crate::redone_entries::redo;
+use crate::redone_entries::replay_entry;
 use pals_base::{Nanos, NoMemory};
 use pals_bus::Bus;
 use pals_runs::{Arrived, JournalEntry, Stop, TraceRule};
@@ -100,7 +100,7 @@ impl Replay {
         if self.bus.stop().is_some() {
             return Ok(Some(TraceRule::Order));
         }
-        if let Some(rule) = redo(&mut self.bus, self.readings.as_slice(), entry)? {
+        if let Some(rule) = replay_entry(&mut self.bus, self.readings.as_slice(), entry)? {
             return Ok(Some(rule));
         }
         note(&mut self.readings, clock);

@@ -3,7 +3,7 @@ ghost use Rattle.std.specs.Prelude.{◌≡◌, ℕ, List, Some, IfSome};
 ghost use Rattle.pals_model.specs.declared.design.DesignParts.{DesignParts};
 ghost use Rattle.pals_model.specs.NamesInTexts.{node_named, link_named};
 ghost use Rattle.run_laws.specs.EntriesOfDesigns.{IsEntryIn};
-ghost use Rattle.run_laws.specs.EntriesInLines.{entry_of, told};
+ghost use Rattle.run_laws.specs.EntriesInLines.{entry_of, entry_of_line};
 ghost use Rattle.trace_audit.specs.proof.LineForms.{node_form, link_form, shown};
 
 use crate::journal_lines::{JournalLine, LinkLine, NodeLine, form_of};
@@ -90,7 +90,7 @@ fn entry_of(names: &DesignNames<'_>, form: JournalLine<'_>) -> Option<JournalEnt
 /// The entry that a line tells, or none where it has no form or names nothing of the design. It is of a
 /// node or a link that is there, with numbers within their limits.
 pub fn told(names: &DesignNames<'_>, line: &str) -> Option<JournalEntry>
-    ensures value { result ≡ told names.now line.now }
+    ensures value { result ≡ entry_of_line names.now line.now }
     ensures within { IfSome result (IsEntryIn names.now) }
 {
     entry_of(names, form_of(line)?)

@@ -3,7 +3,7 @@ use Rattle.std.proofs.Common.{◌≡◌, ◌∙◌, ℕ, zero, suc, ◌<◌, [],
 use Rattle.std.proofs.lemmas.List.Elements.{All-nil, All-cons}
 use Rattle.std.specs.Fmt.{digits}
 use Rattle.pals_base.specs.SingleStep.{fire}
-use Rattle.triple_vote.specs.Replicas.{voted_composition, vshown}
+use Rattle.triple_vote.specs.Replicas.{voted_composition, voted_tap}
 use Rattle.pals_model.specs.proof.TwoCounters.{two_counters}
 use Rattle.pals_runs.specs.declared.vote_faults.VoteFault.{VoteFault}
 use Rattle.triple_vote.specs.proof.VoteLaws.{IsFault}
@@ -19,11 +19,11 @@ unfolding fire voted_composition
 two_liars_are_not = refl
 
 pub one_liar_text : OneLiarText
-unfolding digits fire voted_composition vshown
+unfolding digits fire voted_composition voted_tap
 one_liar_text = refl
 
 pub two_liars_text : TwoLiarsText
-unfolding digits fire voted_composition vshown
+unfolding digits fire voted_composition voted_tap
 two_liars_text = refl
 
 -- ---- such a fault is one of those that the laws allow

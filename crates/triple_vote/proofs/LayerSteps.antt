@@ -22,7 +22,7 @@ use Rattle.sync_product.specs.proof.ProductSizes.{stage_size_of, stage_sizes}
 use Rattle.sync_product.specs.proof.Rounds.{frames_of}
 use Rattle.sync_product.proofs.ComponentLists.{entry_at, sized_at, within_table, count_of_sized, item_at}
 use Rattle.sync_product.proofs.ComponentLists.{slice_get-set_same, slice_get-set_other}
-use Rattle.triple_vote.specs.proof.ReplicaLayers.{frame_sizes, is_there, frame_made, rows_made, IsRun}
+use Rattle.triple_vote.specs.proof.ReplicaLayers.{frame_sizes, has_replica, frame_made, rows_made, IsRun}
 
 abbrev rows_of : List Stage → List (List (List PortValue))
 rows_of stages = map (λ (s : Stage). s.rows) stages
@@ -30,26 +30,26 @@ rows_of stages = map (λ (s : Stage). s.rows) stages
 -- the components before a place that are there have made their steps
 abbrev pub RunTo : DesignParts → List PortValue → List (List PortValue) → List Bool → List Frame → List Part
     → List Stage → ℕ → Type 0
-RunTo design values heard there frames next stages at =
-    (k : ℕ) (c : Component) → k < at → slice_get design.components k ≡ Some c → is_there there k ≡ true
-    → IsRun design values heard frames next stages k c
+RunTo design values received_messages there frames next stages at =
+    (k : ℕ) (c : Component) → k < at → slice_get design.components k ≡ Some c → has_replica there k ≡ true
+    → IsRun design values received_messages frames next stages k c
 
-module _ (design : DesignParts) (values : List PortValue) (heard : List (List PortValue)) (there : List Bool)
+module _ (design : DesignParts) (values : List PortValue) (received_messages : List (List PortValue)) (there : List Bool)
     (frames : List Frame) (next : List Part) (stages : List Stage)
     (at : ℕ) (item : Component) (is : slice_get design.components at ≡ Some item)
-    (so_far : RunTo design values heard there frames next stages at) where
-  pub run_skip : is_there there at ≡ false → RunTo design values heard there frames next stages (at + 1)
+    (so_far : RunTo design values received_messages there frames next stages at) where
+  pub run_skip : has_replica there at ≡ false → RunTo design values received_messages there frames next stages (at + 1)
   run_skip absent k c below is_c present =
       let upto : k ≤ at = omega (arith, below) in
       elim (eq-or-lt_of_le upto) [
-        | inl here ↦ absurd (false≢true (sym absent ∙ ap (is_there there) (sym here) ∙ present))
+        | inl here ↦ absurd (false≢true (sym absent ∙ ap (has_replica there) (sym here) ∙ present))
         | inr before ↦ so_far k c before is_c present
       ]
 
   pub run_more : (part : Part) (stage : Stage) → at < length next → at < length stages
-      → part.frame ≡ frame_made design values heard frames at item
-      → stage.rows ≡ rows_made design values heard frames at item
-      → RunTo design values heard there frames (set next at part) (set stages at stage) (at + 1)
+      → part.frame ≡ frame_made design values received_messages frames at item
+      → stage.rows ≡ rows_made design values received_messages frames at item
+      → RunTo design values received_messages there frames (set next at part) (set stages at stage) (at + 1)
   run_more part stage within inside frame_is rows_are k c below is_c present =
       let upto : k ≤ at = omega (arith, below) in
       elim (eq-or-lt_of_le upto) [
@@ -61,12 +61,12 @@ module _ (design : DesignParts) (values : List PortValue) (heard : List (List Po
                   ∙ ap (λ l. slice_get l at) (map-set (λ (p : Part). p.frame) next at part)
                   ∙ slice_get-set_same (frames_of next) at part.frame
                   (omega (arith, within, length-map next (λ (p : Part). p.frame)))
-                  ∙ ap Some (frame_is ∙ ap₂ (frame_made design values heard frames) (sym here) same);
+                  ∙ ap Some (frame_is ∙ ap₂ (frame_made design values received_messages frames) (sym here) same);
               rows = ap (slice_get (rows_of (set stages at stage))) here
                   ∙ ap (λ l. slice_get l at) (map-set (λ (s : Stage). s.rows) stages at stage)
                   ∙ slice_get-set_same (rows_of stages) at stage.rows
                   (omega (arith, inside, length-map stages (λ (s : Stage). s.rows)))
-                  ∙ ap Some (rows_are ∙ ap₂ (rows_made design values heard frames) (sym here) same);
+                  ∙ ap Some (rows_are ∙ ap₂ (rows_made design values received_messages frames) (sym here) same);
             }
         | inr before ↦
             let old = so_far k c before is_c present in
@@ -79,22 +79,22 @@ module _ (design : DesignParts) (values : List PortValue) (heard : List (List Po
       ]
 
 -- what a component's steps leave, by the frame that its part has and the sources that its stage is given
-module _ (design : DesignParts) (values : List PortValue) (heard : List (List PortValue)) (parts : List Part) (node : ℕ)
+module _ (design : DesignParts) (values : List PortValue) (received_messages : List (List PortValue)) (parts : List Part) (node : ℕ)
     (item : Component) (from : Part)
     (within : node < length parts) (from_is : from ≡ slice_index_or parts node from) where
   abbrev inputs : List (List PortValue)
-  inputs = inputs_of design values heard node item
+  inputs = inputs_of design values received_messages node item
 
   own_frame : from.frame ≡ slice_index_or (frames_of parts) node no_frame
   own_frame =
       ap (λ (p : Part). p.frame) from_is ∙ sym (get_or-map (λ (p : Part). p.frame) parts node from no_frame within)
 
   pub frame_by : (frame : Frame) → frame ≡ frame_after item.behaviour from.frame inputs
-      → frame ≡ frame_made design values heard (frames_of parts) node item
+      → frame ≡ frame_made design values received_messages (frames_of parts) node item
   frame_by frame is = is ∙ ap (λ (f : Frame). frame_after item.behaviour f inputs) own_frame
 
   pub rows_by : (rows : List (List PortValue)) → rows ≡ outputs item.behaviour from.frame inputs
-      → rows ≡ rows_made design values heard (frames_of parts) node item
+      → rows ≡ rows_made design values received_messages (frames_of parts) node item
   rows_by rows is = is ∙ ap (λ (f : Frame). outputs item.behaviour f inputs) own_frame
 
 -- ---- room

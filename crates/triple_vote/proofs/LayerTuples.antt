@@ -13,14 +13,14 @@ use Rattle.sync_product.specs.proof.ProductSizes.{StageSize, stage_size, stage_s
 use Rattle.sync_product.specs.proof.Rounds.{frames_of, sent_from}
 use Rattle.sync_product.proofs.ComponentLists.{sized_at}
 use Rattle.triple_vote.specs.declared.replica_layer.Layer.{Layer}
-use Rattle.triple_vote.specs.proof.ReplicaLayers.{whole_from, is_there, rows_made, AreRun, AreSent, AreWhole, IsMade}
+use Rattle.triple_vote.specs.proof.ReplicaLayers.{whole_from, has_replica, rows_made, AreRun, AreSent, AreWhole, IsMade}
 
-module _ (design : DesignParts) (values : List PortValue) (heard : List (List PortValue)) (layer : Layer)
+module _ (design : DesignParts) (values : List PortValue) (received_messages : List (List PortValue)) (layer : Layer)
     (stages : List Stage)
-    (run : AreRun design values heard layer.there (frames_of layer.parts) layer.next stages)
+    (run : AreRun design values received_messages layer.there (frames_of layer.parts) layer.next stages)
     (fit : map stage_size stages ≡ stage_sizes design) where
   abbrev rows : ℕ → Component → List (List PortValue)
-  rows node c = rows_made design values heard (frames_of layer.parts) node c
+  rows node c = rows_made design values received_messages (frames_of layer.parts) node c
 
   -- the stage of a component that is there has its rows, and sends as many steps as end in time
   record IsStaged (node : ℕ) (c : Component) : Type 0 where
@@ -29,7 +29,7 @@ module _ (design : DesignParts) (values : List PortValue) (heard : List (List Po
     rows_are : stage.rows ≡ rows node c
     sent_is : stage.sent ≡ sent_steps design.gamma design.period c.rate
 
-  staged : (node : ℕ) (c : Component) → slice_get design.components node ≡ Some c → is_there layer.there node ≡ true
+  staged : (node : ℕ) (c : Component) → slice_get design.components node ≡ Some c → has_replica layer.there node ≡ true
       → IsStaged node c
   staged node c is present =
       let size_of : Component → StageSize = λ d. stage_size_of (sent_steps design.gamma design.period d.rate) d in
@@ -51,7 +51,7 @@ module _ (design : DesignParts) (values : List PortValue) (heard : List (List Po
       ]
 
   pub is_made : AreSent design layer.there stages layer.sent → AreWhole design layer.there stages layer.shown
-      → IsMade design values heard layer
+      → IsMade design values received_messages layer
   is_made sent shown = record {
     frames = λ node c is present. (let at = run node c is present in at.frame);
     sent = λ l link c is_link is present.

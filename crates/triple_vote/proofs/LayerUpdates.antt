@@ -11,8 +11,8 @@ use Rattle.pals_runs.specs.declared.vote_faults.VoteFault.{VoteFault}
 use Rattle.sync_product.proofs.ComponentLists.{slice_get-set_same, slice_get-set_other}
 use Rattle.triple_vote.specs.declared.replica_layer.Layer.{Layer}
 use Rattle.sync_product.specs.proof.ProductSizes.{part_size, message_sizes}
-use Rattle.triple_vote.specs.proof.ReplicaLayers.{lengths, HasRoom, StaysPut, IsMade, IsTurned}
-use Rattle.triple_vote.specs.proof.ThreeLayers.{AreThree, StayPut, AreReceived, AreTurned, AreHeard}
+use Rattle.triple_vote.specs.proof.ReplicaLayers.{lengths, HasRoom, StaysPut, IsMade, IsSwapped}
+use Rattle.triple_vote.specs.proof.ThreeLayers.{AreThree, StayPut, AreReceived, AreSwapped, HasReceivedSizes}
 
 -- an element, where it is written over
 put-at : {X : Type 0} (xs : List X) (at k : ℕ) (y x : X) → k ≡ at → at < length xs
@@ -24,21 +24,21 @@ put-at xs at k y x here within is =
 
 -- ---- rounds
 abbrev pub MadeTo : DesignParts → List PortValue → List (List (List PortValue)) → List Layer → ℕ → Type 0
-MadeTo design values heard layers at =
+MadeTo design values received_messages layers at =
     (replica : ℕ) (layer : Layer) → replica < at → slice_get layers replica ≡ Some layer
-    → IsMade design values (slice_index_or heard replica []) layer
+    → IsMade design values (slice_index_or received_messages replica []) layer
 
-pub made_more : (design : DesignParts) (values : List PortValue) (heard : List (List (List PortValue)))
+pub made_more : (design : DesignParts) (values : List PortValue) (received_messages : List (List (List PortValue)))
     (layers : List Layer) (at : ℕ) (new : Layer) → at < length layers
-    → IsMade design values (slice_index_or heard at []) new → MadeTo design values heard layers at
-    → MadeTo design values heard (set layers at new) (at + 1)
-made_more design values heard layers at new within made so_far replica layer below is =
+    → IsMade design values (slice_index_or received_messages at []) new → MadeTo design values received_messages layers at
+    → MadeTo design values received_messages (set layers at new) (at + 1)
+made_more design values received_messages layers at new within made so_far replica layer below is =
     let upto : replica ≤ at = omega (arith, below) in
     elim (eq-or-lt_of_le upto) [
       | inl here ↦
-          subst (IsMade design values (slice_index_or heard replica []))
+          subst (IsMade design values (slice_index_or received_messages replica []))
           (put-at layers at replica new layer here within is)
-          (subst (λ k. IsMade design values (slice_index_or heard k []) new) (sym here) made)
+          (subst (λ k. IsMade design values (slice_index_or received_messages k []) new) (sym here) made)
       | inr before ↦ so_far replica layer before (sym (slice_get-set_other layers at replica new before) ∙ is)
     ]
 
@@ -72,51 +72,51 @@ room_at design layers at layer are within is = subst (HasRoom design) (sym is) (
 abbrev HasMessages : DesignParts → List (List PortValue) → Type 0
 HasMessages design tuples = lengths tuples ≡ message_sizes design
 
-pub heard_room : (design : DesignParts) (heard : List (List (List PortValue))) (at : ℕ) (tuples : List (List PortValue))
-    → AreHeard design heard → at < length heard
-    → tuples ≡ slice_index_or heard at tuples → lengths tuples ≡ message_sizes design
-heard_room design heard at tuples are within is = subst (HasMessages design) (sym is) (are.sizes at tuples within)
+pub received_sizes : (design : DesignParts) (received_messages : List (List (List PortValue))) (at : ℕ) (tuples : List (List PortValue))
+    → HasReceivedSizes design received_messages → at < length received_messages
+    → tuples ≡ slice_index_or received_messages at tuples → lengths tuples ≡ message_sizes design
+received_sizes design received_messages at tuples are within is = subst (HasMessages design) (sym is) (are.sizes at tuples within)
 
-pub heard_stay : (design : DesignParts) (heard : List (List (List PortValue))) (at : ℕ) (new : List (List PortValue))
-    → AreHeard design heard → lengths new ≡ message_sizes design
-    → AreHeard design (set heard at new)
-heard_stay design heard at new are fit = record {
-  three = length-set heard at new ∙ are.three;
-  sizes = All-set (HasMessages design) heard at new fit are.sizes;
+pub heard_stay : (design : DesignParts) (received_messages : List (List (List PortValue))) (at : ℕ) (new : List (List PortValue))
+    → HasReceivedSizes design received_messages → lengths new ≡ message_sizes design
+    → HasReceivedSizes design (set received_messages at new)
+heard_stay design received_messages at new are fit = record {
+  three = length-set received_messages at new ∙ are.three;
+  sizes = All-set (HasMessages design) received_messages at new fit are.sizes;
 }
 
 abbrev pub ReceivedTo : DesignParts → List Bool → List VoteFault → List Layer → List (List (List PortValue))
     → ℕ → Type 0
-ReceivedTo design replicated faults layers heard at =
-    (target : ℕ) → target < at → AreReceived design replicated faults layers target (slice_index_or heard target [])
+ReceivedTo design replicated faults layers received_messages at =
+    (target : ℕ) → target < at → AreReceived design replicated faults layers target (slice_index_or received_messages target [])
 
 pub received_more : (design : DesignParts) (replicated : List Bool) (faults : List VoteFault) (layers : List Layer)
-    (heard : List (List (List PortValue))) (at : ℕ) (new : List (List PortValue))
-    → at < length heard → AreReceived design replicated faults layers at new
-    → ReceivedTo design replicated faults layers heard at
-    → ReceivedTo design replicated faults layers (set heard at new) (at + 1)
-received_more design replicated faults layers heard at new within received so_far target below =
+    (received_messages : List (List (List PortValue))) (at : ℕ) (new : List (List PortValue))
+    → at < length received_messages → AreReceived design replicated faults layers at new
+    → ReceivedTo design replicated faults layers received_messages at
+    → ReceivedTo design replicated faults layers (set received_messages at new) (at + 1)
+received_more design replicated faults layers received_messages at new within received so_far target below =
     let upto : target ≤ at = omega (arith, below) in
     elim (eq-or-lt_of_le upto) [
       | inl here ↦
           subst (AreReceived design replicated faults layers target)
-          (sym (get_or-set_at heard at target new [] here within))
+          (sym (get_or-set_at received_messages at target new [] here within))
           (subst (λ k. AreReceived design replicated faults layers k new) (sym here) received)
       | inr before ↦
           subst (AreReceived design replicated faults layers target)
-          (sym (get_or-set_other heard at target new [] (λ same. omega (arith, same, before))))
+          (sym (get_or-set_other received_messages at target new [] (λ same. omega (arith, same, before))))
           (so_far target before)
     ]
 
 -- ---- going over
-pub record TurnedTo (old new : List Layer) (at : ℕ) : Type 0 where
+pub record SwappedTo (old new : List Layer) (at : ℕ) : Type 0 where
   pub size : length new ≡ length old
-  pub done : (k : ℕ) (d : Layer) → k < at → k < length old → IsTurned (slice_index_or old k d) (slice_index_or new k d)
+  pub done : (k : ℕ) (d : Layer) → k < at → k < length old → IsSwapped (slice_index_or old k d) (slice_index_or new k d)
   pub rest : (k : ℕ) (d : Layer) → at ≤ k → slice_index_or new k d ≡ slice_index_or old k d
 
-pub turned_more : (old now : List Layer) (at : ℕ) (was new : Layer) → TurnedTo old now at → at < length now
-    → was ≡ slice_index_or now at was → IsTurned was new
-    → TurnedTo old (set now at new) (at + 1)
+pub turned_more : (old now : List Layer) (at : ℕ) (was new : Layer) → SwappedTo old now at → at < length now
+    → was ≡ slice_index_or now at was → IsSwapped was new
+    → SwappedTo old (set now at new) (at + 1)
 turned_more old now at was new turned within item turns = record {
   size = length-set now at new ∙ turned.size;
   done = λ k d below inside. (
@@ -127,10 +127,10 @@ turned_more old now at was new turned within item turns = record {
             item ∙ get_or_default now at was d within ∙ turned.rest at d (omega arith)
             ∙ ap (λ j. slice_index_or old j d) (sym here) in
             let after : new ≡ slice_index_or (set now at new) k d = sym (get_or-set_at now at k new d here within) in
-            subst (λ (x : Layer). IsTurned x (slice_index_or (set now at new) k d)) before
-            (subst (λ (y : Layer). IsTurned was y) after turns)
+            subst (λ (x : Layer). IsSwapped x (slice_index_or (set now at new) k d)) before
+            (subst (λ (y : Layer). IsSwapped was y) after turns)
         | inr less ↦
-            subst (λ (y : Layer). IsTurned (slice_index_or old k d) y)
+            subst (λ (y : Layer). IsSwapped (slice_index_or old k d) y)
             (sym (get_or-set_other now at k new d (λ same. omega (arith, same, less))))
             (turned.done k d less inside)
       ]);
@@ -152,7 +152,7 @@ each-same f g (x ∷ xs) (y ∷ ys) size same =
     ap₂ (λ a bs. a ∷ bs) (same 0 (omega arith))
     (each-same f g xs ys (omega arith) (λ k within. same (suc k) (omega arith)))
 
-room_turned : (design : DesignParts) (old new : Layer) → IsTurned old new → HasRoom design old → HasRoom design new
+room_turned : (design : DesignParts) (old new : Layer) → IsSwapped old new → HasRoom design old → HasRoom design new
 room_turned design old new turned room = record {
   there_fit = ap length turned.there ∙ room.there_fit;
   parts_fit = ap (map part_size) turned.parts ∙ room.next_fit;
@@ -161,9 +161,9 @@ room_turned design old new turned room = record {
   shown_fit = ap lengths turned.shown ∙ room.shown_fit;
 }
 
-pub turned_all : (old new : List Layer) (at : ℕ) → length old ≤ at → TurnedTo old new at → AreTurned old new
+pub turned_all : (old new : List Layer) (at : ℕ) → length old ≤ at → SwappedTo old new at → AreSwapped old new
 turned_all old new at past turned =
-    let each : (k : ℕ) (d : Layer) → k < length old → IsTurned (slice_index_or old k d) (slice_index_or new k d)
+    let each : (k : ℕ) (d : Layer) → k < length old → IsSwapped (slice_index_or old k d) (slice_index_or new k d)
     = λ k d within. turned.done k d (omega (arith, within, past)) within in
     record {
       there =

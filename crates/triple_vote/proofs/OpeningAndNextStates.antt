@@ -24,31 +24,31 @@ use Rattle.sync_product.specs.proof.ProductSizes.{part_size, part_size_of, stage
 use Rattle.sync_product.specs.proof.Rounds.{frames_of}
 use Rattle.sync_product.proofs.ComponentLists.{count_of_sized}
 use Rattle.triple_vote.specs.declared.replica_layer.Layer.{Layer}
-use Rattle.triple_vote.specs.Replicas.{copies_of, Voted, frame_at, received_at, first_frame, first_tuple, voted_opening}
-use Rattle.triple_vote.specs.Replicas.{vshown_by}
+use Rattle.triple_vote.specs.Replicas.{copies_of, VotedConfiguration, frame_at, received_at, first_frame, first_tuple, voted_opening}
+use Rattle.triple_vote.specs.Replicas.{voted_tap_by}
 use Rattle.triple_vote.specs.proof.VotedStates.{VotedState, voted_begun, voted_advanced}
 use Rattle.triple_vote.specs.proof.ReplicaLayers.{lengths, frame_sizes, tap_sizes}
 use Rattle.triple_vote.specs.proof.ThreeLayers.{there_in, parts_in, frame_of, tuple_of, voted_of, AreThree}
 use Rattle.triple_vote.specs.proof.ThreeLayers.{HaveReplicas, AreOpened, StayPut, AreMade, AllReceived, AreShown}
-use Rattle.triple_vote.specs.proof.ThreeLayers.{AreTurned, AreHeard}
+use Rattle.triple_vote.specs.proof.ThreeLayers.{AreSwapped, HasReceivedSizes}
 use Rattle.triple_vote.specs.proof.ProductInvariant.{HasTables, HasReplicas}
 use Rattle.triple_vote.proofs.ReplicaRounds.{replica_at, receiver_at}
 use Rattle.triple_vote.proofs.LayerUpdates.{room_at}
 use Rattle.triple_vote.proofs.VotedRounds.{replicas-same, receivers-same, within_three, voted_is, shown_is}
 
-abbrev pub vstate : DesignParts → List Bool → Voted → List (List PortValue) → VotedState
-vstate design replicated voted shown = record { design = design; replicated = replicated; voted = voted; shown = shown }
+abbrev pub voted_state_of : DesignParts → List Bool → VotedConfiguration → List (List PortValue) → VotedState
+voted_state_of design replicated voted shown = record { design = design; replicated = replicated; voted = voted; shown = shown }
 
 -- ---- before the first round
 voted_opened : (design : DesignParts) (replicated : List Bool) (layers : List Layer)
-    (heard : List (List (List PortValue))) → AreOpened design replicated layers
-    → heard ≡ replicate 3 (opening design).messages
-    → voted_of design replicated (parts_in layers) heard ≡ voted_opening design replicated
-voted_opened design replicated layers heard opened silent =
+    (received_messages : List (List (List PortValue))) → AreOpened design replicated layers
+    → received_messages ≡ replicate 3 (opening design).messages
+    → voted_of design replicated (parts_in layers) received_messages ≡ voted_opening design replicated
+voted_opened design replicated layers received_messages opened silent =
     let begins : Component → Frame = λ (c : Component). initial c.behaviour in
     let first : Link → List PortValue = λ (x : Link). replicate (rate_of design x.source.0) Absent in
     let messages : List (List PortValue) = (opening design).messages in
-    ap₂ (λ frames tuples. let w : Voted = record { frames = frames; received = tuples } in w)
+    ap₂ (λ frames tuples. let w : VotedConfiguration = record { frames = frames; received = tuples } in w)
     (replicas-same design replicated (λ node replica. frame_of (parts_in layers) replica node)
     (λ node replica. first_frame (slice_get design.components node))
     (λ node replica within below.
@@ -59,7 +59,7 @@ voted_opened design replicated layers heard opened silent =
     ∙ get_or_from_slice_get (map begins design.components) node (begins c) no_frame
     (slice_get-map_some begins design.components node c found.1)
     ∙ sym (ap first_frame found.1)))
-    (receivers-same design replicated (λ l target. tuple_of heard target l)
+    (receivers-same design replicated (λ l target. tuple_of received_messages target l)
     (λ l target. first_tuple design (slice_get design.links l))
     (λ l target link is below.
     ap (λ hs. slice_index_or (slice_index_or hs target []) l []) silent
@@ -69,24 +69,24 @@ voted_opened design replicated layers heard opened silent =
     ∙ sym (ap (first_tuple design) is)))
 
 pub state_begun : (design : DesignParts) (replicated : List Bool) (layers : List Layer)
-    (heard : List (List (List PortValue))) (shown : List (List PortValue))
-    → AreOpened design replicated layers → heard ≡ replicate 3 (opening design).messages
+    (received_messages : List (List (List PortValue))) (shown : List (List PortValue))
+    → AreOpened design replicated layers → received_messages ≡ replicate 3 (opening design).messages
     → shown ≡ map (λ (tap : Tap). replicate (rate_of design tap.source.0) Absent) design.taps
-    → vstate design replicated (voted_of design replicated (parts_in layers) heard) shown ≡ voted_begun design replicated
-state_begun design replicated layers heard shown opened silent absent =
-    ap₂ (vstate design replicated) (voted_opened design replicated layers heard opened silent) absent
+    → voted_state_of design replicated (voted_of design replicated (parts_in layers) received_messages) shown ≡ voted_begun design replicated
+state_begun design replicated layers received_messages shown opened silent absent =
+    ap₂ (voted_state_of design replicated) (voted_opened design replicated layers received_messages opened silent) absent
 
 -- ---- one more
 pub state_advanced : (design : DesignParts) (replicated : List Bool) (values : List PortValue) (faults : List VoteFault)
-    (heard next : List (List (List PortValue)))
+    (received_messages next : List (List (List PortValue)))
     (old layers turned : List Layer) (shown_before shown : List (List PortValue)) → IsDesign design
     → AreThree design layers → HaveReplicas design replicated (there_in old)
-    → StayPut old layers → AreMade design values heard layers → AllReceived design replicated faults layers next
+    → StayPut old layers → AreMade design values received_messages layers → AllReceived design replicated faults layers next
     → AreShown design replicated layers shown
-    → lengths shown ≡ tap_sizes design → AreTurned layers turned
-    → vstate design replicated (voted_of design replicated (parts_in turned) next) shown
-    ≡ voted_advanced (vstate design replicated (voted_of design replicated (parts_in old) heard) shown_before) values faults
-state_advanced design replicated values faults heard next old layers turned shown_before shown rules are replicas stay
+    → lengths shown ≡ tap_sizes design → AreSwapped layers turned
+    → voted_state_of design replicated (voted_of design replicated (parts_in turned) next) shown
+    ≡ voted_advanced (voted_state_of design replicated (voted_of design replicated (parts_in old) received_messages) shown_before) values faults
+state_advanced design replicated values faults received_messages next old layers turned shown_before shown rules are replicas stay
     made received shows sizes turns =
     let there : HaveReplicas design replicated (there_in layers) =
     subst (HaveReplicas design replicated) (sym stay.there) replicas in
@@ -94,22 +94,22 @@ state_advanced design replicated values faults heard next old layers turned show
     =
     sym (length-map shown (λ (t : List PortValue). length t)) ∙ ap length sizes
     ∙ length-map design.taps (λ (tap : Tap). rate_of design tap.source.0) in
-    let before : (List (List (List PortValue))) → Voted = λ hs. voted_of design replicated (parts_in layers) hs in
-    ap₂ (λ ps sh. vstate design replicated (voted_of design replicated ps next) sh) turns.parts
-    (shown_is design replicated values heard layers rules are.three there made shown count shows)
-    ∙ ap (λ w. vstate design replicated w (map (vshown_by design replicated values (before heard)) design.taps))
-    (voted_is design replicated values heard layers rules are.three there made faults next received)
-    ∙ ap (λ ps. voted_advanced (vstate design replicated (voted_of design replicated ps heard) shown_before) values
+    let before : (List (List (List PortValue))) → VotedConfiguration = λ hs. voted_of design replicated (parts_in layers) hs in
+    ap₂ (λ ps sh. voted_state_of design replicated (voted_of design replicated ps next) sh) turns.parts
+    (shown_is design replicated values received_messages layers rules are.three there made shown count shows)
+    ∙ ap (λ w. voted_state_of design replicated w (map (voted_tap_by design replicated values (before received_messages)) design.taps))
+    (voted_is design replicated values received_messages layers rules are.three there made faults next received)
+    ∙ ap (λ ps. voted_advanced (voted_state_of design replicated (voted_of design replicated ps received_messages) shown_before) values
     faults) stay.parts
 
 -- ---- what is read of it
 pub frame_read : (design : DesignParts) (replicated : List Bool) (layers : List Layer)
-    (heard : List (List (List PortValue))) (node replica : ℕ) (layer : Layer) (part : Part)
+    (received_messages : List (List (List PortValue))) (node replica : ℕ) (layer : Layer) (part : Part)
     → node < length design.components → replica < copies_of replicated node → replica < length layers
     → layer ≡ slice_index_or layers replica layer
     → node < length layer.parts → part ≡ slice_index_or layer.parts node part
-    → part.frame ≡ frame_at (voted_of design replicated (parts_in layers) heard) node replica
-frame_read design replicated layers heard node replica layer part within below inside layer_is there part_is =
+    → part.frame ≡ frame_at (voted_of design replicated (parts_in layers) received_messages) node replica
+frame_read design replicated layers received_messages node replica layer part within below inside layer_is there part_is =
     ap (λ (p : Part). p.frame) part_is
     ∙ sym (get_or-map (λ (p : Part). p.frame) layer.parts node part no_frame there)
     ∙ ap (λ (l : Layer). slice_index_or (frames_of l.parts) node no_frame) layer_is
@@ -118,16 +118,16 @@ frame_read design replicated layers heard node replica layer part within below i
     ∙ sym (replica_at design replicated (λ n r. frame_of (parts_in layers) r n) node replica within below)
 
 pub received_read : (design : DesignParts) (replicated : List Bool) (parts : List (List Part))
-    (heard : List (List (List PortValue))) (l target : ℕ) (link : Link) (tuples : List (List PortValue))
+    (received_messages : List (List (List PortValue))) (l target : ℕ) (link : Link) (tuples : List (List PortValue))
     (tuple : List PortValue)
-    → slice_get design.links l ≡ Some link → target < copies_of replicated link.target.0 → target < length heard
-    → tuples ≡ slice_index_or heard target tuples
+    → slice_get design.links l ≡ Some link → target < copies_of replicated link.target.0 → target < length received_messages
+    → tuples ≡ slice_index_or received_messages target tuples
     → l < length tuples → tuple ≡ slice_index_or tuples l tuple
-    → tuple ≡ received_at (voted_of design replicated parts heard) l target
-received_read design replicated parts heard l target link tuples tuple is below inside tuples_are there tuple_is =
+    → tuple ≡ received_at (voted_of design replicated parts received_messages) l target
+received_read design replicated parts received_messages l target link tuples tuple is below inside tuples_are there tuple_is =
     tuple_is ∙ get_or_default tuples l tuple [] there
-    ∙ ap (λ ts. slice_index_or ts l []) (tuples_are ∙ get_or_default heard target tuples [] inside)
-    ∙ sym (receiver_at design replicated (λ k t. tuple_of heard t k) l target link is below)
+    ∙ ap (λ ts. slice_index_or ts l []) (tuples_are ∙ get_or_default received_messages target tuples [] inside)
+    ∙ sym (receiver_at design replicated (λ k t. tuple_of received_messages t k) l target link is below)
 
 -- there are layers and lists for all replicas
 pub before_three : (replicated : List Bool) (node replica : ℕ) → 1 ≤ replica → replica ≤ copies_of replicated node
@@ -161,10 +161,10 @@ tables_stay design replicated sources old new tables same =
     }
 
 pub replicas_stay : (design : DesignParts) (replicated : List Bool) (old new : List Layer)
-    (heard : List (List (List PortValue))) (shown : List (List PortValue))
-    → HasReplicas design replicated old heard shown → StayPut old new → AreThree design new
-    → HasReplicas design replicated new heard shown
-replicas_stay design replicated old new heard shown kept stay are = record {
+    (received_messages : List (List (List PortValue))) (shown : List (List PortValue))
+    → HasReplicas design replicated old received_messages shown → StayPut old new → AreThree design new
+    → HasReplicas design replicated new received_messages shown
+replicas_stay design replicated old new received_messages shown kept stay are = record {
   layers_fit = are;
   layers_are = subst (HaveReplicas design replicated) (sym stay.there) kept.layers_are;
   heard_fit = kept.heard_fit;
@@ -172,11 +172,11 @@ replicas_stay design replicated old new heard shown kept stay are = record {
 }
 
 pub replicas_turn : (design : DesignParts) (replicated : List Bool) (old layers turned : List Layer)
-    (heard next : List (List (List PortValue))) (shown_before shown : List (List PortValue))
-    → HasReplicas design replicated old heard shown_before → StayPut old layers → AreThree design layers
-    → AreTurned layers turned → AreHeard design next
+    (received_messages next : List (List (List PortValue))) (shown_before shown : List (List PortValue))
+    → HasReplicas design replicated old received_messages shown_before → StayPut old layers → AreThree design layers
+    → AreSwapped layers turned → HasReceivedSizes design next
     → lengths shown ≡ tap_sizes design → HasReplicas design replicated turned next shown
-replicas_turn design replicated old layers turned heard next shown_before shown kept stay are turns hear
+replicas_turn design replicated old layers turned received_messages next shown_before shown kept stay are turns hear
     sizes = record {
       layers_fit = turns.rooms design are;
       layers_are = subst (HaveReplicas design replicated) (sym (turns.there ∙ stay.there)) kept.layers_are;
@@ -186,21 +186,21 @@ replicas_turn design replicated old layers turned heard next shown_before shown 
 
 -- one round more, where each part of it reads the same design, replicas and layers
 pub state_advanced_by : (design d1 d2 d3 : DesignParts) (replicated marked : List Bool) (values : List PortValue)
-    (faults : List VoteFault) (heard before next : List (List (List PortValue)))
+    (faults : List VoteFault) (received_messages before next : List (List (List PortValue)))
     (old layers seen turned : List Layer) (shown_before shown : List (List PortValue)) → d1 ≡ design → d2 ≡ design
-    → d3 ≡ design → marked ≡ replicated → before ≡ heard
+    → d3 ≡ design → marked ≡ replicated → before ≡ received_messages
     → seen ≡ layers → IsDesign d3 → AreThree d1 layers → HaveReplicas design replicated (there_in old)
     → StayPut old layers → AreMade d1 values before layers
     → AllReceived d2 marked faults seen next → AreShown d3 marked seen shown → lengths shown ≡ tap_sizes d3
-    → AreTurned layers turned
-    → vstate design replicated (voted_of design replicated (parts_in turned) next) shown
-    ≡ voted_advanced (vstate design replicated (voted_of design replicated (parts_in old) heard) shown_before) values faults
-state_advanced_by design d1 d2 d3 replicated marked values faults heard before next old layers seen turned shown_before
+    → AreSwapped layers turned
+    → voted_state_of design replicated (voted_of design replicated (parts_in turned) next) shown
+    ≡ voted_advanced (voted_state_of design replicated (voted_of design replicated (parts_in old) received_messages) shown_before) values faults
+state_advanced_by design d1 d2 d3 replicated marked values faults received_messages before next old layers seen turned shown_before
     shown e1 e2 e3 marks reads sees rules are replicas stay made received
     shows sizes turns =
-    state_advanced design replicated values faults heard next old layers turned shown_before shown
+    state_advanced design replicated values faults received_messages next old layers turned shown_before shown
     (subst IsDesign e3 rules) (subst (λ (d : DesignParts). AreThree d layers) e1 are) replicas stay
-    (subst (λ (d : DesignParts). AreMade d values heard layers) e1
+    (subst (λ (d : DesignParts). AreMade d values received_messages layers) e1
     (subst (λ hs. AreMade d1 values hs layers) reads made))
     (subst (λ (d : DesignParts). AllReceived d replicated faults layers next) e2
     (subst (λ (r : List Bool). AllReceived d2 r faults layers next) marks

@@ -18,8 +18,8 @@ use Rattle.sync_product.specs.proof.Rounds.{frames_of}
 use Rattle.sync_product.proofs.OpeningProducts.{opening_messages_fit}
 use Rattle.triple_vote.specs.declared.replica_layer.Layer.{Layer}
 use Rattle.triple_vote.specs.Replicas.{is_replicated}
-use Rattle.triple_vote.specs.proof.ReplicaLayers.{lengths, opening_part, HasRoom, is_there, IsOpened}
-use Rattle.triple_vote.specs.proof.ThreeLayers.{there_in, parts_in, AreThree, HaveReplicas, AreOpened, AreHeard}
+use Rattle.triple_vote.specs.proof.ReplicaLayers.{lengths, opening_part, HasRoom, has_replica, IsOpened}
+use Rattle.triple_vote.specs.proof.ThreeLayers.{there_in, parts_in, AreThree, HaveReplicas, AreOpened, HasReceivedSizes}
 
 -- ---- one layer
 size_of_opening : (c : Component) → part_size (opening_part c) ≡ part_size_of c []
@@ -95,14 +95,14 @@ module _ (design : DesignParts) (replicated all : List Bool) (first second third
 
   have_replicas : HaveReplicas design replicated (there_in layers)
   have_replicas zero node below within =
-      ap (λ there. is_there there node) (opened.there_is ∙ all_is)
+      ap (λ there. has_replica there node) (opened.there_is ∙ all_is)
       ∙ get_or-replicate (length design.components) node true false within
       ∙ first_by (is_replicated replicated node)
   have_replicas (suc zero) node below within =
-      ap (λ there. is_there there node) next.there_is
+      ap (λ there. has_replica there node) next.there_is
       ∙ marked_by (is_replicated replicated node) 1 (omega arith) (omega arith)
   have_replicas (suc (suc zero)) node below within =
-      ap (λ there. is_there there node) last.there_is
+      ap (λ there. has_replica there node) last.there_is
       ∙ marked_by (is_replicated replicated node) 2 (omega arith) (omega arith)
   have_replicas (suc (suc (suc n))) node below within = absurd (omega arith)
 
@@ -117,9 +117,9 @@ module _ (design : DesignParts) (replicated all : List Bool) (first second third
   are_opened = record { layers_fit = are_three; layers_are = have_replicas; frames = frames_are }
 
 -- ---- what they have heard
-pub are_heard : (design : DesignParts) (heard : List (List (List PortValue)))
-    → heard ≡ replicate 3 (opening design).messages → AreHeard design heard
-are_heard design heard is =
+pub are_heard : (design : DesignParts) (received_messages : List (List (List PortValue)))
+    → received_messages ≡ replicate 3 (opening design).messages → HasReceivedSizes design received_messages
+are_heard design received_messages is =
     let fits : List (List PortValue) → Type 0 = λ tuples. lengths tuples ≡ message_sizes design in
     let silent = (opening design).messages in
     let fit = opening_messages_fit design design.links in

@@ -21,8 +21,8 @@ use Rattle.pals_model.specs.Composition.{state, steps_of_round, tuple_of, taps_o
 use Rattle.pals_model.specs.RoundTexts.{text_of, round_line, component_line, tap_line, part_lines, tap_lines}
 use Rattle.pals_model.specs.RoundTexts.{taps_before, composed_lines}
 use Rattle.pals_model.proofs.CompositionLaws.{state_goes_on, part_from_steps}
-use Rattle.triple_vote.specs.Replicas.{is_replicated, copies_of, frame_at, voted_composition, vshown}
-use Rattle.triple_vote.specs.VotedText.{replica_name, replica_lines, shown_line, voted_row, voted_lines, thrice_lines}
+use Rattle.triple_vote.specs.Replicas.{is_replicated, copies_of, frame_at, voted_composition, voted_tap}
+use Rattle.triple_vote.specs.VotedText.{replica_name, replica_lines, shown_line, voted_row, voted_lines, tripled_lines}
 use Rattle.triple_vote.specs.proof.VoteLaws.{ReportIsThrice, ThriceWithoutReplicas}
 use Rattle.triple_vote.proofs.OutvotedFaults.{replicas_are_states, taps_show_tuples}
 
@@ -80,10 +80,10 @@ row-same design replicated f g shown other round frames taps =
 
 pub report_is_thrice : ReportIsThrice
 report_is_thrice design env replicated faults n sound are outvoted =
-    ap text_of (rounds-same (voted_lines design env replicated faults) (thrice_lines design env replicated)
+    ap text_of (rounds-same (voted_lines design env replicated faults) (tripled_lines design env replicated)
     (λ round. row-same design replicated (frame_at (voted_composition design env replicated faults (suc round)))
     (λ node replica. state design env node (suc round))
-    (λ tap. vshown design env replicated faults tap round)
+    (λ tap. voted_tap design env replicated faults tap round)
     (λ tap. tuple_of (steps_of_round design env round) tap.source.0 tap.out_port) round
     (λ node replica within below.
     replicas_are_states design env replicated faults sound are outvoted node replica (suc round) within below)
@@ -127,7 +127,7 @@ frame-in_part design env node round c is =
 
 row_alone : (design : DesignParts) (env : Env) (replicated : List Bool) (round : ℕ)
     → ((node : ℕ) → is_replicated replicated node ≡ false)
-    → thrice_lines design env replicated round ≡ composed_lines design env round
+    → tripled_lines design env replicated round ≡ composed_lines design env round
 row_alone design env replicated round none =
     let frame : ℕ → ℕ → Frame = λ node replica. state design env node (suc round) in
     let part_at : ℕ → Part = λ node. part design env node round in
@@ -150,5 +150,5 @@ row_alone design env replicated round none =
 
 pub thrice_without_replicas : ThriceWithoutReplicas
 thrice_without_replicas design env replicated n none =
-    ap text_of (rounds-same (thrice_lines design env replicated) (composed_lines design env)
+    ap text_of (rounds-same (tripled_lines design env replicated) (composed_lines design env)
     (λ round. row_alone design env replicated round none) (upwards 0 n))

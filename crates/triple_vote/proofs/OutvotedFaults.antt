@@ -15,9 +15,9 @@ use Rattle.pals_model.specs.ComponentInputs.{values_at}
 use Rattle.pals_model.specs.Composition.{no_frame, comp, state, msg}
 use Rattle.pals_model.proofs.CompositionLaws.{one_frame_each, one_message_each}
 use Rattle.pals_runs.specs.declared.vote_faults.VoteFault.{VoteFault}
-use Rattle.triple_vote.specs.Replicas.{is_replicated, copies_of, receivers_in, Voted, for_replicas, for_receivers}
+use Rattle.triple_vote.specs.Replicas.{is_replicated, copies_of, receivers_in, VotedConfiguration, for_replicas, for_receivers}
 use Rattle.triple_vote.specs.Replicas.{first_frame, first_tuple, replica_steps, receives_on, voted_composition}
-use Rattle.triple_vote.specs.proof.VoteLaws.{ReplicasAreStates, ReceivedAreMessages, TapsShowTuples, alone}
+use Rattle.triple_vote.specs.proof.VoteLaws.{ReplicasAreStates, ReceivedAreMessages, TapsShowTuples, unreplicated}
 use Rattle.triple_vote.specs.proof.VoteLaws.{NoReplicasAreComposition}
 use Rattle.triple_vote.proofs.ListTablesAndSearches.{table-is}
 use Rattle.triple_vote.proofs.VotesDespiteOneFault.{vote_is}
@@ -44,7 +44,7 @@ taps_show_tuples design env replicated faults sound are outvoted n round tap is 
     (λ r k t x m is_x three size. vote_is design faults are outvoted r k t x m is_x size) n round tap is
 
 -- ---- without replicas
-abbrev voted_with : List (List Frame) → List (List (List PortValue)) → Voted
+abbrev voted_with : List (List Frame) → List (List (List PortValue)) → VotedConfiguration
 voted_with frames received = record { frames = frames; received = received }
 
 module _ (design : DesignParts) (env : Env) (replicated : List Bool)
@@ -106,7 +106,7 @@ module _ (design : DesignParts) (env : Env) (replicated : List Bool)
         ∙ sym (get_or-map only messages l []))
 
     composed : voted_with (for_replicas design replicated f) (for_receivers design replicated g)
-        ≡ alone (comp design env rounds)
+        ≡ unreplicated (comp design env rounds)
     composed = ap₂ voted_with same_frames same_received
 
 none_overruled : (design : DesignParts) (replicated : List Bool) (faults : List VoteFault)

@@ -11,11 +11,11 @@ use Rattle.pals_model.specs.declared.design.Component.{Component}
 use Rattle.pals_model.specs.declared.design.Link.{Link}
 use Rattle.pals_model.specs.declared.design.DesignParts.{DesignParts}
 use Rattle.pals_model.specs.ComponentInputs.{inputs_of, source_of, from_link, from_feed, link_goes_to, feed_goes_to}
-use Rattle.pals_model.specs.ComponentInputs.{reading, read_link}
+use Rattle.pals_model.specs.ComponentInputs.{brought_tuple, read_link}
 use Rattle.pals_model.proofs.FirstMatches.{found_at}
-use Rattle.triple_vote.specs.Replicas.{Voted, received_at, heard_by}
+use Rattle.triple_vote.specs.Replicas.{VotedConfiguration, received_at, heard_by}
 
-module _ (design : DesignParts) (values : List PortValue) (v : Voted) (messages : List (List PortValue))
+module _ (design : DesignParts) (values : List PortValue) (v : VotedConfiguration) (messages : List (List PortValue))
     (replica : ℕ) where
   -- on each link to a component, the replica received the message
   abbrev pub SameHeard : ℕ → Type 0
@@ -28,8 +28,8 @@ module _ (design : DesignParts) (values : List PortValue) (v : Voted) (messages 
 
   brings_by : (rate node port : ℕ) → SameHeard node → (o : Option ℕ)
       → position (link_goes_to node port) design.links ≡ o → (other : Option ℕ)
-      → reading design values (heard_by replica v) rate (from_link o (from_feed design other))
-      ≡ reading design values messages rate (from_link o (from_feed design other))
+      → brought_tuple design values (heard_by replica v) rate (from_link o (from_feed design other))
+      ≡ brought_tuple design values messages rate (from_link o (from_feed design other))
   brings_by rate node port same None is None = refl
   brings_by rate node port same None is (Some feed) = refl
   brings_by rate node port same (Some l) is other =
@@ -40,15 +40,15 @@ module _ (design : DesignParts) (values : List PortValue) (v : Voted) (messages 
       (heard_is l ∙ same l link at.1 (eqb-true link.target.0 node goes.0))
 
   brings : (rate node port : ℕ) → SameHeard node
-      → reading design values (heard_by replica v) rate (source_of design node port)
-      ≡ reading design values messages rate (source_of design node port)
+      → brought_tuple design values (heard_by replica v) rate (source_of design node port)
+      ≡ brought_tuple design values messages rate (source_of design node port)
   brings rate node port same =
       brings_by rate node port same (position (link_goes_to node port) design.links) refl
       (position (feed_goes_to node port) design.feeds)
 
   same_ports : (rate node : ℕ) → SameHeard node → (ports : List ℕ)
-      → map (reading design values (heard_by replica v) rate) (map (λ port. source_of design node port) ports)
-      ≡ map (reading design values messages rate) (map (λ port. source_of design node port) ports)
+      → map (brought_tuple design values (heard_by replica v) rate) (map (λ port. source_of design node port) ports)
+      ≡ map (brought_tuple design values messages rate) (map (λ port. source_of design node port) ports)
   same_ports rate node same [] = refl
   same_ports rate node same (port ∷ ports) =
       ap₂ (λ tuple (tuples : List (List PortValue)). tuple ∷ tuples) (brings rate node port same)

@@ -14,7 +14,7 @@ use Rattle.pals_model.specs.declared.design.Link.{Link}
 use Rattle.pals_model.specs.declared.design.Tap.{Tap}
 use Rattle.pals_model.specs.declared.design.DesignParts.{DesignParts}
 use Rattle.pals_model.specs.declared.environment.Env.{Env}
-use Rattle.pals_model.specs.ComponentInputs.{values_at, feed, inputs_in}
+use Rattle.pals_model.specs.ComponentInputs.{values_at, input_vectors, inputs_in}
 use Rattle.pals_model.specs.PortKinds.{rate_of, rate_in}
 use Rattle.pals_model.specs.Composition.{no_frame, comp, state, msg, steps_of_round, tuple_in, tuple_of}
 use Rattle.pals_model.specs.DesignRules.{IsDesign, IsLink, IsTap}
@@ -25,10 +25,10 @@ use Rattle.pals_model.proofs.FirstMatches.{at_element}
 use Rattle.pals_model.proofs.ShapeLaws.{component_at, message_has_rate}
 use Rattle.pals_runs.specs.declared.vote_faults.VoteFault.{VoteFault}
 use Rattle.triple_vote.specs.Votes.{votes}
-use Rattle.triple_vote.specs.Replicas.{is_replicated, copies_of, receivers_in, Voted, frame_at, received_at}
+use Rattle.triple_vote.specs.Replicas.{is_replicated, copies_of, receivers_in, VotedConfiguration, frame_at, received_at}
 use Rattle.triple_vote.specs.Replicas.{for_replicas, for_receivers, first_frame, first_tuple, voted_opening, steps_in}
 use Rattle.triple_vote.specs.Replicas.{replica_steps, tuple_at, is_fault, fault_or, own_message, sent_to, vote_of}
-use Rattle.triple_vote.specs.Replicas.{receives_on, vnext, voted_composition, vshown_by, vshown}
+use Rattle.triple_vote.specs.Replicas.{receives_on, next_voted, voted_composition, voted_tap_by, voted_tap}
 use Rattle.triple_vote.proofs.TupleVotes.{votes-first_two}
 use Rattle.triple_vote.proofs.ReplicaInputs.{same_inputs}
 
@@ -64,7 +64,7 @@ pub has_three : (replicated : List Bool) (node replica : ℕ) → is_replicated 
     → replica < copies_of replicated node
 has_three replicated node replica is below = subst (λ b. replica < (if b then 3 else 1)) (sym is) below
 
-pub record Agrees (design : DesignParts) (env : Env) (replicated : List Bool) (v : Voted) (round : ℕ) : Type 0 where
+pub record Agrees (design : DesignParts) (env : Env) (replicated : List Bool) (v : VotedConfiguration) (round : ℕ) : Type 0 where
   pub frames : (node replica : ℕ) → node < length design.components → replica < copies_of replicated node
       → frame_at v node replica ≡ state design env node round
   pub received : (l target : ℕ) (link : Link) → slice_get design.links l ≡ Some link
@@ -95,14 +95,14 @@ module _ (design : DesignParts) (env : Env) (replicated : List Bool) (sound : Is
   }
 
   -- ---- one round
-  module _ (v : Voted) (round : ℕ) (agrees : Agrees design env replicated v round) where
+  module _ (v : VotedConfiguration) (round : ℕ) (agrees : Agrees design env replicated v round) where
     abbrev values : List PortValue
     values = values_at env round
 
     same_steps : (node replica : ℕ) (c : Component) → slice_get design.components node ≡ Some c
         → replica < copies_of replicated node
         → replica_steps design values v node replica ≡ own_steps design env node round c
-    unfolding feed
+    unfolding input_vectors
     same_steps node replica c is below =
         let messages = (comp design env round).messages in
         ap (steps_in design values v node replica) is
@@ -153,7 +153,7 @@ module _ (design : DesignParts) (env : Env) (replicated : List Bool) (sound : Is
           ap (receives_on design replicated values faults v l target) is
           ∙ receives_by l target link (is_replicated replicated link.source.0) is refl
 
-      next_agrees : Agrees design env replicated (vnext design replicated values faults v) (suc round)
+      next_agrees : Agrees design env replicated (next_voted design replicated values faults v) (suc round)
       unfolding msg
       next_agrees = record {
         frames = λ node replica within below.
@@ -189,7 +189,7 @@ module _ (design : DesignParts) (env : Env) (replicated : List Bool) (sound : Is
         (same_steps tap.source.0 0 c is (has_first replicated tap.source.0))
 
     shows : (tap : Tap) → tap.source.0 < length design.components
-        → vshown_by design replicated values v tap
+        → voted_tap_by design replicated values v tap
         ≡ tuple_of (steps_of_round design env round) tap.source.0 tap.out_port
     shows tap within =
         let at = component_at design tap.source.0 within in
@@ -206,9 +206,9 @@ module _ (design : DesignParts) (env : Env) (replicated : List Bool) (sound : Is
         (overruled round)
 
     pub shows_after : (n round : ℕ) (tap : Tap) → slice_get design.taps n ≡ Some tap
-        → vshown design env replicated faults tap round
+        → voted_tap design env replicated faults tap round
         ≡ tuple_of (steps_of_round design env round) tap.source.0 tap.out_port
-    unfolding vshown
+    unfolding voted_tap
     shows_after n round tap is =
         let rules = at_element (IsTap design) design.taps n tap sound.taps.each is in
         shows (voted_composition design env replicated faults round) round (agrees_after round) tap rules.source.node_is

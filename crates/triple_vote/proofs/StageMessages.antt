@@ -17,7 +17,7 @@ use Rattle.sync_product.specs.proof.ProductSizes.{stage_size, stage_sizes, messa
 use Rattle.sync_product.specs.proof.Rounds.{sent_by, sent_from}
 use Rattle.sync_product.proofs.PortColumns.{length-column}
 use Rattle.sync_product.proofs.ComponentLists.{item_at}
-use Rattle.triple_vote.specs.proof.ReplicaLayers.{lengths, tap_sizes, is_there, whole_from}
+use Rattle.triple_vote.specs.proof.ReplicaLayers.{lengths, tap_sizes, has_replica, whole_from}
 use Rattle.triple_vote.proofs.SelectiveListWrites.{Filled, filled_put}
 use Rattle.triple_vote.proofs.TupleLengths.{stage_within, stage_rows, tuple_within, tuple_size, sizes_stay}
 use Rattle.triple_vote.proofs.TupleLengths.{length-written}
@@ -60,11 +60,11 @@ module _ (design : DesignParts) (rules : IsDesign design) (there : List Bool) (s
 
     pub message_sent : (rows : List (List PortValue)) (written : List PortValue) → rows ≡ stage.rows
         → written ≡ cut stage.sent (column link.out_port rows)
-        → Filled design.links (λ (x : Link). is_there there x.source.0) (λ at (x : Link). sent_by stages x) sent number
-        → Filled design.links (λ (x : Link). is_there there x.source.0) (λ at (x : Link). sent_by stages x)
+        → Filled design.links (λ (x : Link). has_replica there x.source.0) (λ at (x : Link). sent_by stages x) sent number
+        → Filled design.links (λ (x : Link). has_replica there x.source.0) (λ at (x : Link). sent_by stages x)
         (set sent number written) (number + 1)
     message_sent rows written rows_are is =
-        filled_put design.links (λ (x : Link). is_there there x.source.0) (λ at (x : Link). sent_by stages x) sent
+        filled_put design.links (λ (x : Link). has_replica there x.source.0) (λ at (x : Link). sent_by stages x) sent
         number link written link_is
         (tuple_within link_size design.links sent sizes number link_within)
         (is ∙ ap (λ rs. cut stage.sent (column link.out_port rs)) rows_are
@@ -112,13 +112,13 @@ module _ (design : DesignParts) (rules : IsDesign design) (there : List Bool) (s
     pub tuple_shown : (rows : List (List PortValue)) (written : List PortValue) (count : ℕ) → rows ≡ stage.rows
         → count ≡ length rows
         → written ≡ cut count (column tap.out_port rows)
-        → Filled design.taps (λ (x : Tap). is_there there x.source.0)
+        → Filled design.taps (λ (x : Tap). has_replica there x.source.0)
         (λ at (x : Tap). whole_from (slice_get stages x.source.0) x.out_port) shown number
-        → Filled design.taps (λ (x : Tap). is_there there x.source.0)
+        → Filled design.taps (λ (x : Tap). has_replica there x.source.0)
         (λ at (x : Tap). whole_from (slice_get stages x.source.0) x.out_port) (set shown number written)
         (number + 1)
     tuple_shown rows written count rows_are all is =
-        filled_put design.taps (λ (x : Tap). is_there there x.source.0)
+        filled_put design.taps (λ (x : Tap). has_replica there x.source.0)
         (λ at (x : Tap). whole_from (slice_get stages x.source.0) x.out_port) shown number tap written tap_is
         (tuple_within tap_size design.taps shown sizes number tap_within)
         (whole rows written count all is ∙ ap (column tap.out_port) rows_are

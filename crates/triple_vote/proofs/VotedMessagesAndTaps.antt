@@ -20,7 +20,7 @@ use Rattle.triple_vote.specs.declared.replica_layer.Layer.{Layer}
 use Rattle.triple_vote.specs.Votes.{votes}
 use Rattle.triple_vote.specs.Replicas.{source_in, is_replicated, is_fault, fault_or, vote_of}
 use Rattle.triple_vote.specs.proof.VoteLaws.{IsFault}
-use Rattle.triple_vote.specs.proof.ReplicaLayers.{lengths, tap_sizes, HasRoom, is_there}
+use Rattle.triple_vote.specs.proof.ReplicaLayers.{lengths, tap_sizes, HasRoom, has_replica}
 use Rattle.triple_vote.specs.proof.ThreeLayers.{there_in, sent_in, shown_in, tuple_of, received_of, shown_of, AreOfSize}
 use Rattle.triple_vote.specs.proof.ThreeLayers.{FaultsFit, AreThree}
 use Rattle.triple_vote.proofs.ListTablesAndSearches.{found}
@@ -162,10 +162,10 @@ there_read layers at layer within is =
 
 module _ (design : DesignParts) (replicated : List Bool) (faults : List VoteFault) (layers : List Layer) (target : ℕ)
     (are : AreThree design layers) (sound : All (IsFault design) faults)
-    (heard : List (List PortValue)) (sizes : lengths heard ≡ message_sizes design) (items : List Link) (number : ℕ)
+    (received_messages : List (List PortValue)) (sizes : lengths received_messages ≡ message_sizes design) (items : List Link) (number : ℕ)
     (d : Link) (tuple : List PortValue)
     (same : items ≡ design.links) (within : number < length items)
-    (tuple_is : tuple ≡ slice_index_or heard number tuple) where
+    (tuple_is : tuple ≡ slice_index_or received_messages number tuple) where
   abbrev link : Link
   link = slice_index_or items number d
 
@@ -176,7 +176,7 @@ module _ (design : DesignParts) (replicated : List Bool) (faults : List VoteFaul
   wanted at x = received_of (is_replicated replicated x.source.0) faults (sent_in layers) at target
 
   abbrev has_target : Link → Bool
-  has_target x = is_there (slice_index_or (there_in layers) target []) x.target.0
+  has_target x = has_replica (slice_index_or (there_in layers) target []) x.target.0
 
   link_is : slice_get design.links number ≡ Some link
   link_is = ap (λ l. slice_get l number) (sym same) ∙ slice_get-get_or items number d within
@@ -185,7 +185,7 @@ module _ (design : DesignParts) (replicated : List Bool) (faults : List VoteFaul
   link_within = omega (arith, ap length same, within)
 
   room_is : length tuple ≡ rate_of design link.source.0
-  room_is = tuple_size link_size design.links heard sizes number link tuple link_is tuple_is
+  room_is = tuple_size link_size design.links received_messages sizes number link tuple link_is tuple_is
 
   -- the tuples that are voted on have the size of what is written
   pub sent_fit : AreOfSize (sent_in layers) number (length tuple)
@@ -195,18 +195,18 @@ module _ (design : DesignParts) (replicated : List Bool) (faults : List VoteFaul
   faults_are_fit k e inside goes = faults_fit design faults number link sound link_is k e inside goes ∙ sym room_is
 
   pub heard_sizes_stay : (written : List PortValue) → written ≡ wanted number link
-      → lengths (set heard number written) ≡ message_sizes design
+      → lengths (set received_messages number written) ≡ message_sizes design
   heard_sizes_stay written is =
-      sizes_stay link_size design.links heard sizes number tuple written link_within tuple_is
+      sizes_stay link_size design.links received_messages sizes number tuple written link_within tuple_is
       (ap length is ∙ received_size (is_replicated replicated link.source.0) faults (sent_in layers) number target
       (length tuple) sent_fit faults_are_fit)
 
   pub heard_more : (written : List PortValue) → written ≡ wanted number link
-      → Filled design.links has_target wanted heard number
-      → Filled design.links has_target wanted (set heard number written) (number + 1)
+      → Filled design.links has_target wanted received_messages number
+      → Filled design.links has_target wanted (set received_messages number written) (number + 1)
   heard_more written is =
-      filled_put design.links has_target wanted heard number link written link_is
-      (tuple_within link_size design.links heard sizes number link_within) is
+      filled_put design.links has_target wanted received_messages number link written link_is
+      (tuple_within link_size design.links received_messages sizes number link_within) is
 
 -- ---- one more root out port
 module _ (design : DesignParts) (replicated : List Bool) (layers : List Layer) (are : AreThree design layers)

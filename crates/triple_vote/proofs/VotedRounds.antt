@@ -27,10 +27,10 @@ use Rattle.pals_runs.specs.declared.vote_faults.VoteFault.{VoteFault}
 use Rattle.sync_product.specs.proof.Rounds.{frames_of}
 use Rattle.triple_vote.specs.declared.replica_layer.Layer.{Layer}
 use Rattle.triple_vote.specs.Votes.{votes}
-use Rattle.triple_vote.specs.Replicas.{is_replicated, copies_of, receivers_in, Voted, for_replicas, for_receivers}
+use Rattle.triple_vote.specs.Replicas.{is_replicated, copies_of, receivers_in, VotedConfiguration, for_replicas, for_receivers}
 use Rattle.triple_vote.specs.Replicas.{steps_in, replica_steps, tuple_at, is_fault, fault_or, own_message, sent_to}
-use Rattle.triple_vote.specs.Replicas.{vote_of, receives_on, vnext, vshown_by}
-use Rattle.triple_vote.specs.proof.ReplicaLayers.{is_there, frame_made, rows_made}
+use Rattle.triple_vote.specs.Replicas.{vote_of, receives_on, next_voted, voted_tap_by}
+use Rattle.triple_vote.specs.proof.ReplicaLayers.{has_replica, frame_made, rows_made}
 use Rattle.triple_vote.specs.proof.ThreeLayers.{there_in, parts_in, next_in, sent_in, shown_in, frame_of, tuple_of}
 use Rattle.triple_vote.specs.proof.ThreeLayers.{voted_of, received_of, AllReceived, shown_of, AreShown, AreMade}
 use Rattle.triple_vote.specs.proof.ThreeLayers.{HaveReplicas}
@@ -72,14 +72,14 @@ pub within_three : (replicated : List Bool) (node replica : ℕ) → replica < c
 within_three replicated node replica below = at_most_three (is_replicated replicated node) replica below
 
 module _ (design : DesignParts) (replicated : List Bool) (values : List PortValue)
-    (heard : List (List (List PortValue))) (layers : List Layer)
+    (received_messages : List (List (List PortValue))) (layers : List Layer)
     (rules : IsDesign design) (three : length layers ≡ 3) (are : HaveReplicas design replicated (there_in layers))
-    (made : AreMade design values heard layers) where
-  abbrev v : Voted
-  v = voted_of design replicated (parts_in layers) heard
+    (made : AreMade design values received_messages layers) where
+  abbrev v : VotedConfiguration
+  v = voted_of design replicated (parts_in layers) received_messages
 
   abbrev heard_of : ℕ → List (List PortValue)
-  heard_of replica = slice_index_or heard replica []
+  heard_of replica = slice_index_or received_messages replica []
 
   -- ---- layers
   record HasLayer (replica : ℕ) : Type 0 where
@@ -94,9 +94,9 @@ module _ (design : DesignParts) (replicated : List Bool) (values : List PortValu
       ]
 
   present : (node replica : ℕ) (at : HasLayer replica) → node < length design.components
-      → replica < copies_of replicated node → is_there at.layer.there node ≡ true
+      → replica < copies_of replicated node → has_replica at.layer.there node ≡ true
   present node replica at within below =
-      ap (λ there. is_there there node)
+      ap (λ there. has_replica there node)
       (sym (get_or-map_some (λ (l : Layer). l.there) layers replica at.layer [] at.is))
       ∙ are replica node (within_three replicated node replica below) within
       ∙ lt-ltb replica (copies_of replicated node) below
@@ -116,7 +116,7 @@ module _ (design : DesignParts) (replicated : List Bool) (values : List PortValu
       (replica_at design replicated (λ n r. frame_of (parts_in layers) r n) node replica within below)
       (same_inputs design values v (heard_of replica) replica node c
       (λ l link is_link goes.
-      receiver_at design replicated (λ k t. tuple_of heard t k) l replica link is_link
+      receiver_at design replicated (λ k t. tuple_of received_messages t k) l replica link is_link
       (subst (λ n. replica < copies_of replicated n) (sym goes) below)))
 
   -- its frame, as its layer has it
@@ -235,9 +235,9 @@ module _ (design : DesignParts) (replicated : List Bool) (values : List PortValu
   -- ---- the round
   pub voted_is : (faults : List VoteFault) (next : List (List (List PortValue)))
       → AllReceived design replicated faults layers next
-      → voted_of design replicated (next_in layers) next ≡ vnext design replicated values faults v
+      → voted_of design replicated (next_in layers) next ≡ next_voted design replicated values faults v
   voted_is faults next received =
-      ap₂ (λ frames tuples. let w : Voted = record { frames = frames; received = tuples } in w)
+      ap₂ (λ frames tuples. let w : VotedConfiguration = record { frames = frames; received = tuples } in w)
       (replicas-same design replicated (λ node replica. frame_of (next_in layers) replica node)
       (λ node replica. (replica_steps design values v node replica).frame)
       (λ node replica within below. frame_turned node replica within below))
@@ -247,7 +247,7 @@ module _ (design : DesignParts) (replicated : List Bool) (values : List PortValu
       let kept = at_element (IsLink design) design.links l link rules.links.each is in
       let at = has_layer target (within_three replicated link.target.0 target below) in
       let here =
-      ap (λ there. is_there there link.target.0)
+      ap (λ there. has_replica there link.target.0)
       (get_or-map_some (λ (x : Layer). x.there) layers target at.layer [] at.is)
       ∙ present link.target.0 target at kept.target.node_is below in
       get_or_from_slice_get (slice_index_or next target []) l _ []
@@ -257,9 +257,9 @@ module _ (design : DesignParts) (replicated : List Bool) (values : List PortValu
 
   pub shown_is : (shown : List (List PortValue)) → length shown ≡ length design.taps
       → AreShown design replicated layers shown
-      → shown ≡ map (vshown_by design replicated values v) design.taps
+      → shown ≡ map (voted_tap_by design replicated values v) design.taps
   shown_is shown size shows =
-      let shows_tap : Tap → List PortValue = vshown_by design replicated values v in
+      let shows_tap : Tap → List PortValue = voted_tap_by design replicated values v in
       let many : length (map shows_tap design.taps) ≡ length design.taps = length-map design.taps shows_tap in
       ext_get_or [] shown (map shows_tap design.taps) (size ∙ sym many)
       (λ n within. elim (slice_get_cases design.taps n).1 [

@@ -41,14 +41,14 @@ source_in (Some link) = link.source.0
 
 -- after some rounds: for each component the frame of each of its replicas, and for each link the tuple that each
 -- replica of its target received in the last round
-pub record Voted : Type 0 where
+pub record VotedConfiguration : Type 0 where
   pub frames : List (List Frame)
   pub received : List (List (List PortValue))
 
-abbrev pub frame_at : Voted → ℕ → ℕ → Frame
+abbrev pub frame_at : VotedConfiguration → ℕ → ℕ → Frame
 frame_at v node replica = slice_index_or (slice_index_or v.frames node []) replica no_frame
 
-abbrev pub received_at : Voted → ℕ → ℕ → List PortValue
+abbrev pub received_at : VotedConfiguration → ℕ → ℕ → List PortValue
 received_at v link replica = slice_index_or (slice_index_or v.received link []) replica []
 
 -- ---- for each replica of each component, and for each replica that receives on each link
@@ -70,26 +70,26 @@ abbrev pub first_tuple : DesignParts → Option Link → List PortValue
 first_tuple design None = []
 first_tuple design (Some link) = replicate (rate_of design link.source.0) Absent
 
-abbrev pub voted_opening : DesignParts → List Bool → Voted
+abbrev pub voted_opening : DesignParts → List Bool → VotedConfiguration
 voted_opening design replicated = record {
   frames = for_replicas design replicated (λ node replica. first_frame (slice_get design.components node));
   received = for_receivers design replicated (λ l replica. first_tuple design (slice_get design.links l));
 }
 
 -- ---- the steps of a replica in a round, from what it received
-abbrev pub heard_by : ℕ → Voted → List (List PortValue)
+abbrev pub heard_by : ℕ → VotedConfiguration → List (List PortValue)
 heard_by replica v = map (λ tuples. slice_index_or tuples replica []) v.received
 
-abbrev pub steps_in : DesignParts → List PortValue → Voted → ℕ → ℕ → Option Component → Stepped
+abbrev pub steps_in : DesignParts → List PortValue → VotedConfiguration → ℕ → ℕ → Option Component → Stepped
 steps_in design values v node replica None = record { frame = no_frame; tuples = [] }
 steps_in design values v node replica (Some c) =
     steps c.behaviour (frame_at v node replica) (inputs_of design values (heard_by replica v) node c)
 
-abbrev pub replica_steps : DesignParts → List PortValue → Voted → ℕ → ℕ → Stepped
+abbrev pub replica_steps : DesignParts → List PortValue → VotedConfiguration → ℕ → ℕ → Stepped
 replica_steps design values v node replica = steps_in design values v node replica (slice_get design.components node)
 
 -- its tuple of an out port
-abbrev pub tuple_at : DesignParts → List PortValue → Voted → ℕ → ℕ → ℕ → List PortValue
+abbrev pub tuple_at : DesignParts → List PortValue → VotedConfiguration → ℕ → ℕ → ℕ → List PortValue
 tuple_at design values v node port replica = slice_index_or (replica_steps design values v node replica).tuples port []
 
 -- ---- what it sends on a link to a replica of the link's target
@@ -103,12 +103,12 @@ fault_or None tuple = tuple
 fault_or (Some f) tuple = f.values
 
 -- and else its own tuple, cut
-abbrev pub own_message : DesignParts → List PortValue → Voted → Link → ℕ → List PortValue
+abbrev pub own_message : DesignParts → List PortValue → VotedConfiguration → Link → ℕ → List PortValue
 own_message design values v link replica =
     cut (sent_steps design.gamma design.period (rate_of design link.source.0))
     (tuple_at design values v link.source.0 link.out_port replica)
 
-abbrev pub sent_to : DesignParts → List PortValue → List VoteFault → Voted → ℕ → Link → ℕ → ℕ → List PortValue
+abbrev pub sent_to : DesignParts → List PortValue → List VoteFault → VotedConfiguration → ℕ → Link → ℕ → ℕ → List PortValue
 sent_to design values faults v l link target replica =
     fault_or (find (is_fault l (suc replica) (suc target)) faults) (own_message design values v link replica)
 
@@ -117,7 +117,7 @@ sent_to design values faults v l link target replica =
 abbrev pub vote_of : (ℕ → List PortValue) → List PortValue
 vote_of tuple = votes (tuple 0) (tuple 1) (tuple 2)
 
-abbrev pub receives_on : DesignParts → List Bool → List PortValue → List VoteFault → Voted → ℕ → ℕ → Option Link
+abbrev pub receives_on : DesignParts → List Bool → List PortValue → List VoteFault → VotedConfiguration → ℕ → ℕ → Option Link
     → List PortValue
 receives_on design replicated values faults v l target None = []
 receives_on design replicated values faults v l target (Some link) =
@@ -125,8 +125,8 @@ receives_on design replicated values faults v l target (Some link) =
     else own_message design values v link 0
 
 -- ---- one round, with these values of the root in ports, and these faults
-abbrev pub vnext : DesignParts → List Bool → List PortValue → List VoteFault → Voted → Voted
-vnext design replicated values faults v = record {
+abbrev pub next_voted : DesignParts → List Bool → List PortValue → List VoteFault → VotedConfiguration → VotedConfiguration
+next_voted design replicated values faults v = record {
   frames = for_replicas design replicated (λ node replica. (replica_steps design values v node replica).frame);
   received =
       for_receivers design replicated
@@ -134,18 +134,18 @@ vnext design replicated values faults v = record {
 }
 
 -- after a number of rounds, with the faults of each round
-unfoldable pub voted_composition : DesignParts → Env → List Bool → (ℕ → List VoteFault) → ℕ → Voted
+unfoldable pub voted_composition : DesignParts → Env → List Bool → (ℕ → List VoteFault) → ℕ → VotedConfiguration
 voted_composition design env replicated faults zero = voted_opening design replicated
 voted_composition design env replicated faults (suc round) =
-    vnext design replicated (values_at env round) (faults round) (voted_composition design env replicated faults round)
+    next_voted design replicated (values_at env round) (faults round) (voted_composition design env replicated faults round)
 
 -- ---- what is seen of it
 -- the whole tuple that a root out port shows: of a component that has three replicas, the vote
-abbrev pub vshown_by : DesignParts → List Bool → List PortValue → Voted → Tap → List PortValue
-vshown_by design replicated values v tap =
+abbrev pub voted_tap_by : DesignParts → List Bool → List PortValue → VotedConfiguration → Tap → List PortValue
+voted_tap_by design replicated values v tap =
     if is_replicated replicated tap.source.0 then vote_of (tuple_at design values v tap.source.0 tap.out_port)
     else tuple_at design values v tap.source.0 tap.out_port 0
 
-unfoldable pub vshown : DesignParts → Env → List Bool → (ℕ → List VoteFault) → Tap → ℕ → List PortValue
-vshown design env replicated faults tap round =
-    vshown_by design replicated (values_at env round) (voted_composition design env replicated faults round) tap
+unfoldable pub voted_tap : DesignParts → Env → List Bool → (ℕ → List VoteFault) → Tap → ℕ → List PortValue
+voted_tap design env replicated faults tap round =
+    voted_tap_by design replicated (values_at env round) (voted_composition design env replicated faults round) tap

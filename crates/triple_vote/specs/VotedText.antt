@@ -13,7 +13,7 @@ use Rattle.pals_model.specs.PortKinds.{out_kind}
 use Rattle.pals_model.specs.Composition.{state, steps_of_round, tuple_of}
 use Rattle.pals_model.specs.RoundTexts.{text_of, round_line, component_line, tap_line}
 use Rattle.pals_runs.specs.declared.vote_faults.VoteFault.{VoteFault}
-use Rattle.triple_vote.specs.Replicas.{is_replicated, copies_of, frame_at, voted_composition, vshown}
+use Rattle.triple_vote.specs.Replicas.{is_replicated, copies_of, frame_at, voted_composition, voted_tap}
 
 -- ---- the lines of a component: PATH, or PATH#1, PATH#2 and PATH#3
 abbrev pub replica_name : List ℕ → Bool → ℕ → List ℕ
@@ -39,16 +39,16 @@ voted_row design replicated frame shown round =
 abbrev pub voted_lines : DesignParts → Env → List Bool → (ℕ → List VoteFault) → ℕ → List (List ℕ)
 voted_lines design env replicated faults round =
     voted_row design replicated (frame_at (voted_composition design env replicated faults (suc round)))
-    (λ tap. vshown design env replicated faults tap round) round
+    (λ tap. voted_tap design env replicated faults tap round) round
 
 abbrev pub voted_report : DesignParts → Env → List Bool → (ℕ → List VoteFault) → ℕ → List ℕ
 voted_report design env replicated faults n = text_of (flat_map (voted_lines design env replicated faults) (upwards 0 n))
 
 -- ---- the report of the composition, with each line of a replicated component three times
-abbrev pub thrice_lines : DesignParts → Env → List Bool → ℕ → List (List ℕ)
-thrice_lines design env replicated round =
+abbrev pub tripled_lines : DesignParts → Env → List Bool → ℕ → List (List ℕ)
+tripled_lines design env replicated round =
     voted_row design replicated (λ node replica. state design env node (suc round))
     (λ tap. tuple_of (steps_of_round design env round) tap.source.0 tap.out_port) round
 
-abbrev pub thrice : DesignParts → Env → List Bool → ℕ → List ℕ
-thrice design env replicated n = text_of (flat_map (thrice_lines design env replicated) (upwards 0 n))
+abbrev pub tripled_report : DesignParts → Env → List Bool → ℕ → List ℕ
+tripled_report design env replicated n = text_of (flat_map (tripled_lines design env replicated) (upwards 0 n))

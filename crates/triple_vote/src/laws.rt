@@ -29,7 +29,7 @@ pub fn votes_are_composition()
 /// There the report is that of the composition with each line of a replicated component three times,
 /// which without replicas is the report of the composition.
 pub fn reports_are_composed()
-    ensures thrice { ReportIsThrice }
+    ensures tripled_report { ReportIsThrice }
     ensures alone { ThriceWithoutReplicas }
 {}
 

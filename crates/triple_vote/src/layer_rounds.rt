@@ -3,7 +3,7 @@ ghost use Rattle.std.specs.Prelude.{◌≡◌, [], OnOk, length, map, slice_inde
 ghost use Rattle.pals_model.specs.ComponentInputs.{all_sources};
 ghost use Rattle.sync_product.specs.proof.ProductSizes.{part_size, stage_size, stage_sizes, message_sizes};
 ghost use Rattle.sync_product.specs.proof.Rounds.{frames_of};
-ghost use Rattle.triple_vote.specs.proof.ReplicaLayers.{lengths, frame_sizes, tap_sizes, is_there, AreRun, AreSent};
+ghost use Rattle.triple_vote.specs.proof.ReplicaLayers.{lengths, frame_sizes, tap_sizes, has_replica, AreRun, AreSent};
 ghost use Rattle.triple_vote.specs.proof.ReplicaLayers.{AreWhole};
 
 use pals_base::{Items, NoMemory, NodeNo, PortValue, Tuple};
@@ -14,8 +14,8 @@ use sync_product::tuple_columns::write_port_tuple;
 use sync_product::wiring::WiredComponent;
 
 /// What a table says of a component, false past its end.
-pub fn is_there(there: &[bool], node: NodeNo) -> bool
-    ensures { result ≡ is_there there.now node.0 }
+pub fn has_replica(there: &[bool], node: NodeNo) -> bool
+    ensures { result ≡ has_replica there.now node.0 }
 {
     let at = node.0 as usize;
     if at < there.len() { there[at] } else { false }
@@ -73,7 +73,7 @@ pub fn send_all(design: &Design, there: &[bool], stages: &[Stage], sent: &mut It
     ensures sizes { lengths sent.new ≡ message_sizes design.now }
 {
     for (number, link) in design.links().iter().enumerate() {
-        if !is_there(there, link.source) {
+        if !has_replica(there, link.source) {
             continue;
         }
         let stage = &stages[link.source.0 as usize];
@@ -95,7 +95,7 @@ pub fn show_all(design: &Design, there: &[bool], stages: &[Stage], shown: &mut I
     ensures sizes { lengths shown.new ≡ tap_sizes design.now }
 {
     for (number, tap) in design.taps().iter().enumerate() {
-        if !is_there(there, tap.source) {
+        if !has_replica(there, tap.source) {
             continue;
         }
         let rows = stages[tap.source.0 as usize].rows.as_slice();

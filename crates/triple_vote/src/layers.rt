@@ -5,8 +5,8 @@ ghost use Rattle.pals_model.specs.Composition.{opening};
 ghost use Rattle.sync_product.specs.proof.ProductSizes.{stage_size, stage_sizes};
 ghost use Rattle.triple_vote.specs.proof.FaultTables.{AreFirst};
 ghost use Rattle.triple_vote.specs.proof.VoteLaws.{IsFault};
-ghost use Rattle.triple_vote.specs.proof.ThreeLayers.{AreThree, AreOpened, AreMade, StayPut, AreHeard, AllReceived};
-ghost use Rattle.triple_vote.specs.proof.ThreeLayers.{AreTurned};
+ghost use Rattle.triple_vote.specs.proof.ThreeLayers.{AreThree, AreOpened, AreMade, StayPut, HasReceivedSizes, AllReceived};
+ghost use Rattle.triple_vote.specs.proof.ThreeLayers.{AreSwapped};
 
 use crate::fault_table::FaultTable;
 use crate::receiving::receive_all;
@@ -38,8 +38,8 @@ pub fn opening_layers(
 }
 
 /// An absent message on each link, for three replicas.
-pub fn opening_heard(alloc: Global, design: &Design) -> Result<Vec<Items<Tuple>>, NoMemory>
-    ensures { IfOk result (λ heard. heard.items ≡ replicate 3 (opening design.now).messages) }
+pub fn opening_received(alloc: Global, design: &Design) -> Result<Vec<Items<Tuple>>, NoMemory>
+    ensures { IfOk result (λ received_messages. received_messages.items ≡ replicate 3 (opening design.now).messages) }
 {
     let first = opening_messages(alloc, design)?;
     let second = opening_messages(alloc, design)?;
@@ -52,16 +52,16 @@ pub fn opening_heard(alloc: Global, design: &Design) -> Result<Vec<Items<Tuple>>
 pub fn run_each(
     design: &Design,
     values: &[PortValue],
-    heard: &[Items<Tuple>],
+    received_messages: &[Items<Tuple>],
     sources: &[Items<PortSource>],
     stages: &mut Vec<Stage>,
     layers: &mut Vec<Layer>,
 ) -> Result<(), NoMemory>
-    requires heard { length heard.now ≡ 3 }
+    requires received_messages { length received_messages.now ≡ 3 }
     requires sources { sources.now ≡ all_sources design.now }
     requires stages { map stage_size stages.old.items ≡ stage_sizes design.now }
     requires layers { AreThree design.now layers.old.items }
-    ensures made { OnOk result (AreMade design.now values.now heard.now layers.new.items) }
+    ensures made { OnOk result (AreMade design.now values.now received_messages.now layers.new.items) }
     ensures stay { StayPut layers.old.items layers.new.items }
     ensures layers { AreThree design.now layers.new.items }
     ensures stages { map stage_size stages.new.items ≡ map stage_size stages.old.items }
@@ -70,7 +70,7 @@ pub fn run_each(
         let round = RoundInputs {
             design,
             values,
-            messages: heard[at].as_slice(),
+            messages: received_messages[at].as_slice(),
         };
         layers[at].run(round, sources, stages)?;
     }
@@ -83,23 +83,23 @@ pub fn receive_each(
     replicated: &[bool],
     table: FaultTable,
     layers: &[Layer],
-    heard: &mut Vec<Items<Tuple>>,
+    received_messages: &mut Vec<Items<Tuple>>,
 )
     requires layers { AreThree design.now layers.now }
     requires faults { All (IsFault design.now) table.faults.now }
     requires places { AreFirst table.faults.now (length design.now.links) table.places.now }
-    requires heard { AreHeard design.now heard.old.items }
-    ensures received { AllReceived design.now replicated.now table.entry.faults.now layers.now heard.new.items }
-    ensures heard { AreHeard design.now heard.new.items }
+    requires received_messages { HasReceivedSizes design.now received_messages.old.items }
+    ensures received { AllReceived design.now replicated.now table.entry.faults.now layers.now received_messages.new.items }
+    ensures received_messages { HasReceivedSizes design.now received_messages.new.items }
 {
-    for at in 0..heard.len() {
-        receive_all(design, replicated, table, layers, at, &mut heard[at]);
+    for at in 0..received_messages.len() {
+        receive_all(design, replicated, table, layers, at, &mut received_messages[at]);
     }
 }
 
 /// Goes over to the frames that the round made.
-pub fn turn_each(layers: &mut Vec<Layer>)
-    ensures { AreTurned layers.old.items layers.new.items }
+pub fn swap_each(layers: &mut Vec<Layer>)
+    ensures { AreSwapped layers.old.items layers.new.items }
 {
     for at in 0..layers.len() {
         layers[at].turn();

@@ -8,7 +8,7 @@ ghost use Rattle.triple_vote.specs.proof.VoteLaws.{IsFault};
 ghost use Rattle.triple_vote.specs.proof.VotedStates.{voted_begun, voted_advanced};
 
 use crate::fault_table::{FaultTable, first_faults};
-use crate::layers::{opening_heard, opening_layers, receive_each, run_each, turn_each};
+use crate::layers::{opening_received, opening_layers, receive_each, run_each, swap_each};
 use crate::opening::opening_shown;
 use crate::replica_layer::Layer;
 use crate::tap_tuples::show_each;
@@ -32,7 +32,7 @@ pub struct VoteProduct {
     sources: Items<Items<PortSource>>,
     stages: Vec<Stage>,
     layers: Vec<Layer>,
-    heard: Vec<Items<Tuple>>,
+    received_messages: Vec<Items<Tuple>>,
     shown: Items<Tuple>,
 }
 
@@ -46,7 +46,7 @@ impl Drop for VoteProduct {
             sources: _,
             stages: _,
             layers: _,
-            heard: _,
+            received_messages: _,
             shown: _,
         } = self;
     }
@@ -66,13 +66,13 @@ impl Model for VoteProduct {
     ghost view = { λ p. record {
       design = arc_value p.design;
       replicated = p.replicated;
-      voted = voted_of (arc_value p.design) p.replicated (parts_in p.layers.items) p.heard.items;
+      voted = voted_of (arc_value p.design) p.replicated (parts_in p.layers.items) p.received_messages.items;
       shown = p.shown;
     } };
 
     ghost invariant = { λ p.
         HasTables (arc_value p.design) p.replicated p.sources p.stages.items
-        × HasReplicas (arc_value p.design) p.replicated p.layers.items p.heard.items p.shown };
+        × HasReplicas (arc_value p.design) p.replicated p.layers.items p.received_messages.items p.shown };
 }
 
 impl VoteProduct {
@@ -88,7 +88,7 @@ impl VoteProduct {
         let sources = all_sources(alloc, &design)?;
         let stages = stages(alloc, &design)?;
         let layers = opening_layers(alloc, &design, replicated.as_slice())?;
-        let heard = opening_heard(alloc, &design)?;
+        let received_messages = opening_received(alloc, &design)?;
         let shown = opening_shown(alloc, &design)?;
         Ok(VoteProduct {
             alloc,
@@ -97,7 +97,7 @@ impl VoteProduct {
             sources,
             stages,
             layers,
-            heard,
+            received_messages,
             shown,
         })
     }
@@ -118,7 +118,7 @@ impl VoteProduct {
         run_each(
             &self.design,
             values,
-            self.heard.as_slice(),
+            self.received_messages.as_slice(),
             self.sources.as_slice(),
             &mut self.stages,
             &mut self.layers,
@@ -129,9 +129,9 @@ impl VoteProduct {
             faults,
             places: places.as_slice(),
         };
-        receive_each(&self.design, replicated, table, layers, &mut self.heard);
+        receive_each(&self.design, replicated, table, layers, &mut self.received_messages);
         show_each(&self.design, replicated, layers, &mut self.shown);
-        turn_each(&mut self.layers);
+        swap_each(&mut self.layers);
         Ok(())
     }
 
@@ -161,7 +161,7 @@ impl VoteProduct {
         requires link { link.0 < length self.now.design.links }
         ensures { result.now ≡ received_at self.now.voted link.0 (replica - 1) }
     {
-        let tuples = &self.heard[replica as usize - 1];
+        let tuples = &self.received_messages[replica as usize - 1];
         &tuples.as_slice()[link.0 as usize]
     }
 

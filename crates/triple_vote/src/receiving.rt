@@ -9,7 +9,7 @@ ghost use Rattle.triple_vote.specs.proof.ThreeLayers.{AreThree, sent_in, tuple_o
 ghost use Rattle.triple_vote.specs.proof.ThreeLayers.{FaultsFit};
 
 use crate::fault_table::{FaultTable, place};
-use crate::layer_rounds::{is_there, tuple_at};
+use crate::layer_rounds::{has_replica, tuple_at};
 use crate::replica_layer::Layer;
 use crate::votes::vote_into;
 use pals_base::{Items, PortValue, Tuple};
@@ -78,23 +78,23 @@ pub fn receive_all(
     table: FaultTable,
     layers: &[Layer],
     at: usize,
-    heard: &mut Items<Tuple>,
+    received_messages: &mut Items<Tuple>,
 )
     requires at { at < 3 }
     requires layers { AreThree design.now layers.now }
     requires faults { All (IsFault design.now) table.faults.now }
     requires places { AreFirst table.faults.now (length design.now.links) table.places.now }
-    requires heard { lengths heard.old ≡ message_sizes design.now }
-    ensures received { AreReceived design.now replicated.now table.entry.faults.now layers.now at heard.new }
-    ensures sizes { lengths heard.new ≡ message_sizes design.now }
+    requires received_messages { lengths received_messages.old ≡ message_sizes design.now }
+    ensures received { AreReceived design.now replicated.now table.entry.faults.now layers.now at received_messages.new }
+    ensures sizes { lengths received_messages.new ≡ message_sizes design.now }
 {
     let there = layers[at].there.as_slice();
     for (number, link) in design.links().iter().enumerate() {
-        if !is_there(there, link.target) {
+        if !has_replica(there, link.target) {
             continue;
         }
-        let three = is_there(replicated, link.source);
-        let tuple = &mut heard[number];
+        let three = has_replica(replicated, link.source);
+        let tuple = &mut received_messages[number];
         receive(table, layers, number, three, at, tuple);
     }
 }

@@ -2,7 +2,7 @@
 ghost use Rattle.std.specs.Prelude.{◌≡◌, IfOk, OnOk, map};
 ghost use Rattle.pals_model.specs.ComponentInputs.{all_sources};
 ghost use Rattle.sync_product.specs.proof.ProductSizes.{stage_size, stage_sizes};
-ghost use Rattle.triple_vote.specs.proof.ReplicaLayers.{HasRoom, IsOpened, StaysPut, IsMade, IsTurned};
+ghost use Rattle.triple_vote.specs.proof.ReplicaLayers.{HasRoom, IsOpened, StaysPut, IsMade, IsSwapped};
 
 use crate::layer_rounds::{run_all, send_all, show_all};
 use crate::opening::{opening_frames, opening_shown};
@@ -87,7 +87,7 @@ impl Layer {
 
     /// Goes over to the frames that the round made.
     pub fn turn(&mut self)
-        ensures { IsTurned self.old self.new }
+        ensures { IsSwapped self.old self.new }
     {
         swap(&mut self.parts, &mut self.next);
     }

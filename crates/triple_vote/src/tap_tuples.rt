@@ -4,7 +4,7 @@ ghost use Rattle.pals_model.specs.DesignRules.{IsDesign};
 ghost use Rattle.triple_vote.specs.proof.ReplicaLayers.{lengths, tap_sizes};
 ghost use Rattle.triple_vote.specs.proof.ThreeLayers.{AreThree, shown_in, tuple_of, shown_of, AreShown, AreOfSize};
 
-use crate::layer_rounds::{is_there, tuple_at};
+use crate::layer_rounds::{has_replica, tuple_at};
 use crate::replica_layer::Layer;
 use crate::votes::vote_into;
 use pals_base::{Items, PortValue, Tuple};
@@ -45,7 +45,7 @@ pub fn show_each(design: &Design, replicated: &[bool], layers: &[Layer], shown: 
     ensures rules { IsDesign design.now }
 {
     for (number, tap) in design.taps().iter().enumerate() {
-        let three = is_there(replicated, tap.source);
+        let three = has_replica(replicated, tap.source);
         let tuple = &mut shown[number];
         show(layers, number, three, tuple);
     }

@@ -14,7 +14,7 @@ use Rattle.bus_machine.specs.Plans.{plan_of, link_at}
 use Rattle.bus_machine.specs.Runs.{Run}
 use Rattle.bus_machine.specs.proof.AgreementLaws.{IsRunOf}
 use Rattle.world_gen.specs.proof.ScheduleLaws.{MomentsExist, MomentsAreOne}
-use Rattle.world_gen.specs.proof.Schedules.{step_time, finish_time, send_time, arrive_time, which, event_of, all_of}
+use Rattle.world_gen.specs.proof.Schedules.{step_time, finish_time, send_time, arrive_time, number_at_moment, event_list, all_of}
 use Rattle.world_gen.specs.proof.Schedules.{step_count, begins, starts_at, finishes_at, sends_at, arrivals_at, finishes}
 use Rattle.world_gen.specs.proof.Schedules.{earlier_finishes, present_finishes, events_at, AreMoments}
 use Rattle.run_laws.proofs.TimeArithmetic.{alarm_more}
@@ -22,7 +22,7 @@ use Rattle.run_laws.proofs.WorldLinkTiming.{rule_of}
 use Rattle.world_gen.proofs.ScheduleTimes.{fit, whole, which_is, step_at, least_step}
 
 -- ---- behind the last round nothing comes
-pub late_none : (time : ℕ → ℕ) (count moment : ℕ) (o : Option ℕ) → which time count moment ≡ o
+pub late_none : (time : ℕ → ℕ) (count moment : ℕ) (o : Option ℕ) → number_at_moment time count moment ≡ o
     → ((number : ℕ) → number < count → time number < moment) → o ≡ None
 late_none time count moment None is early = refl
 late_none time count moment (Some number) is early =
@@ -31,8 +31,8 @@ late_none time count moment (Some number) is early =
     let now = at.1 in
     absurd (omega arith)
 
-pub nothing_of : (o : Option ℕ) (e : ℕ → Event) → o ≡ None → event_of o e ≡ []
-nothing_of o e is = ap (λ x. event_of x e) is
+pub nothing_of : (o : Option ℕ) (e : ℕ → Event) → o ≡ None → event_list o e ≡ []
+nothing_of o e is = ap (λ x. event_list x e) is
 
 pub nil_both : (xs ys : List Event) → xs ≡ [] → ys ≡ [] → xs ++ ys ≡ []
 nil_both xs ys one two = ap (λ l. l ++ ys) one ∙ two
@@ -90,33 +90,33 @@ module _ (run : Run) (rules : IsRunOf run) where
       let count = length design.components in
       let ends : finishes design rounds moment ≡ [] =
       nothing_all count (finishes_at design rounds moment)
-      (λ j below. nothing_of (which (finish_time design j) (step_count design rounds j) moment)
+      (λ j below. nothing_of (number_at_moment (finish_time design j) (step_count design rounds j) moment)
       (λ number. event.Finish (record { 0 = j }))
       (late_none (finish_time design j) (step_count design rounds j) moment
-      (which (finish_time design j) (step_count design rounds j) moment) refl
+      (number_at_moment (finish_time design j) (step_count design rounds j) moment) refl
       (λ number few. let early = step_early j below number few in let least = least_step run rules j below in
       omega arith))) in
       nil_both (earlier_finishes design rounds moment) _
       (if_nothing (nat_eq design.gamma.alpha_min 0) (finishes design rounds moment) ends)
       (nil_both (all_of count (starts_at design rounds moment)) _
       (nothing_all count (starts_at design rounds moment)
-      (λ j below. nothing_of (which (step_time design j) (step_count design rounds j) moment)
+      (λ j below. nothing_of (number_at_moment (step_time design j) (step_count design rounds j) moment)
       (begins (plan_of design j).rate j)
       (late_none (step_time design j) (step_count design rounds j) moment
-      (which (step_time design j) (step_count design rounds j) moment) refl
+      (number_at_moment (step_time design j) (step_count design rounds j) moment) refl
       (λ number few. let early = step_early j below number few in omega arith))))
       (nil_both (present_finishes design rounds moment) _
       (if_nothing_now (nat_eq design.gamma.alpha_min 0) (finishes design rounds moment) ends)
       (nil_both (all_of count (sends_at design rounds moment))
       (all_of (length design.links) (arrivals_at design rounds moment))
       (nothing_all count (sends_at design rounds moment)
-      (λ j below. nothing_of (which (send_time design j) rounds moment) (λ round. event.Send (record { 0 = j }))
-      (late_none (send_time design j) rounds moment (which (send_time design j) rounds moment) refl
+      (λ j below. nothing_of (number_at_moment (send_time design j) rounds moment) (λ round. event.Send (record { 0 = j }))
+      (late_none (send_time design j) rounds moment (number_at_moment (send_time design j) rounds moment) refl
       (λ round few. let early = send_early j below round few in omega arith))))
       (nothing_all (length design.links) (arrivals_at design rounds moment)
-      (λ l below. nothing_of (which (arrive_time design l) rounds moment)
+      (λ l below. nothing_of (number_at_moment (arrive_time design l) rounds moment)
       (λ round. event.Arrive (record { 0 = l }) round)
-      (late_none (arrive_time design l) rounds moment (which (arrive_time design l) rounds moment) refl
+      (late_none (arrive_time design l) rounds moment (number_at_moment (arrive_time design l) rounds moment) refl
       (λ round few. let early =
       send_early (link_at design l).source.0 (rule_of run l rules below).source.node_is round few in
       omega arith)))))))

@@ -15,11 +15,11 @@ use Rattle.pals_runs.specs.declared.events_and_faults.Event.TheVariants as event
 use Rattle.pals_runs.specs.declared.events_and_faults.EventFault.{EventFault}
 use Rattle.pals_runs.specs.declared.events_and_faults.EventFault.TheVariants as fault
 use Rattle.pals_runs.specs.declared.events_and_faults.EventSubject.{EventSubject}
-use Rattle.pals_runs.specs.declared.events_and_faults.EventSubject.TheVariants as which
+use Rattle.pals_runs.specs.declared.events_and_faults.EventSubject.TheVariants as subject
 use Rattle.bus_machine.specs.Plans.{plan_of}
 use Rattle.bus_machine.specs.NodeEvents.{is_waiting, next_step, running_step, may_send}
 use Rattle.bus_machine.specs.LinkEvents.{is_in_flight}
-use Rattle.bus_machine.specs.EarliestReadings.{start_alarm, step_alarm, release_alarm}
+use Rattle.bus_machine.specs.EarliestReadings.{start_alarm, step_alarm, release_reading}
 use Rattle.bus_machine.specs.States.{node_at, flight_at}
 use Rattle.bus_machine.specs.Runs.{Run}
 use Rattle.bus_machine.specs.Machine.{Start, Step, Finish, Send}
@@ -28,7 +28,7 @@ use Rattle.run_laws.specs.Deadlines.{node_deadline, message_deadline}
 use Rattle.run_laws.specs.EventFaults.{fault_of, event_fault, is_named, found_if, or_else, first_of, wrong_phase}
 use Rattle.run_laws.specs.EventFaults.{no_message, not_due, too_soon, clock_back, clock_apart, apart, past, node_past}
 use Rattle.run_laws.specs.EventFaults.{copy_past, link_past}
-use Rattle.run_laws.specs.proof.WorldInvariant.{IsInTime}
+use Rattle.run_laws.specs.proof.WorldInvariant.{KeepsDeadline}
 
 pub found_none : (b : Bool) (why : EventFault) → b ≡ false → found_if b why ≡ None
 found_none b why is = ap (λ (x : Bool). found_if x why) is
@@ -76,17 +76,17 @@ finish_is_fine run w node within runs long =
     let step = running_step (node_at w.bus node.0).phase in
     let earliest = since_at w node.0 + run.design.gamma.alpha_min in
     all_named run w (event.Finish node) (lt-ltb node.0 (length run.design.components) within)
-    (none_both (wrong_phase run w node (Finish node)) (too_soon w (which.Node node) earliest)
+    (none_both (wrong_phase run w node (Finish node)) (too_soon w (subject.Node node) earliest)
     (allowed_none (is_some step) (fault.WrongPhase node) runs)
-    (found_none (nat_lt w.time earliest) (fault.TooSoon (which.Node node) earliest) (le-ltb w.time earliest long)))
+    (found_none (nat_lt w.time earliest) (fault.TooSoon (subject.Node node) earliest) (le-ltb w.time earliest long)))
 
 pub send_is_fine : (run : Run) (w : World) (node : NodeNo) → node.0 < length run.design.components
     → may_send (plan_of run.design node.0) (node_at w.bus node.0) ≡ true
-    → release_alarm (plan_of run.design node.0) (node_at w.bus node.0) ≤ reading_at w node.0
+    → release_reading (plan_of run.design node.0) (node_at w.bus node.0) ≤ reading_at w node.0
     → fault_of run w (event.Send node) ≡ None
 send_is_fine run w node within may due =
     let allowed = may_send (plan_of run.design node.0) (node_at w.bus node.0) in
-    let alarm = release_alarm (plan_of run.design node.0) (node_at w.bus node.0) in
+    let alarm = release_reading (plan_of run.design node.0) (node_at w.bus node.0) in
     all_named run w (event.Send node) (lt-ltb node.0 (length run.design.components) within)
     (none_both (wrong_phase run w node (Send node None)) (not_due w node alarm)
     (allowed_none allowed (fault.WrongPhase node) may)
@@ -101,9 +101,9 @@ arrival_is_fine run w link round within flies carried =
     let flying = is_in_flight round (flight_at w.bus link.0) in
     let earliest = flight_since run w link.0 round + run.design.gamma.mu_min in
     all_named run w (event.Arrive link round) (lt-ltb link.0 (length run.design.links) within)
-    (none_both (no_message run w link round) (too_soon w (which.Message link round) earliest)
+    (none_both (no_message run w link round) (too_soon w (subject.Message link round) earliest)
     (allowed_none flying (fault.NoSuchMessage link round) flies)
-    (found_none (nat_lt w.time earliest) (fault.TooSoon (which.Message link round) earliest)
+    (found_none (nat_lt w.time earliest) (fault.TooSoon (subject.Message link round) earliest)
     (le-ltb w.time earliest carried)))
 
 -- ---- a Pass
@@ -113,10 +113,10 @@ first_none f [] none = refl
 first_none f (x ∷ xs) none =
     none_both (f x) (first_of (map f xs)) (none 0 x refl) (first_none f xs (λ k y is. none (suc k) y is))
 
-none_past : (time : ℕ) (which : EventSubject) (last : Option ℕ) → IsInTime time last → past time which last ≡ None
-none_past time which None in_time = refl
-none_past time which (Some last) in_time =
-    found_none (nat_lt last time) (fault.PastDeadline which last) (le-ltb last time in_time)
+none_past : (time : ℕ) (subject : EventSubject) (last : Option ℕ) → KeepsDeadline time last → past time subject last ≡ None
+none_past time subject None in_time = refl
+none_past time subject (Some last) in_time =
+    found_none (nat_lt last time) (fault.PastDeadline subject last) (le-ltb last time in_time)
 
 enumerated_is : {X : Type 0} (from : ℕ) (xs : List X) (k : ℕ) (at : ℕ × X)
     → slice_get (enumerate_from from xs) k ≡ Some at → (at.0 ≡ from + k) × (slice_get xs k ≡ Some at.1)
@@ -147,7 +147,7 @@ replicate_at (suc n) (suc k) time below = replicate_at n k time (omega arith)
 -- all clocks show the time
 pub pass_is_fine : (run : Run) (w : World) (time : ℕ) → 1 ≤ run.design.gamma.eps → w.time ≤ time
     → ((node : ℕ) → reading_at w node ≤ time)
-    → ((node : ℕ) → node < length run.design.components → IsInTime time (node_deadline run w node))
+    → ((node : ℕ) → node < length run.design.components → KeepsDeadline time (node_deadline run w node))
     → ((number k : ℕ) (copy : FlightCopy) → number < length run.design.links
     → slice_get (flight_at w.bus number) k ≡ Some copy → time ≤ message_deadline run w number copy.round)
     → fault_of run w (event.Pass time (replicate (length run.design.components) time)) ≡ None
@@ -180,14 +180,14 @@ pass_is_fine run w time skew forward clocks nodes messages =
     (lt-leb run.design.gamma.eps (apart at.1 time) close)))
     (none_both pasts (first_of (carried ∷ []))
     (first_none (node_past run w time) numbers
-    (λ k node is. none_past time (which.Node (record { 0 = node })) (node_deadline run w node)
+    (λ k node is. none_past time (subject.Node (record { 0 = node })) (node_deadline run w node)
     (nodes node (let at = upwards_is 0 (length run.design.components) k node is in omega (arith, at.0, at.1)))))
     (none_both carried (first_of [])
     (first_none (link_past run w time) links
     (λ k number is.
     first_none (copy_past run w time number) (flight_at w.bus number)
     (λ place copy is_copy.
-    none_past time (which.Message (record { 0 = number }) copy.round) (Some (message_deadline run w number copy.round))
+    none_past time (subject.Message (record { 0 = number }) copy.round) (Some (message_deadline run w number copy.round))
     (messages number place copy
     (let at = upwards_is 0 (length run.design.links) k number is in omega (arith, at.0, at.1)) is_copy))))
     refl)))))

@@ -9,7 +9,7 @@ use Rattle.pals_base.specs.declared.limits.TheConstants.{READING}
 use Rattle.pals_runs.specs.declared.events_and_faults.Event.{Event}
 use Rattle.run_laws.specs.Deadlines.{lesser}
 use Rattle.world_gen.specs.declared.event_series.EventSeries.{EventSeries}
-use Rattle.world_gen.specs.proof.Schedules.{which, event_of}
+use Rattle.world_gen.specs.proof.Schedules.{number_at_moment, event_list}
 use Rattle.world_gen.specs.proof.EventSeries.{IsEventSeries, time_of, next_of, event_of_kind, series_events, events_of}
 use Rattle.world_gen.specs.proof.EventSeries.{next_moment}
 use Rattle.world_gen.proofs.NextSeriesEvents.{is_next, quiet_until, quiet_after, next_comes}
@@ -58,19 +58,19 @@ AreOver from [] = Unit {0}
 AreOver from (c ∷ cs) = (next_time from c ≡ None) × AreOver from cs
 
 abbrev least_from : ℕ → Option ℕ → List EventSeries → Option ℕ
-least_from from first courses =
-    fold (λ moment course. lesser moment (option_map (time_of course) (next_of course from))) first courses
+least_from from first all_series =
+    fold (λ moment series. lesser moment (option_map (time_of series) (next_of series from))) first all_series
 
 late_self : (moment : ℕ) (o : Option ℕ) → o ≡ Some moment → IsLate moment o
 late_self moment o is = let least : moment ≤ moment = omega arith in subst (IsLate moment) (sym is) least
 
-record IsLeast (from moment : ℕ) (first : Option ℕ) (courses : List EventSeries) : Type 0 where
+record IsLeast (from moment : ℕ) (first : Option ℕ) (all_series : List EventSeries) : Type 0 where
   first_late : IsLate moment first
-  late : AreLate from moment courses
-  there : (first ≡ Some moment) ⊎ OneIsAt from moment courses
+  late : AreLate from moment all_series
+  there : (first ≡ Some moment) ⊎ OneIsAt from moment all_series
 
-least_is : (from moment : ℕ) (first : Option ℕ) (courses : List EventSeries)
-    → least_from from first courses ≡ Some moment → IsLeast from moment first courses
+least_is : (from moment : ℕ) (first : Option ℕ) (all_series : List EventSeries)
+    → least_from from first all_series ≡ Some moment → IsLeast from moment first all_series
 least_is from moment first [] is = record { first_late = late_self moment first is; late = tt; there = inl is }
 least_is from moment first (c ∷ cs) is =
     let rest = least_is from moment (lesser first (next_time from c)) cs is in
@@ -85,8 +85,8 @@ least_is from moment first (c ∷ cs) is =
       ];
     }
 
-over_from : (from : ℕ) (first : Option ℕ) (courses : List EventSeries) → least_from from first courses ≡ None
-    → (first ≡ None) × AreOver from courses
+over_from : (from : ℕ) (first : Option ℕ) (all_series : List EventSeries) → least_from from first all_series ≡ None
+    → (first ≡ None) × AreOver from all_series
 over_from from first [] is = (is, tt)
 over_from from first (c ∷ cs) is =
     let rest = over_from from (lesser first (next_time from c)) cs is in
@@ -97,7 +97,7 @@ over_from from first (c ∷ cs) is =
 -- where its next deed is not before a moment, nothing comes before that
 late_next : (c : EventSeries) (from moment : ℕ) (o : Option ℕ) → next_of c from ≡ o
     → IsLate moment (option_map (time_of c) o) → (time : ℕ) → from ≤ time → time < moment
-    → which (time_of c) c.count time ≡ None
+    → number_at_moment (time_of c) c.count time ≡ None
 late_next c from moment None is late time after before = quiet_after c from time is after
 late_next c from moment (Some n) is late time after before = let there : moment ≤ time_of c n = late in
     quiet_until c from n time is after (omega arith)
@@ -109,7 +109,7 @@ over_next c from (Some n) is none = absurd (cc)
 
 record ComesAt (c : EventSeries) (from moment : ℕ) : Type 0 where
   number : ℕ
-  comes : which (time_of c) c.count moment ≡ Some number
+  comes : number_at_moment (time_of c) c.count moment ≡ Some number
   after : from ≤ moment
   reading : moment ≤ READING
 
@@ -125,27 +125,27 @@ comes_next c from moment (Some n) sound is now =
     let product : n * c.every ≤ c.count * c.every = mul-le n c.every c.count c.every (omega arith) (omega arith) in
     record {
       number = n;
-      comes = subst (λ m. which (time_of c) c.count m ≡ Some n) at (next_comes c from n sound.rises is);
+      comes = subst (λ m. number_at_moment (time_of c) c.count m ≡ Some n) at (next_comes c from n sound.rises is);
       after = omega arith;
       reading = omega arith;
     }
 
 -- ---- all of them
-none_before : (from moment : ℕ) (courses : List EventSeries) → AreLate from moment courses → (time : ℕ) → from ≤ time
-    → time < moment → events_of courses time ≡ []
+none_before : (from moment : ℕ) (all_series : List EventSeries) → AreLate from moment all_series → (time : ℕ) → from ≤ time
+    → time < moment → events_of all_series time ≡ []
 none_before from moment [] late time after before = refl
 none_before from moment (c ∷ cs) late time after before =
     nil_both (series_events time c) (events_of cs time)
-    (nothing_of (which (time_of c) c.count time) (event_of_kind c.deed)
+    (nothing_of (number_at_moment (time_of c) c.count time) (event_of_kind c.event_kind)
     (late_next c from moment (next_of c from) refl late.0 time after before))
     (none_before from moment cs late.1 time after before)
 
-none_after : (from : ℕ) (courses : List EventSeries) → AreOver from courses → (time : ℕ) → from ≤ time
-    → events_of courses time ≡ []
+none_after : (from : ℕ) (all_series : List EventSeries) → AreOver from all_series → (time : ℕ) → from ≤ time
+    → events_of all_series time ≡ []
 none_after from [] over time after = refl
 none_after from (c ∷ cs) over time after =
     nil_both (series_events time c) (events_of cs time)
-    (nothing_of (which (time_of c) c.count time) (event_of_kind c.deed)
+    (nothing_of (number_at_moment (time_of c) c.count time) (event_of_kind c.event_kind)
     (quiet_after c from time (over_next c from (next_of c from) refl over.0) after))
     (none_after from cs over.1 time after)
 
@@ -156,20 +156,20 @@ some_right : (xs ys : List Event) → ys ≢ [] → xs ++ ys ≢ []
 some_right [] ys some none = some none
 some_right (x ∷ xs) ys some none = cc
 
-record SomethingAt (courses : List EventSeries) (from moment : ℕ) : Type 0 where
-  something : events_of courses moment ≢ []
+record SomethingAt (all_series : List EventSeries) (from moment : ℕ) : Type 0 where
+  something : events_of all_series moment ≢ []
   after : from ≤ moment
   reading : moment ≤ READING
 
-some_at : (from moment : ℕ) (courses : List EventSeries) → All IsEventSeries courses → OneIsAt from moment courses
-    → SomethingAt courses from moment
+some_at : (from moment : ℕ) (all_series : List EventSeries) → All IsEventSeries all_series → OneIsAt from moment all_series
+    → SomethingAt all_series from moment
 some_at from moment [] sound there = absurd there
 some_at from moment (c ∷ cs) sound (inl here) =
     let comes = comes_next c from moment (next_of c from) (All-head IsEventSeries c cs sound) refl here in
     record {
       something =
-          some_left (series_events moment c) (events_of cs moment) (event_of_kind c.deed comes.number)
-          (ap (λ o. event_of o (event_of_kind c.deed)) comes.comes);
+          some_left (series_events moment c) (events_of cs moment) (event_of_kind c.event_kind comes.number)
+          (ap (λ o. event_list o (event_of_kind c.event_kind)) comes.comes);
       after = comes.after;
       reading = comes.reading;
     }
@@ -182,28 +182,28 @@ some_at from moment (c ∷ cs) sound (inr later) =
     }
 
 -- ---- the next moment
-pub record IsNextMoment (courses : List EventSeries) (from moment : ℕ) : Type 0 where
+pub record IsNextMoment (all_series : List EventSeries) (from moment : ℕ) : Type 0 where
   pub after : from ≤ moment
-  pub quiet : (time : ℕ) → from ≤ time → time < moment → events_of courses time ≡ []
-  pub something : events_of courses moment ≢ []
+  pub quiet : (time : ℕ) → from ≤ time → time < moment → events_of all_series time ≡ []
+  pub something : events_of all_series moment ≢ []
   pub reading : moment ≤ READING
 
-pub moment_is : (courses : List EventSeries) (from moment : ℕ) → All IsEventSeries courses
-    → next_moment courses from ≡ Some moment → IsNextMoment courses from moment
-moment_is courses from moment sound is =
-    let least = least_is from moment None courses is in
+pub moment_is : (all_series : List EventSeries) (from moment : ℕ) → All IsEventSeries all_series
+    → next_moment all_series from ≡ Some moment → IsNextMoment all_series from moment
+moment_is all_series from moment sound is =
+    let least = least_is from moment None all_series is in
     elim least.there [
       | inl none ↦ absurd (cc)
       | inr there ↦
-          let one = some_at from moment courses sound there in
+          let one = some_at from moment all_series sound there in
           record {
             after = one.after;
-            quiet = none_before from moment courses least.late;
+            quiet = none_before from moment all_series least.late;
             something = one.something;
             reading = one.reading;
           }
     ]
 
-pub moments_are_over : (courses : List EventSeries) (from : ℕ) → next_moment courses from ≡ None → (time : ℕ)
-    → from ≤ time → events_of courses time ≡ []
-moments_are_over courses from is = none_after from courses (over_from from None courses is).1
+pub moments_are_over : (all_series : List EventSeries) (from : ℕ) → next_moment all_series from ≡ None → (time : ℕ)
+    → from ≤ time → events_of all_series time ≡ []
+moments_are_over all_series from is = none_after from all_series (over_from from None all_series is).1

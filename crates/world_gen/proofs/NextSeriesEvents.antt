@@ -12,7 +12,7 @@ use Rattle.pals_base.proofs.UpwardNumbers.{slice_get-upwards, upwards_is}
 use Rattle.pals_model.proofs.FirstMatches.{first_at, found_at}
 use Rattle.bus_machine.proofs.ListsAndOldestCopies.{none_found}
 use Rattle.world_gen.specs.declared.event_series.EventSeries.{EventSeries}
-use Rattle.world_gen.specs.proof.Schedules.{which}
+use Rattle.world_gen.specs.proof.Schedules.{number_at_moment}
 use Rattle.world_gen.specs.proof.EventSeries.{time_of, next_of}
 
 -- ---- the first number that passes a test
@@ -124,14 +124,14 @@ all_before c from k none below =
 
 -- ---- which one comes at a moment
 pub at_moment : (c : EventSeries) (moment n : ℕ) → next_of c moment ≡ Some n → time_of c n ≡ moment
-    → which (time_of c) c.count moment ≡ Some n
+    → number_at_moment (time_of c) c.count moment ≡ Some n
 at_moment c moment n is now =
     let next = is_next c moment n is in
     first_number (λ k. nat_eq (time_of c k) moment) c.count n next.below (eq-eqb (time_of c n) moment now)
     (λ k less. ne_eqb (time_of c k) moment (λ same. let early = next.before k less in omega arith))
 
 pub after_moment : (c : EventSeries) (moment n : ℕ) → next_of c moment ≡ Some n → (time_of c n ≡ moment → ⊥)
-    → which (time_of c) c.count moment ≡ None
+    → number_at_moment (time_of c) c.count moment ≡ None
 after_moment c moment n is later =
     let next = is_next c moment n is in
     no_number (λ k. nat_eq (time_of c k) moment) c.count
@@ -140,14 +140,14 @@ after_moment c moment n is later =
       | inr more ↦ let rises = times_rise c n k more in let there = next.reached in later (omega arith)
     ]))
 
-pub over_at : (c : EventSeries) (moment : ℕ) → next_of c moment ≡ None → which (time_of c) c.count moment ≡ None
+pub over_at : (c : EventSeries) (moment : ℕ) → next_of c moment ≡ None → number_at_moment (time_of c) c.count moment ≡ None
 over_at c moment none =
     no_number (λ k. nat_eq (time_of c k) moment) c.count
     (λ k below. ne_eqb (time_of c k) moment (λ same. let early = all_before c moment k none below in omega arith))
 
 -- between a time and the next deed nothing comes
 pub quiet_until : (c : EventSeries) (from n time : ℕ) → next_of c from ≡ Some n → from ≤ time → time < time_of c n
-    → which (time_of c) c.count time ≡ None
+    → number_at_moment (time_of c) c.count time ≡ None
 quiet_until c from n time is after before =
     let next = is_next c from n is in
     no_number (λ k. nat_eq (time_of c k) time) c.count
@@ -157,14 +157,14 @@ quiet_until c from n time is after before =
     ]))
 
 pub quiet_after : (c : EventSeries) (from time : ℕ) → next_of c from ≡ None → from ≤ time
-    → which (time_of c) c.count time ≡ None
+    → number_at_moment (time_of c) c.count time ≡ None
 quiet_after c from time none after =
     no_number (λ k. nat_eq (time_of c k) time) c.count
     (λ k below. ne_eqb (time_of c k) time (λ same. let early = all_before c from k none below in omega arith))
 
 -- the next deed comes at its time
 pub next_comes : (c : EventSeries) (from n : ℕ) → 0 < c.every → next_of c from ≡ Some n
-    → which (time_of c) c.count (time_of c n) ≡ Some n
+    → number_at_moment (time_of c) c.count (time_of c n) ≡ Some n
 next_comes c from n rises is =
     first_number (λ k. nat_eq (time_of c k) (time_of c n)) c.count n (is_next c from n is).below
     (eq-eqb (time_of c n) (time_of c n) refl)

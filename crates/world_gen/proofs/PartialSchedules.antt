@@ -56,12 +56,12 @@ pub record GoesOn (design : DesignParts) (rounds from moment : ℕ) (events : Li
   pub forward : from ≤ moment
   pub reading : moment ≤ READING
 
-pub goes_on : (design : DesignParts) (rounds from moment : ℕ) (courses : List EventSeries) (nodes : ℕ)
+pub goes_on : (design : DesignParts) (rounds from moment : ℕ) (all_series : List EventSeries) (nodes : ℕ)
     (events after : List Event) → IsDesign design → rounds ≤ ROUNDS
-    → courses ≡ timetable design rounds → nodes ≡ length design.components → Some moment ≡ next_moment courses from
-    → after ≡ events ++ moment_events nodes courses moment
+    → all_series ≡ timetable design rounds → nodes ≡ length design.components → Some moment ≡ next_moment all_series from
+    → after ≡ events ++ moment_events nodes all_series moment
     → IsSoFar design rounds from events → GoesOn design rounds from moment after
-goes_on design rounds from moment courses nodes events after rules few are count is is_after so_far =
+goes_on design rounds from moment all_series nodes events after rules few are count is is_after so_far =
     let here : next_moment (timetable design rounds) from ≡ Some moment =
     ap (λ cs. next_moment cs from) (sym are) ∙ sym is in
     let next = moment_is (timetable design rounds) from moment (timetable_is_sound design rules rounds few) here in
@@ -82,11 +82,11 @@ pub record IsDone (design : DesignParts) (rounds : ℕ) (events : List Event) : 
   pub exact : IsScheduleOf design rounds events
   pub whole : (env : Env) → IsWhole (world_run design env rounds) events
 
-pub is_done : (design : DesignParts) (rounds from : ℕ) (courses : List EventSeries) (events : List Event)
+pub is_done : (design : DesignParts) (rounds from : ℕ) (all_series : List EventSeries) (events : List Event)
     → IsDesign design → 1 ≤ rounds
-    → courses ≡ timetable design rounds → None ≡ next_moment courses from → IsSoFar design rounds from events
+    → all_series ≡ timetable design rounds → None ≡ next_moment all_series from → IsSoFar design rounds from events
     → IsDone design rounds events
-is_done design rounds from courses events rules some are is so_far =
+is_done design rounds from all_series events rules some are is so_far =
     let over : next_moment (timetable design rounds) from ≡ None = ap (λ cs. next_moment cs from) (sym are) ∙ sym is in
     let quiet : (time : ℕ) → from ≤ time → events_at design rounds time ≡ [] =
     λ time late. sym (events_are design rules rounds time)
@@ -102,7 +102,7 @@ is_done design rounds from courses events rules some are is so_far =
           (schedules_are_whole (world_run design env rounds) moments (record { design = rules; rounds = some }) all);
     }
 
-pub timetable_keeps : (design : DesignParts) (rounds : ℕ) (courses : List EventSeries) → IsDesign design
-    → rounds ≤ ROUNDS → courses ≡ timetable design rounds → All IsEventSeries courses
-timetable_keeps design rounds courses rules few are =
+pub timetable_keeps : (design : DesignParts) (rounds : ℕ) (all_series : List EventSeries) → IsDesign design
+    → rounds ≤ ROUNDS → all_series ≡ timetable design rounds → All IsEventSeries all_series
+timetable_keeps design rounds all_series rules few are =
     subst (All IsEventSeries) (sym are) (timetable_is_sound design rules rounds few)

@@ -17,19 +17,19 @@ use Rattle.bus_machine.specs.MissedStarts.{rounds_sent_on}
 use Rattle.bus_machine.specs.Nodes.{sent_rounds}
 use Rattle.bus_machine.specs.proof.AgreementLaws.{IsRunOf}
 use Rattle.run_laws.specs.Worlds.{World, since_at, ready_at, sendings}
-use Rattle.world_gen.specs.proof.Schedules.{step_time, finish_time, send_time, arrive_time, which, event_of, all_of}
+use Rattle.world_gen.specs.proof.Schedules.{step_time, finish_time, send_time, arrive_time, number_at_moment, event_list, all_of}
 use Rattle.world_gen.specs.proof.Schedules.{step_count, begins, starts_at, finishes_at, sends_at, arrivals_at, finishes}
 use Rattle.world_gen.specs.proof.Schedules.{earlier_finishes, present_finishes, events_at}
-use Rattle.world_gen.proofs.ScheduleTimes.{Made, which_none, made_none}
+use Rattle.world_gen.proofs.ScheduleTimes.{CountBefore, which_none, made_none}
 use Rattle.pals_model.specs.declared.flight_copy.FlightCopy.{FlightCopy}
 use Rattle.run_laws.specs.proof.WorldInvariant.{copies}
 use Rattle.run_laws.proofs.WorldNodeTiming.{rounds_at_most}
 use Rattle.run_laws.proofs.WorldLinkTiming.{rule_of, under_way}
-use Rattle.world_gen.proofs.WorldsOnSchedule.{begun_by, ended_by, NodeFollows, LinkFollows, Follows, bump, bump_done}
+use Rattle.world_gen.proofs.WorldsOnSchedule.{begun_by, ended_by, NodeOnSchedule, LinkOnSchedule, IsOnSchedule, bump, bump_done}
 use Rattle.world_gen.proofs.WorldsOnSchedule.{bump_left, bump_other}
 
 -- ---- nothing comes at a time
-none_of : (o : Option ℕ) (e : ℕ → Event) → event_of o e ≡ [] → o ≡ None
+none_of : (o : Option ℕ) (e : ℕ → Event) → event_list o e ≡ [] → o ≡ None
 none_of None e none = refl
 none_of (Some number) e none = absurd (cc)
 
@@ -52,11 +52,11 @@ finishes_none false all one two = one
 
 pub record IsQuiet (design : DesignParts) (rounds time : ℕ) : Type 0 where
   pub starts : (j : ℕ) → j < length design.components
-      → which (step_time design j) (step_count design rounds j) time ≡ None
+      → number_at_moment (step_time design j) (step_count design rounds j) time ≡ None
   pub ends : (j : ℕ) → j < length design.components
-      → which (finish_time design j) (step_count design rounds j) time ≡ None
-  pub sends : (j : ℕ) → j < length design.components → which (send_time design j) rounds time ≡ None
-  pub arrivals : (l : ℕ) → l < length design.links → which (arrive_time design l) rounds time ≡ None
+      → number_at_moment (finish_time design j) (step_count design rounds j) time ≡ None
+  pub sends : (j : ℕ) → j < length design.components → number_at_moment (send_time design j) rounds time ≡ None
+  pub arrivals : (l : ℕ) → l < length design.links → number_at_moment (arrive_time design l) rounds time ≡ None
 
 pub is_quiet : (design : DesignParts) (rounds time : ℕ) → events_at design rounds time ≡ [] → IsQuiet design rounds time
 is_quiet design rounds time none =
@@ -73,25 +73,25 @@ is_quiet design rounds time none =
     let ends = finishes_none (nat_eq design.gamma.alpha_min 0) (finishes design rounds time) one.0 three.0 in
     record {
       starts =
-          λ j below. none_of (which (step_time design j) (step_count design rounds j) time)
+          λ j below. none_of (number_at_moment (step_time design j) (step_count design rounds j) time)
           (begins (plan_of design j).rate j) (nothing_at count (starts_at design rounds time) j two.0 below);
       ends =
-          λ j below. none_of (which (finish_time design j) (step_count design rounds j) time)
+          λ j below. none_of (number_at_moment (finish_time design j) (step_count design rounds j) time)
           (λ number. event.Finish (record { 0 = j })) (nothing_at count (finishes_at design rounds time) j ends below);
       sends =
-          λ j below. none_of (which (send_time design j) rounds time) (λ round. event.Send (record { 0 = j }))
+          λ j below. none_of (number_at_moment (send_time design j) rounds time) (λ round. event.Send (record { 0 = j }))
           (nothing_at count (sends_at design rounds time) j four.0 below);
       arrivals =
-          λ l below. none_of (which (arrive_time design l) rounds time) (λ round. event.Arrive (record { 0 = l }) round)
+          λ l below. none_of (number_at_moment (arrive_time design l) rounds time) (λ round. event.Arrive (record { 0 = l }) round)
           (nothing_at (length design.links) (arrivals_at design rounds time) l four.1 below);
     }
 
 -- ---- the times as they are
 pub follows_same : (run : Run) (w : World) (moment : ℕ) (fin st se ar fin' st' se' ar' : ℕ → ℕ)
-    → Follows run w moment fin st se ar
+    → IsOnSchedule run w moment fin st se ar
     → ((j : ℕ) → j < length run.design.components → (fin j ≡ fin' j) × (st j ≡ st' j) × (se j ≡ se' j))
     → ((l : ℕ) → l < length run.design.links → ar l ≡ ar' l)
-    → Follows run w moment fin' st' se' ar'
+    → IsOnSchedule run w moment fin' st' se' ar'
 follows_same run w moment fin st se ar fin' st' se' ar' follows nodes links = record {
   keeps = follows.keeps;
   time = follows.time;
@@ -99,33 +99,33 @@ follows_same run w moment fin st se ar fin' st' se' ar' follows nodes links = re
   nodes = λ j below.
       let n = node_at w.bus j in
       let same = nodes j below in
-      subst (λ x. NodeFollows run j n (since_at w j) (ready_at w j) (sendings w j) x (st' j) (se' j)) same.0
-      (subst (λ x. NodeFollows run j n (since_at w j) (ready_at w j) (sendings w j) (fin j) x (se' j)) same.1
-      (subst (λ x. NodeFollows run j n (since_at w j) (ready_at w j) (sendings w j) (fin j) (st j) x) same.2
+      subst (λ x. NodeOnSchedule run j n (since_at w j) (ready_at w j) (sendings w j) x (st' j) (se' j)) same.0
+      (subst (λ x. NodeOnSchedule run j n (since_at w j) (ready_at w j) (sendings w j) (fin j) x (se' j)) same.1
+      (subst (λ x. NodeOnSchedule run j n (since_at w j) (ready_at w j) (sendings w j) (fin j) (st j) x) same.2
       (follows.nodes j below)));
   links =
-      λ l below. subst (λ x. LinkFollows run l (rounds_sent_on run w.bus l) (flight_at w.bus l) x) (links l below)
+      λ l below. subst (λ x. LinkOnSchedule run l (rounds_sent_on run w.bus l) (flight_at w.bus l) x) (links l below)
       (follows.links l below);
 }
 
 -- ---- the time of one goes on, where nothing of it comes
-made_bump : (time : ℕ → ℕ → ℕ) (count : ℕ → ℕ) (made i j moment : ℕ) → which (time j) (count j) moment ≡ None
-    → Made (time i) (count i) made (bump moment j i)
-    → Made (time i) (count i) made (bump moment (suc j) i)
+made_bump : (time : ℕ → ℕ → ℕ) (count : ℕ → ℕ) (made i j moment : ℕ) → number_at_moment (time j) (count j) moment ≡ None
+    → CountBefore (time i) (count i) made (bump moment j i)
+    → CountBefore (time i) (count i) made (bump moment (suc j) i)
 made_bump time count made i j moment none m = elim (cases_eq i j) [
   | inl same ↦
-      subst (λ x. Made (time x) (count x) made (bump moment (suc j) x)) (sym same)
-      (subst (λ b. Made (time j) (count j) made b) (sym (bump_done moment (suc j) j (omega arith)))
+      subst (λ x. CountBefore (time x) (count x) made (bump moment (suc j) x)) (sym same)
+      (subst (λ b. CountBefore (time j) (count j) made b) (sym (bump_done moment (suc j) j (omega arith)))
       (made_none (time j) (count j) made moment none
-      (subst (λ b. Made (time j) (count j) made b) (bump_left moment j j (omega arith))
-      (subst (λ x. Made (time x) (count x) made (bump moment j x)) same m))))
-  | inr other ↦ subst (λ b. Made (time i) (count i) made b) (sym (bump_other moment j i other)) m
+      (subst (λ b. CountBefore (time j) (count j) made b) (bump_left moment j j (omega arith))
+      (subst (λ x. CountBefore (time x) (count x) made (bump moment j x)) same m))))
+  | inr other ↦ subst (λ b. CountBefore (time i) (count i) made b) (sym (bump_other moment j i other)) m
 ]
 
 module _ (run : Run) (w : World) (moment j : ℕ) where
-  pub none_starts : (fin se ar : ℕ → ℕ) → Follows run w moment fin (bump moment j) se ar
-      → which (step_time run.design j) (step_count run.design run.rounds j) moment ≡ None
-      → Follows run w moment fin (bump moment (suc j)) se ar
+  pub none_starts : (fin se ar : ℕ → ℕ) → IsOnSchedule run w moment fin (bump moment j) se ar
+      → number_at_moment (step_time run.design j) (step_count run.design run.rounds j) moment ≡ None
+      → IsOnSchedule run w moment fin (bump moment (suc j)) se ar
   none_starts fin se ar follows none = record {
     keeps = follows.keeps;
     time = follows.time;
@@ -146,9 +146,9 @@ module _ (run : Run) (w : World) (moment j : ℕ) where
     links = follows.links;
   }
 
-  pub none_ends : (st se ar : ℕ → ℕ) → Follows run w moment (bump moment j) st se ar
-      → which (finish_time run.design j) (step_count run.design run.rounds j) moment ≡ None
-      → Follows run w moment (bump moment (suc j)) st se ar
+  pub none_ends : (st se ar : ℕ → ℕ) → IsOnSchedule run w moment (bump moment j) st se ar
+      → number_at_moment (finish_time run.design j) (step_count run.design run.rounds j) moment ≡ None
+      → IsOnSchedule run w moment (bump moment (suc j)) st se ar
   none_ends st se ar follows none = record {
     keeps = follows.keeps;
     time = follows.time;
@@ -169,9 +169,9 @@ module _ (run : Run) (w : World) (moment j : ℕ) where
     links = follows.links;
   }
 
-  pub none_sends : (fin st ar : ℕ → ℕ) → Follows run w moment fin st (bump moment j) ar
-      → which (send_time run.design j) run.rounds moment ≡ None
-      → Follows run w moment fin st (bump moment (suc j)) ar
+  pub none_sends : (fin st ar : ℕ → ℕ) → IsOnSchedule run w moment fin st (bump moment j) ar
+      → number_at_moment (send_time run.design j) run.rounds moment ≡ None
+      → IsOnSchedule run w moment fin st (bump moment (suc j)) ar
   none_sends fin st ar follows none = record {
     keeps = follows.keeps;
     time = follows.time;
@@ -192,16 +192,16 @@ module _ (run : Run) (w : World) (moment j : ℕ) where
 
   -- of a link, whose source has sent no more than the run's rounds
   link_bump : (i sent : ℕ) (flight : List FlightCopy) → sent ≤ run.rounds → ((r : ℕ) → 1 ≤ copies r flight → r < sent)
-      → which (arrive_time run.design j) run.rounds moment ≡ None
-      → LinkFollows run i sent flight (bump moment j i) → LinkFollows run i sent flight (bump moment (suc j) i)
+      → number_at_moment (arrive_time run.design j) run.rounds moment ≡ None
+      → LinkOnSchedule run i sent flight (bump moment j i) → LinkOnSchedule run i sent flight (bump moment (suc j) i)
   link_bump i sent flight few flying none follows = elim (cases_eq i j) [
     | inl same ↦
         let now = bump_done moment (suc j) j (omega arith) in
         let was = bump_left moment j j (omega arith) in
         let before =
-        subst (λ b. LinkFollows run j sent flight b) was
-        (subst (λ x. LinkFollows run x sent flight (bump moment j x)) same follows) in
-        let after : LinkFollows run j sent flight (suc moment) = record {
+        subst (λ b. LinkOnSchedule run j sent flight b) was
+        (subst (λ x. LinkOnSchedule run x sent flight (bump moment j x)) same follows) in
+        let after : LinkOnSchedule run j sent flight (suc moment) = record {
           waits = λ r some.
               let due = before.waits r some in
               let is_sent = flying r some in
@@ -210,14 +210,14 @@ module _ (run : Run) (w : World) (moment j : ℕ) where
               omega arith;
           flies = λ r below due. before.flies r below (omega arith);
         } in
-        subst (λ x. LinkFollows run x sent flight (bump moment (suc j) x)) (sym same)
-        (subst (λ b. LinkFollows run j sent flight b) (sym now) after)
-    | inr other ↦ subst (λ b. LinkFollows run i sent flight b) (sym (bump_other moment j i other)) follows
+        subst (λ x. LinkOnSchedule run x sent flight (bump moment (suc j) x)) (sym same)
+        (subst (λ b. LinkOnSchedule run j sent flight b) (sym now) after)
+    | inr other ↦ subst (λ b. LinkOnSchedule run i sent flight b) (sym (bump_other moment j i other)) follows
   ]
 
-  pub none_arrives : (rules : IsRunOf run) (fin st se : ℕ → ℕ) → Follows run w moment fin st se (bump moment j)
-      → which (arrive_time run.design j) run.rounds moment ≡ None
-      → Follows run w moment fin st se (bump moment (suc j))
+  pub none_arrives : (rules : IsRunOf run) (fin st se : ℕ → ℕ) → IsOnSchedule run w moment fin st se (bump moment j)
+      → number_at_moment (arrive_time run.design j) run.rounds moment ≡ None
+      → IsOnSchedule run w moment fin st se (bump moment (suc j))
   none_arrives rules fin st se follows none = record {
     keeps = follows.keeps;
     time = follows.time;

@@ -19,7 +19,7 @@ use Rattle.pals_model.specs.declared.design.Link.{Link}
 use Rattle.pals_model.specs.declared.design.Feed.{Feed}
 use Rattle.pals_model.specs.declared.design.Tap.{Tap}
 use Rattle.pals_model.specs.declared.design.DesignParts.{DesignParts}
-use Rattle.pals_model.specs.ComponentInputs.{feed}
+use Rattle.pals_model.specs.ComponentInputs.{input_vectors}
 use Rattle.pals_model.specs.PortKinds.{rate_of, rate_in, ins_in, outs_in, in_kind, out_kind}
 use Rattle.pals_model.specs.Composition.{comp, state}
 use Rattle.pals_model.specs.DesignRules.{IsComponent, IsSource, IsTarget, IsLink, IsFeed, IsTap, IsApart, AgreeInKind}
@@ -198,7 +198,7 @@ module _ (n : ℕ) (some : 2 ≤ n) (most : n ≤ COMPONENTS) where
           each = All-nil (IsFeed (ring n));
           order = AllPairs-nil FeedPrecedes;
           kinds = AllPairs-nil (AgreeInKind (ring n));
-          apart = All-nil (λ (feed : Feed). All (IsApart feed) (ring n).links);
+          apart = All-nil (λ (input_vectors : Feed). All (IsApart input_vectors) (ring n).links);
         };
         taps = record { each = All-nil (IsTap (ring n)); names_differ = AllPairs-nil (λ (a b : Tap). a.name ≢ b.name) };
         bound = let few = slow in omega arith;

@@ -22,19 +22,19 @@ use Rattle.run_laws.specs.Worlds.{World, since_at, ready_at, sendings, flight_si
 use Rattle.run_laws.specs.EventFaults.{fault_of}
 use Rattle.bus_machine.proofs.AgreementChanges.{node_set, node_stays}
 use Rattle.run_laws.specs.proof.WorldInvariant.{copies, one_if}
-use Rattle.world_gen.specs.proof.Schedules.{send_time, arrive_time, which}
+use Rattle.world_gen.specs.proof.Schedules.{send_time, arrive_time, number_at_moment}
 use Rattle.run_laws.proofs.Lists.{count_without}
 use Rattle.run_laws.proofs.WorldLinkTiming.{rule_of, under_way, counts_in_flight, one_of_true, one_of_false}
-use Rattle.run_laws.proofs.FaultlessEventConditions.{ArrivesInTime, arrives_in_time}
+use Rattle.run_laws.proofs.FaultlessEventConditions.{FaultlessArrival, arrives_in_time}
 use Rattle.world_gen.proofs.FaultlessEvents.{arrival_is_fine}
 use Rattle.run_laws.proofs.ArrivalTiming as arrive
 use Rattle.world_gen.proofs.ScheduleTimes.{which_is, sends_rise}
-use Rattle.world_gen.proofs.WorldsOnSchedule.{NodeFollows, LinkFollows, Follows, nodes_follow, follows_put}
+use Rattle.world_gen.proofs.WorldsOnSchedule.{NodeOnSchedule, LinkOnSchedule, IsOnSchedule, nodes_follow, follows_put}
 
 module _ (run : Run) (rules : IsRunOf run) (w : World) (moment : ℕ) (fin st se ar : ℕ → ℕ)
-    (follows : Follows run w moment fin st se ar)
+    (follows : IsOnSchedule run w moment fin st se ar)
     (l : ℕ) (within : l < length run.design.links) (round : ℕ)
-    (is : which (arrive_time run.design l) run.rounds moment ≡ Some round)
+    (is : number_at_moment (arrive_time run.design l) run.rounds moment ≡ Some round)
     (arrivals_are : ar l ≡ moment) (sends_are : (j : ℕ) → j < length run.design.components → se j ≡ suc moment) where
   abbrev link : LinkNo
   link = record { 0 = l }
@@ -51,10 +51,10 @@ module _ (run : Run) (rules : IsRunOf run) (w : World) (moment : ℕ) (fin st se
   from : source < length run.design.components
   from = (rule_of run l rules within).source.node_is
 
-  abbrev lf : LinkFollows run l (rounds_sent_on run w.bus l) flight (ar l)
+  abbrev lf : LinkOnSchedule run l (rounds_sent_on run w.bus l) flight (ar l)
   lf = follows.links l within
 
-  abbrev nf : NodeFollows run source (node_at w.bus source) (since_at w source) (ready_at w source) (sendings w source)
+  abbrev nf : NodeOnSchedule run source (node_at w.bus source) (since_at w source) (ready_at w source) (sendings w source)
       (fin source) (st source) (se source)
   nf = follows.nodes source from
 
@@ -81,7 +81,7 @@ module _ (run : Run) (rules : IsRunOf run) (w : World) (moment : ℕ) (fin st se
       let moment_is : flight_since run w l round ≡ send_time run.design source round = nf.moments_are round is_sent in
       arrival_is_fine run w link round within (counts_in_flight round flight some) (omega arith)
 
-  arrives : ArrivesInTime run w link round
+  arrives : FaultlessArrival run w link round
   arrives = arrives_in_time run w link round fine_arrival
 
   abbrev target : ℕ
@@ -91,13 +91,13 @@ module _ (run : Run) (rules : IsRunOf run) (w : World) (moment : ℕ) (fin st se
   bus = arrive.bus_arrived run w rules follows.keeps link round arrives Kept
 
   abbrev pub After : (ℕ → ℕ) → World → Type 0
-  After later v = Follows run v moment fin st se later
+  After later v = IsOnSchedule run v moment fin st se later
 
   module _ (later : ℕ → ℕ) (now : later l ≡ suc moment) (others : (i : ℕ) → i ≢ l → later i ≡ ar i) where
     copy_is : (copy : FlightCopy) × (oldest round flight ≡ Some copy)
     copy_is = some_by_test (oldest round flight) (counts_in_flight round flight some)
 
-    this_link : LinkFollows run l (rounds_sent_on run w.bus l) (without_oldest round flight) (later l)
+    this_link : LinkOnSchedule run l (rounds_sent_on run w.bus l) (without_oldest round flight) (later l)
     this_link =
         let copy = copy_is.0 in
         let of_round : copy.round ≡ round =
@@ -139,30 +139,30 @@ module _ (run : Run) (rules : IsRunOf run) (w : World) (moment : ℕ) (fin st se
         }
 
     each_link : (i : ℕ) → i < length run.design.links
-        → LinkFollows run i (rounds_sent_on run bus i) (flight_at bus i) (later i)
+        → LinkOnSchedule run i (rounds_sent_on run bus i) (flight_at bus i) (later i)
     each_link i inside =
         let sent : rounds_sent_on run bus i ≡ rounds_sent_on run w.bus i =
         arrive.sent_stays run w rules follows.keeps link round arrives (link_at run.design i).source.0 in
-        subst (λ m. LinkFollows run i m (flight_at bus i) (later i)) (sym sent)
+        subst (λ m. LinkOnSchedule run i m (flight_at bus i) (later i)) (sym sent)
         (elim (cases_eq i l) [
           | inl same ↦
               let flies : flight_at bus l ≡ without_oldest round flight =
               get_or-set_at w.bus.flights l l (without_oldest round flight) [] refl
               (arrive.in_flights run w rules follows.keeps link round arrives) in
-              subst (λ x. LinkFollows run x (rounds_sent_on run w.bus x) (flight_at bus x) (later x)) (sym same)
-              (subst (λ f. LinkFollows run l (rounds_sent_on run w.bus l) f (later l)) (sym flies) this_link)
+              subst (λ x. LinkOnSchedule run x (rounds_sent_on run w.bus x) (flight_at bus x) (later x)) (sym same)
+              (subst (λ f. LinkOnSchedule run l (rounds_sent_on run w.bus l) f (later l)) (sym flies) this_link)
           | inr other ↦
               let flies : flight_at bus i ≡ flight_at w.bus i =
               get_or-set_other w.bus.flights l i (without_oldest round flight) [] other in
-              subst (λ f. LinkFollows run i (rounds_sent_on run w.bus i) f (later i)) (sym flies)
-              (subst (λ x. LinkFollows run i (rounds_sent_on run w.bus i) (flight_at w.bus i) x) (sym (others i other))
+              subst (λ f. LinkOnSchedule run i (rounds_sent_on run w.bus i) f (later i)) (sym flies)
+              (subst (λ x. LinkOnSchedule run i (rounds_sent_on run w.bus i) (flight_at w.bus i) x) (sym (others i other))
               (follows.links i inside))
         ])
 
     to : target < length run.design.components
     to = (rule_of run l rules within).target.node_is
 
-    holds_follows : NodeFollows run target (arrive.holds run w rules follows.keeps link round arrives)
+    holds_follows : NodeOnSchedule run target (arrive.holds run w rules follows.keeps link round arrives)
         (since_at w target) (ready_at w target) (sendings w target) (fin target) (st target) (se target)
     holds_follows =
         let before = follows.nodes target to in

@@ -18,7 +18,7 @@ use Rattle.pals_runs.specs.declared.phase.Phase.TheVariants.{Waiting, Running, B
 use Rattle.bus_machine.specs.Plans.{plan_of, component_at, link_at}
 use Rattle.bus_machine.specs.Nodes.{NodeState, sent_rounds}
 use Rattle.bus_machine.specs.NodeEvents.{may_send, slot_at}
-use Rattle.bus_machine.specs.EarliestReadings.{start_alarm, step_alarm, release_alarm}
+use Rattle.bus_machine.specs.EarliestReadings.{start_alarm, step_alarm, release_reading}
 use Rattle.bus_machine.specs.States.{node_at, flight_at}
 use Rattle.bus_machine.specs.Runs.{Run}
 use Rattle.bus_machine.specs.MissedStarts.{rounds_sent_on}
@@ -28,7 +28,7 @@ use Rattle.run_laws.specs.Deadlines.{last_before, node_deadline, message_deadlin
 use Rattle.run_laws.specs.Worlds.{World, reading_at, since_at, ready_at, sendings, world_after}
 use Rattle.run_laws.specs.EventFaults.{fault_of}
 use Rattle.bus_machine.proofs.NodeLocalAgreement.{MaySend, may_send_of}
-use Rattle.run_laws.specs.proof.WorldInvariant.{IsInTime, copies}
+use Rattle.run_laws.specs.proof.WorldInvariant.{KeepsDeadline, copies}
 use Rattle.world_gen.specs.proof.Schedules.{step_time, finish_time, send_time, arrive_time, step_count, events_at}
 use Rattle.run_laws.proofs.WorldNodeTiming.{may_is, phase_agrees, rounds_at_most, both_in_time, sends_in_time}
 use Rattle.run_laws.proofs.WorldNodeTiming.{phase_last, send_last, deadline_is}
@@ -36,22 +36,22 @@ use Rattle.run_laws.proofs.WorldLinkTiming.{rule_of, one_of_true, under_way}
 use Rattle.world_gen.proofs.FaultlessEvents.{pass_is_fine, replicate_at}
 use Rattle.run_laws.proofs.TimePassage.{passes_in_time, pass_keeps_time}
 use Rattle.run_laws.proofs.NodePicks.{component_is}
-use Rattle.world_gen.proofs.ScheduleTimes.{Made, made_later, which_none, step_is, some_rate}
+use Rattle.world_gen.proofs.ScheduleTimes.{CountBefore, made_later, which_none, step_is, some_rate}
 use Rattle.world_gen.proofs.QuietTimes.{IsQuiet, is_quiet}
-use Rattle.world_gen.proofs.WorldsOnSchedule.{begun_by, ended_by, NodeFollows, Follows}
+use Rattle.world_gen.proofs.WorldsOnSchedule.{begun_by, ended_by, NodeOnSchedule, IsOnSchedule}
 
 abbrev pub all_at : ℕ → ℕ → ℕ
 all_at time j = time
 
 -- ---- where nothing comes between two times, what is made before the one is made before the other
 module _ (run : Run) (rules : IsRunOf run) (w : World) (moment from next : ℕ)
-    (follows : Follows run w moment (all_at from) (all_at from) (all_at from) (all_at from))
+    (follows : IsOnSchedule run w moment (all_at from) (all_at from) (all_at from) (all_at from))
     (forward : from ≤ next) (quiet : (time : ℕ) → from ≤ time → time < next
     → events_at run.design run.rounds time ≡ []) where
   between : (time : ℕ) → from ≤ time → time < next → IsQuiet run.design run.rounds time
   between time above below = is_quiet run.design run.rounds time (quiet time above below)
 
-  pub waits_on : Follows run w moment (all_at next) (all_at next) (all_at next) (all_at next)
+  pub waits_on : IsOnSchedule run w moment (all_at next) (all_at next) (all_at next) (all_at next)
   waits_on = record {
     keeps = follows.keeps;
     time = follows.time;
@@ -110,7 +110,7 @@ module _ (run : Run) (rules : IsRunOf run) (w : World) (moment from next : ℕ)
 
 -- ---- the Pass to a moment
 module _ (run : Run) (rules : IsRunOf run) (w : World) (time moment : ℕ)
-    (follows : Follows run w time (all_at moment) (all_at moment) (all_at moment) (all_at moment))
+    (follows : IsOnSchedule run w time (all_at moment) (all_at moment) (all_at moment) (all_at moment))
     (forward : time ≤ moment) where
   module _ (j : ℕ) (below : j < length run.design.components) where
     abbrev here : NodeState
@@ -119,7 +119,7 @@ module _ (run : Run) (rules : IsRunOf run) (w : World) (time moment : ℕ)
     abbrev k : ℕ
     k = (plan_of run.design j).rate
 
-    abbrev nf : NodeFollows run j here (since_at w j) (ready_at w j) (sendings w j) moment moment moment
+    abbrev nf : NodeOnSchedule run j here (since_at w j) (ready_at w j) (sendings w j) moment moment moment
     nf = follows.nodes j below
 
     rounds_fit : (count : ℕ) → count ≤ run.rounds → count * k ≤ step_count run.design run.rounds j
@@ -133,13 +133,13 @@ module _ (run : Run) (rules : IsRunOf run) (w : World) (time moment : ℕ)
         omega arith
 
     phase_in_time : (q : Phase) → here.phase ≡ q → PhaseAgrees run j (component_at run.design j) here q
-        → IsInTime moment (phase_last run.design.gamma (plan_of run.design j) here (since_at w j) q)
+        → KeepsDeadline moment (phase_last run.design.gamma (plan_of run.design j) here (since_at w j) q)
     phase_in_time Waiting same agrees =
         let some = some_rate run rules j below in
         let skew = rules.design.gamma.skew.0 in
         let few = agrees.1 in
         let begun =
-        subst (λ x. Made (step_time run.design j) (step_count run.design run.rounds j) (begun_by k here.count x)
+        subst (λ x. CountBefore (step_time run.design j) (step_count run.design run.rounds j) (begun_by k here.count x)
         moment) same nf.begun in
         let more : (here.count + 1) * k ≤ step_count run.design run.rounds j =
         rounds_fit (here.count + 1) (omega arith) in
@@ -154,7 +154,7 @@ module _ (run : Run) (rules : IsRunOf run) (w : World) (time moment : ℕ)
         let inside = within_round here.count agrees.under_way.round step agrees.under_way.count agrees.within in
         let all = rounds_fit here.count (rounds_at_most run w rules follows.keeps j below) in
         let ended =
-        subst (λ x. Made (finish_time run.design j) (step_count run.design run.rounds j) (ended_by k here.count x)
+        subst (λ x. CountBefore (finish_time run.design j) (step_count run.design run.rounds j) (ended_by k here.count x)
         moment) same nf.ended in
         let late : moment ≤ finish_time run.design j number = ended.after number (omega arith) (omega arith) in
         let since : since_at w j ≡ step_time run.design j number = nf.since_is step same
@@ -168,7 +168,7 @@ module _ (run : Run) (rules : IsRunOf run) (w : World) (time moment : ℕ)
         let inside = within_round here.count agrees.0.under_way.round steps agrees.0.under_way.count agrees.0.within in
         let all = rounds_fit here.count (rounds_at_most run w rules follows.keeps j below) in
         let begun =
-        subst (λ x. Made (step_time run.design j) (step_count run.design run.rounds j) (begun_by k here.count x)
+        subst (λ x. CountBefore (step_time run.design j) (step_count run.design run.rounds j) (begun_by k here.count x)
         moment) same nf.begun in
         let late : moment ≤ step_time run.design j number = begun.after number (omega arith) (omega arith) in
         let one : step_time run.design j number ≡ alarm run.design.period (here.count - 1) + steps * (plan_of run.design j).step_period = step_is run rules j below (here.count - 1) steps agrees.0.within in
@@ -179,7 +179,7 @@ module _ (run : Run) (rules : IsRunOf run) (w : World) (time moment : ℕ)
     phase_in_time Done same agrees = tt
 
     send_late : may_send (plan_of run.design j) here ≡ true
-        → moment ≤ max (ready_at w j) (last_before (release_alarm (plan_of run.design j) here) run.design.gamma.eps)
+        → moment ≤ max (ready_at w j) (last_before (release_reading (plan_of run.design j) here) run.design.gamma.eps)
     send_late may =
         let skew = rules.design.gamma.skew.0 in
         let m = may_is (plan_of run.design j) here may in
@@ -198,14 +198,14 @@ module _ (run : Run) (rules : IsRunOf run) (w : World) (time moment : ℕ)
         let ready = nf.ready_is may in
         omega arith
 
-    pub node_in_time : IsInTime moment (node_deadline run w j)
+    pub node_in_time : KeepsDeadline moment (node_deadline run w j)
     node_in_time =
         let g = run.design.gamma in
         let plan = plan_of run.design j in
-        subst (IsInTime moment) (sym (deadline_is run w j))
+        subst (KeepsDeadline moment) (sym (deadline_is run w j))
         (both_in_time moment (phase_last g plan here (since_at w j) here.phase) (send_last g plan here (ready_at w j))
         (phase_in_time here.phase refl (phase_agrees run w rules follows.keeps j below))
-        (sends_in_time moment (max (ready_at w j) (last_before (release_alarm plan here) g.eps))
+        (sends_in_time moment (max (ready_at w j) (last_before (release_reading plan here) g.eps))
         (may_send plan here) send_late))
 
   copy_counts : (number place : ℕ) (copy : FlightCopy) → slice_get (flight_at w.bus number) place ≡ Some copy
@@ -256,7 +256,7 @@ module _ (run : Run) (rules : IsRunOf run) (w : World) (time moment : ℕ)
       pass_is_fine run w moment rules.design.gamma.skew.0 (omega arith) shown (λ j below. node_in_time j below)
       message_in_time
 
-  pub pass_follows : Follows run
+  pub pass_follows : IsOnSchedule run
       (world_after run w (event.Pass moment (replicate (length run.design.components) moment))) moment (all_at moment)
       (all_at moment) (all_at moment) (all_at moment)
   pass_follows = record {

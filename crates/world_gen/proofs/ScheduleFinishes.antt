@@ -21,14 +21,14 @@ use Rattle.bus_machine.specs.proof.AgreementLaws.{IsRunOf}
 use Rattle.run_laws.specs.Worlds.{World, since_at, ready_at, sendings, moved, world_after}
 use Rattle.run_laws.specs.EventFaults.{fault_of}
 use Rattle.bus_machine.proofs.AgreementChanges.{node_set, node_stays}
-use Rattle.world_gen.specs.proof.Schedules.{step_time, finish_time, send_time, which, step_count}
-use Rattle.run_laws.proofs.FaultlessEventConditions.{FinishesInTime, finishes_in_time}
+use Rattle.world_gen.specs.proof.Schedules.{step_time, finish_time, send_time, number_at_moment, step_count}
+use Rattle.run_laws.proofs.FaultlessEventConditions.{FaultlessFinish, finishes_in_time}
 use Rattle.world_gen.proofs.FaultlessEvents.{finish_is_fine}
 use Rattle.run_laws.proofs.LocalWorldChanges.{moved_here, moved_other}
 use Rattle.run_laws.proofs.FinishTiming.{Ends, goes_on, holds, waits_next, is_done, not_running}
 use Rattle.run_laws.proofs.FinishTiming as finish
-use Rattle.world_gen.proofs.ScheduleTimes.{Made, which_is, which_next, made_next, step_is, finishes_rise}
-use Rattle.world_gen.proofs.WorldsOnSchedule.{begun_by, ended_by, NodeFollows, Follows, follows_again, follows_put}
+use Rattle.world_gen.proofs.ScheduleTimes.{CountBefore, which_is, which_next, made_next, step_is, finishes_rise}
+use Rattle.world_gen.proofs.WorldsOnSchedule.{begun_by, ended_by, NodeOnSchedule, IsOnSchedule, follows_again, follows_put}
 use Rattle.world_gen.proofs.WorldsOnSchedule.{links_follow}
 
 -- how many steps are begun where a step ends, and how many are finished
@@ -61,9 +61,9 @@ ended_then plan count round step q is below (is_done same last) =
     ap (ended_by plan.rate count) same ∙ full_round count round plan.rate step is below last
 
 module _ (run : Run) (rules : IsRunOf run) (w : World) (moment : ℕ) (fin st se ar : ℕ → ℕ)
-    (follows : Follows run w moment fin st se ar)
+    (follows : IsOnSchedule run w moment fin st se ar)
     (j : ℕ) (within : j < length run.design.components) (number : ℕ)
-    (is : which (finish_time run.design j) (step_count run.design run.rounds j) moment ≡ Some number)
+    (is : number_at_moment (finish_time run.design j) (step_count run.design run.rounds j) moment ≡ Some number)
     (finishes_are : fin j ≡ moment) (room : moment < st j + run.design.gamma.alpha_min) where
   abbrev k : ℕ
   k = (plan_of run.design j).rate
@@ -74,18 +74,18 @@ module _ (run : Run) (rules : IsRunOf run) (w : World) (moment : ℕ) (fin st se
   abbrev here : NodeState
   here = node_at w.bus j
 
-  abbrev nf : NodeFollows run j here (since_at w j) (ready_at w j) (sendings w j) (fin j) (st j) (se j)
+  abbrev nf : NodeOnSchedule run j here (since_at w j) (ready_at w j) (sendings w j) (fin j) (st j) (se j)
   nf = follows.nodes j within
 
   at : (number < step_count run.design run.rounds j) × (finish_time run.design j number ≡ moment)
   at = which_is (finish_time run.design j) (step_count run.design run.rounds j) moment number is
 
   made_at : (q : Phase) → here.phase ≡ q
-      → Made (finish_time run.design j) (step_count run.design run.rounds j) (ended_by k here.count q) moment
+      → CountBefore (finish_time run.design j) (step_count run.design run.rounds j) (ended_by k here.count q) moment
   made_at q same =
-      subst (λ x. Made (finish_time run.design j) (step_count run.design run.rounds j) (ended_by k here.count x)
+      subst (λ x. CountBefore (finish_time run.design j) (step_count run.design run.rounds j) (ended_by k here.count x)
       moment) same
-      (subst (λ b. Made (finish_time run.design j) (step_count run.design run.rounds j)
+      (subst (λ b. CountBefore (finish_time run.design j) (step_count run.design run.rounds j)
       (ended_by k here.count here.phase) b) finishes_are nf.ended)
 
   next_at : (q : Phase) → here.phase ≡ q → number ≡ ended_by k here.count q
@@ -97,8 +97,8 @@ module _ (run : Run) (rules : IsRunOf run) (w : World) (moment : ℕ) (fin st se
   not_begun : (q : Phase) → here.phase ≡ q → begun_by k here.count q ≡ ended_by k here.count q → ⊥
   not_begun q same none_runs =
       let number_is = next_at q same in
-      let begun : Made (step_time run.design j) (step_count run.design run.rounds j) (begun_by k here.count q) (st j) =
-      subst (λ x. Made (step_time run.design j) (step_count run.design run.rounds j) (begun_by k here.count x) (st j))
+      let begun : CountBefore (step_time run.design j) (step_count run.design run.rounds j) (begun_by k here.count q) (st j) =
+      subst (λ x. CountBefore (step_time run.design j) (step_count run.design run.rounds j) (begun_by k here.count x) (st j))
       same nf.begun in
       let waits : st j ≤ step_time run.design j number = begun.after number at.0 (omega arith) in
       let here_at = at.1 in
@@ -106,7 +106,7 @@ module _ (run : Run) (rules : IsRunOf run) (w : World) (moment : ℕ) (fin st se
       omega arith
 
   abbrev pub After : (ℕ → ℕ) → World → Type 0
-  After later v = Follows run v moment later st se ar
+  After later v = IsOnSchedule run v moment later st se ar
 
   module _ (later : ℕ → ℕ) (now : later j ≡ suc moment) (others : (i : ℕ) → i ≢ j → later i ≡ fin i) where
     only : (i : ℕ) → i ≢ j → (later i ≡ fin i) × (st i ≡ st i) × (se i ≡ se i)
@@ -134,7 +134,7 @@ module _ (run : Run) (rules : IsRunOf run) (w : World) (moment : ℕ) (fin st se
           let here_at = at.1 in
           finish_is_fine run w node within (ap (λ q. is_some (running_step q)) runs) (omega arith)
 
-      finishes : FinishesInTime run w node
+      finishes : FaultlessFinish run w node
       finishes = finishes_in_time run w node fine_finish
 
       abbrev ended : NodeState
@@ -185,25 +185,25 @@ module _ (run : Run) (rules : IsRunOf run) (w : World) (moment : ℕ) (fin st se
       ready_by false last may =
           nf.ready_is (finish.may_before run w rules follows.keeps node finishes step runs may last)
 
-      ended_follows : NodeFollows run j ended w.time ready_after (sendings w j) (later j) (st j) (se j)
+      ended_follows : NodeOnSchedule run j ended w.time ready_after (sendings w j) (later j) (st j) (se j)
       ended_follows =
           let sent_is = finish.same_sent run w rules follows.keeps node finishes step runs in
           let suc_number : suc ((here.count - 1) * k + step) ≡ ended_by k ended.count ended.phase = let same =
           ended_is in omega arith in
           record {
             begun =
-                subst (λ m. Made (step_time run.design j) (step_count run.design run.rounds j) m (st j)) (sym begun_is)
-                (subst (λ x. Made (step_time run.design j) (step_count run.design run.rounds j)
+                subst (λ m. CountBefore (step_time run.design j) (step_count run.design run.rounds j) m (st j)) (sym begun_is)
+                (subst (λ x. CountBefore (step_time run.design j) (step_count run.design run.rounds j)
                 (begun_by k here.count x) (st j)) runs nf.begun);
             ended =
-                subst (λ b. Made (finish_time run.design j) (step_count run.design run.rounds j)
+                subst (λ b. CountBefore (finish_time run.design j) (step_count run.design run.rounds j)
                 (ended_by k ended.count ended.phase) b) (sym now)
-                (subst (λ m. Made (finish_time run.design j) (step_count run.design run.rounds j) m
+                (subst (λ m. CountBefore (finish_time run.design j) (step_count run.design run.rounds j) m
                 (suc moment)) suc_number
                 (made_next (finish_time run.design j) (step_count run.design run.rounds j) ((here.count - 1) * k + step)
                 moment (finishes_rise run rules j within)
                 (ap (finish_time run.design j) (sym number_is) ∙ at.1) (made_at (Running step) runs)));
-            sent = subst (λ m. Made (send_time run.design j) run.rounds m (se j)) (sym sent_is) nf.sent;
+            sent = subst (λ m. CountBefore (send_time run.design j) run.rounds m (se j)) (sym sent_is) nf.sent;
             since_is =
                 λ other running. absurd (not_running (plan_of run.design j) step ended.phase other
                 (finish.ends run w rules follows.keeps node finishes step runs) running);

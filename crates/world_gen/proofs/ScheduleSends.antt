@@ -26,18 +26,18 @@ use Rattle.run_laws.specs.Worlds.{World, since_at, ready_at, sendings, moved, is
 use Rattle.run_laws.specs.EventFaults.{fault_of}
 use Rattle.bus_machine.proofs.AgreementChanges.{node_set, node_stays}
 use Rattle.run_laws.specs.proof.WorldInvariant.{copies, one_if}
-use Rattle.world_gen.specs.proof.Schedules.{step_time, finish_time, send_time, arrive_time, which, step_count}
+use Rattle.world_gen.specs.proof.Schedules.{step_time, finish_time, send_time, arrive_time, number_at_moment, step_count}
 use Rattle.run_laws.proofs.Lists.{count_more}
 use Rattle.run_laws.proofs.WorldNodeTiming.{fits_at, may_be, phase_agrees, rounds_at_most}
 use Rattle.run_laws.proofs.WorldLinkTiming.{one_of_true, one_true}
-use Rattle.run_laws.proofs.FaultlessEventConditions.{SendsInTime, sends_in_time}
+use Rattle.run_laws.proofs.FaultlessEventConditions.{FaultlessSend, sends_in_time}
 use Rattle.world_gen.proofs.FaultlessEvents.{send_is_fine}
 use Rattle.run_laws.proofs.LocalWorldChanges.{moved_here, moved_other}
 use Rattle.run_laws.proofs.SendTiming.{runs_before}
 use Rattle.run_laws.proofs.SendTiming as send
-use Rattle.world_gen.proofs.ScheduleTimes.{Made, which_is, which_next, made_next, step_is, sends_rise, send_after}
+use Rattle.world_gen.proofs.ScheduleTimes.{CountBefore, which_is, which_next, made_next, step_is, sends_rise, send_after}
 use Rattle.world_gen.proofs.ScheduleTimes.{some_rate}
-use Rattle.world_gen.proofs.WorldsOnSchedule.{begun_by, ended_by, NodeFollows, LinkFollows, Follows, follows_again}
+use Rattle.world_gen.proofs.WorldsOnSchedule.{begun_by, ended_by, NodeOnSchedule, LinkOnSchedule, IsOnSchedule, follows_again}
 use Rattle.world_gen.proofs.WorldsOnSchedule.{follows_put}
 
 -- a send leaves the steps that are begun and finished
@@ -72,9 +72,9 @@ within_round count round k step is below =
     omega arith
 
 module _ (run : Run) (rules : IsRunOf run) (w : World) (moment : ℕ) (fin st se ar : ℕ → ℕ)
-    (follows : Follows run w moment fin st se ar)
+    (follows : IsOnSchedule run w moment fin st se ar)
     (j : ℕ) (within : j < length run.design.components) (number : ℕ)
-    (is : which (send_time run.design j) run.rounds moment ≡ Some number)
+    (is : number_at_moment (send_time run.design j) run.rounds moment ≡ Some number)
     (sends_are : se j ≡ moment) (starts_are : st j ≡ suc moment) (finishes_are : fin j ≡ suc moment)
     (arrivals_are : (l : ℕ) → ar l ≡ moment) where
   abbrev k : ℕ
@@ -86,14 +86,14 @@ module _ (run : Run) (rules : IsRunOf run) (w : World) (moment : ℕ) (fin st se
   abbrev here : NodeState
   here = node_at w.bus j
 
-  abbrev nf : NodeFollows run j here (since_at w j) (ready_at w j) (sendings w j) (fin j) (st j) (se j)
+  abbrev nf : NodeOnSchedule run j here (since_at w j) (ready_at w j) (sendings w j) (fin j) (st j) (se j)
   nf = follows.nodes j within
 
   at : (number < run.rounds) × (send_time run.design j number ≡ moment)
   at = which_is (send_time run.design j) run.rounds moment number is
 
-  made : Made (send_time run.design j) run.rounds (sent_rounds here) moment
-  made = subst (λ b. Made (send_time run.design j) run.rounds (sent_rounds here) b) sends_are nf.sent
+  made : CountBefore (send_time run.design j) run.rounds (sent_rounds here) moment
+  made = subst (λ b. CountBefore (send_time run.design j) run.rounds (sent_rounds here) b) sends_are nf.sent
 
   next_is : number ≡ sent_rounds here
   next_is =
@@ -160,8 +160,8 @@ module _ (run : Run) (rules : IsRunOf run) (w : World) (moment : ℕ) (fin st se
       ap (alarm run.design.period) last_is in
       let here_at = at.1 in
       let finishes = finishes_are in
-      let ended : Made (finish_time run.design j) (step_count run.design run.rounds j) (ended_by k here.count q) (fin j) =
-      subst (λ x. Made (finish_time run.design j) (step_count run.design run.rounds j) (ended_by k here.count x)
+      let ended : CountBefore (finish_time run.design j) (step_count run.design run.rounds j) (ended_by k here.count q) (fin j) =
+      subst (λ x. CountBefore (finish_time run.design j) (step_count run.design run.rounds j) (ended_by k here.count x)
       (fin j)) same nf.ended in
       elim (cases_lt last (ended_by k here.count q)) [
         | inl done ↦ done
@@ -191,7 +191,7 @@ module _ (run : Run) (rules : IsRunOf run) (w : World) (moment : ℕ) (fin st se
       ap (alarm run.design.period) last_is in
       send_is_fine run w node within (may_by here.phase refl) (omega arith)
 
-  sends : SendsInTime run w node
+  sends : FaultlessSend run w node
   sends = sends_in_time run w node fine_send
 
   abbrev after : NodeState
@@ -204,7 +204,7 @@ module _ (run : Run) (rules : IsRunOf run) (w : World) (moment : ℕ) (fin st se
   all_sent = let counted = (send.begun run w rules follows.keeps node sends).1 in let last = last_is in omega arith
 
   abbrev pub After : (ℕ → ℕ) → World → Type 0
-  After later v = Follows run v moment fin st later ar
+  After later v = IsOnSchedule run v moment fin st later ar
 
   module _ (later : ℕ → ℕ) (now : later j ≡ suc moment) (others : (i : ℕ) → i ≢ j → later i ≡ se i) where
     only : (i : ℕ) → i ≢ j → (fin i ≡ fin i) × (st i ≡ st i) × (later i ≡ se i)
@@ -226,19 +226,19 @@ module _ (run : Run) (rules : IsRunOf run) (w : World) (moment : ℕ) (fin st se
               ∙ follows.time ∙ sym at.1 ∙ ap (send_time run.design j) is_number
         ]
 
-    after_follows : NodeFollows run j after (if is_held here.phase then w.time else since_at w j) (ready_at w j)
+    after_follows : NodeOnSchedule run j after (if is_held here.phase then w.time else since_at w j) (ready_at w j)
         (moments ++ w.time ∷ []) (fin j) (st j) (later j)
     after_follows =
         let one_more : suc (sent_rounds here) ≡ here.count = ap suc (sym next_is) ∙ sym all_sent in
         record {
           begun =
-              subst (λ m. Made (step_time run.design j) (step_count run.design run.rounds j) m (st j))
+              subst (λ m. CountBefore (step_time run.design j) (step_count run.design run.rounds j) m (st j))
               (sym (same_begun k here.count run.rounds here.phase)) nf.begun;
           ended =
-              subst (λ m. Made (finish_time run.design j) (step_count run.design run.rounds j) m (fin j))
+              subst (λ m. CountBefore (finish_time run.design j) (step_count run.design run.rounds j) m (fin j))
               (sym (same_ended k here.count run.rounds here.phase)) nf.ended;
-          sent = subst (λ b. Made (send_time run.design j) run.rounds here.count b) (sym now)
-              (subst (λ m. Made (send_time run.design j) run.rounds m (suc moment)) one_more
+          sent = subst (λ b. CountBefore (send_time run.design j) run.rounds here.count b) (sym now)
+              (subst (λ m. CountBefore (send_time run.design j) run.rounds m (suc moment)) one_more
               (made_next (send_time run.design j) run.rounds (sent_rounds here) moment (sends_rise run rules j within)
               (ap (send_time run.design j) (sym next_is) ∙ at.1) made));
           since_is = λ step running.
@@ -251,7 +251,7 @@ module _ (run : Run) (rules : IsRunOf run) (w : World) (moment : ℕ) (fin st se
 
     -- ---- the links
     link_from : (l : ℕ) → l < length run.design.links → (link_at run.design l).source.0 ≡ j
-        → LinkFollows run l here.count
+        → LinkOnSchedule run l here.count
         (flight_at w.bus l ++ send.new_copy run w rules follows.keeps node sends l (link_at run.design l)
         ∷ []) (ar l)
     link_from l inside from =
@@ -292,7 +292,7 @@ module _ (run : Run) (rules : IsRunOf run) (w : World) (moment : ℕ) (fin st se
         }
 
     each_link : (l : ℕ) → l < length run.design.links
-        → LinkFollows run l (rounds_sent_on run (send.bus_sent run w rules follows.keeps node sends) l)
+        → LinkOnSchedule run l (rounds_sent_on run (send.bus_sent run w rules follows.keeps node sends) l)
         (flight_at (send.bus_sent run w rules follows.keeps node sends) l) (ar l)
     each_link l inside =
         let source = (link_at run.design l).source.0 in
@@ -303,14 +303,14 @@ module _ (run : Run) (rules : IsRunOf run) (w : World) (moment : ℕ) (fin st se
               ap (λ i. sent_rounds (node_at bus i)) from
               ∙ ap (λ (n : NodeState). sent_rounds n)
               (node_set w.bus j after (send.in_bus run w rules follows.keeps node sends)) in
-              subst (λ m. LinkFollows run l m (flight_at bus l) (ar l)) (sym sent)
-              (subst (λ f. LinkFollows run l here.count f (ar l))
+              subst (λ m. LinkOnSchedule run l m (flight_at bus l) (ar l)) (sym sent)
+              (subst (λ f. LinkOnSchedule run l here.count f (ar l))
               (sym (send.flight_here run w rules follows.keeps node sends l inside from)) (link_from l inside from))
           | inr other ↦
               let sent : rounds_sent_on run bus l ≡ rounds_sent_on run w.bus l =
               ap (λ (n : NodeState). sent_rounds n) (node_stays w.bus j source after other) in
-              subst (λ m. LinkFollows run l m (flight_at bus l) (ar l)) (sym sent)
-              (subst (λ f. LinkFollows run l (rounds_sent_on run w.bus l) f (ar l))
+              subst (λ m. LinkOnSchedule run l m (flight_at bus l) (ar l)) (sym sent)
+              (subst (λ f. LinkOnSchedule run l (rounds_sent_on run w.bus l) f (ar l))
               (sym (send.flight_there run w rules follows.keeps node sends l inside other))
               (follows.links l inside))
         ]

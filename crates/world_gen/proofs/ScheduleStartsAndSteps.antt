@@ -24,24 +24,24 @@ use Rattle.bus_machine.specs.proof.AgreementLaws.{IsRunOf}
 use Rattle.run_laws.specs.Worlds.{World, reading_at, since_at, ready_at, sendings, world_after}
 use Rattle.run_laws.specs.EventFaults.{fault_of}
 use Rattle.bus_machine.proofs.AgreementChanges.{node_set, node_stays}
-use Rattle.world_gen.specs.proof.Schedules.{step_time, finish_time, send_time, which, step_count, begins}
+use Rattle.world_gen.specs.proof.Schedules.{step_time, finish_time, send_time, number_at_moment, step_count, begins}
 use Rattle.run_laws.proofs.WorldNodeTiming.{fits_at, phase_agrees, rounds_at_most}
-use Rattle.run_laws.proofs.FaultlessEventConditions.{StartsInTime, starts_in_time, StepsInTime, steps_in_time}
+use Rattle.run_laws.proofs.FaultlessEventConditions.{FaultlessStart, starts_in_time, FaultlessStep, steps_in_time}
 use Rattle.world_gen.proofs.FaultlessEvents.{start_is_fine, step_is_fine}
 use Rattle.run_laws.proofs.StartTiming as start
 use Rattle.run_laws.proofs.StepTiming as on
-use Rattle.world_gen.proofs.ScheduleTimes.{Made, which_is, which_next, made_next, step_is, steps_rise, next_step_after}
+use Rattle.world_gen.proofs.ScheduleTimes.{CountBefore, which_is, which_next, made_next, step_is, steps_rise, next_step_after}
 use Rattle.world_gen.proofs.ScheduleTimes.{send_before, some_rate}
-use Rattle.world_gen.proofs.WorldsOnSchedule.{begun_by, ended_by, NodeFollows, Follows, follows_again, follows_put}
+use Rattle.world_gen.proofs.WorldsOnSchedule.{begun_by, ended_by, NodeOnSchedule, IsOnSchedule, follows_again, follows_put}
 use Rattle.world_gen.proofs.WorldsOnSchedule.{links_follow}
 
 pred_is : (n m : ℕ) → n ≡ suc m → n - 1 ≡ m
 pred_is n m is = omega arith
 
 module _ (run : Run) (rules : IsRunOf run) (w : World) (moment : ℕ) (fin st se ar : ℕ → ℕ)
-    (follows : Follows run w moment fin st se ar)
+    (follows : IsOnSchedule run w moment fin st se ar)
     (j : ℕ) (within : j < length run.design.components) (number : ℕ)
-    (is : which (step_time run.design j) (step_count run.design run.rounds j) moment ≡ Some number)
+    (is : number_at_moment (step_time run.design j) (step_count run.design run.rounds j) moment ≡ Some number)
     (starts_are : st j ≡ moment) (sends_are : se j ≡ moment)
     (gap : moment + run.design.gamma.alpha_min < fin j + (plan_of run.design j).step_period) where
   abbrev k : ℕ
@@ -56,18 +56,18 @@ module _ (run : Run) (rules : IsRunOf run) (w : World) (moment : ℕ) (fin st se
   abbrev here : NodeState
   here = node_at w.bus j
 
-  abbrev nf : NodeFollows run j here (since_at w j) (ready_at w j) (sendings w j) (fin j) (st j) (se j)
+  abbrev nf : NodeOnSchedule run j here (since_at w j) (ready_at w j) (sendings w j) (fin j) (st j) (se j)
   nf = follows.nodes j within
 
   at : (number < step_count run.design run.rounds j) × (step_time run.design j number ≡ moment)
   at = which_is (step_time run.design j) (step_count run.design run.rounds j) moment number is
 
   made_at : (q : Phase) → here.phase ≡ q
-      → Made (step_time run.design j) (step_count run.design run.rounds j) (begun_by k here.count q) moment
+      → CountBefore (step_time run.design j) (step_count run.design run.rounds j) (begun_by k here.count q) moment
   made_at q same =
-      subst (λ x. Made (step_time run.design j) (step_count run.design run.rounds j) (begun_by k here.count x)
+      subst (λ x. CountBefore (step_time run.design j) (step_count run.design run.rounds j) (begun_by k here.count x)
       moment) same
-      (subst (λ b. Made (step_time run.design j) (step_count run.design run.rounds j) (begun_by k here.count here.phase)
+      (subst (λ b. CountBefore (step_time run.design j) (step_count run.design run.rounds j) (begun_by k here.count here.phase)
       b) starts_are nf.begun)
 
   -- it is the next step of the node
@@ -82,7 +82,7 @@ module _ (run : Run) (rules : IsRunOf run) (w : World) (moment : ℕ) (fin st se
 
   -- behind a start or a step
   abbrev pub After : (ℕ → ℕ) → World → Type 0
-  After later v = Follows run v moment fin later se ar
+  After later v = IsOnSchedule run v moment fin later se ar
 
   module _ (later : ℕ → ℕ) (now : later j ≡ suc moment) (others : (i : ℕ) → i ≢ j → later i ≡ st i) where
     only : (i : ℕ) → i ≢ j → (fin i ≡ fin i) × (later i ≡ st i) × (se i ≡ se i)
@@ -120,13 +120,13 @@ module _ (run : Run) (rules : IsRunOf run) (w : World) (moment : ℕ) (fin st se
           let alarm_is = alarm_now in
           start_is_fine run w node within (ap is_waiting waits) (omega arith)
 
-      starts : StartsInTime run w node
+      starts : FaultlessStart run w node
       starts = starts_in_time run w node fine_start
 
       abbrev begun : NodeState
       begun = start.begun run w rules follows.keeps node starts
 
-      begun_follows : NodeFollows run j begun w.time (ready_at w j) (sendings w j) (fin j) (later j) (se j)
+      begun_follows : NodeOnSchedule run j begun w.time (ready_at w j) (sendings w j) (fin j) (later j) (se j)
       begun_follows =
           let counted : here.count + 1 - 1 ≡ here.count = omega arith in
           let product : (here.count + 1 - 1) * k ≡ here.count * k = ap (λ c. c * k) counted in
@@ -136,16 +136,16 @@ module _ (run : Run) (rules : IsRunOf run) (w : World) (moment : ℕ) (fin st se
           let sent_is = start.sent_as_before run w rules follows.keeps node starts in
           record {
             begun =
-                subst (λ b. Made (step_time run.design j) (step_count run.design run.rounds j)
+                subst (λ b. CountBefore (step_time run.design j) (step_count run.design run.rounds j)
                 (begun_by k (here.count + 1) (Running 0)) b) (sym now)
-                (subst (λ m. Made (step_time run.design j) (step_count run.design run.rounds j) m (suc moment)) one_more
+                (subst (λ m. CountBefore (step_time run.design j) (step_count run.design run.rounds j) m (suc moment)) one_more
                 (made_next (step_time run.design j) (step_count run.design run.rounds j) (here.count * k) moment
                 (steps_rise run rules j within)
                 (ap (step_time run.design j) (sym number_is) ∙ at.1) (made_at Waiting waits)));
-            ended = subst (λ m. Made (finish_time run.design j) (step_count run.design run.rounds j) m (fin j)) so_far
-                (subst (λ x. Made (finish_time run.design j) (step_count run.design run.rounds j)
+            ended = subst (λ m. CountBefore (finish_time run.design j) (step_count run.design run.rounds j) m (fin j)) so_far
+                (subst (λ x. CountBefore (finish_time run.design j) (step_count run.design run.rounds j)
                 (ended_by k here.count x) (fin j)) waits nf.ended);
-            sent = subst (λ m. Made (send_time run.design j) run.rounds m (se j)) (sym sent_is) nf.sent;
+            sent = subst (λ m. CountBefore (send_time run.design j) run.rounds m (se j)) (sym sent_is) nf.sent;
             since_is = λ step running. follows.time ∙ sym at.1 ∙ ap (step_time run.design j) (number_is ∙ so_far);
             ready_is =
                 λ may. absurd (start.no_step_is_sent run w rules follows.keeps node starts
@@ -202,26 +202,26 @@ module _ (run : Run) (rules : IsRunOf run) (w : World) (moment : ℕ) (fin st se
           (subst (λ q. step_alarm (plan_of run.design j) here (unwrap_or (next_step q) 0) ≤ reading_at w j)
           (sym between) due)
 
-      steps : StepsInTime run w node
+      steps : FaultlessStep run w node
       steps = steps_in_time run w node fine_step
 
       abbrev next : NodeState
       next = stepped step here
 
-      next_follows : NodeFollows run j next w.time (ready_at w j) (sendings w j) (fin j) (later j) (se j)
+      next_follows : NodeOnSchedule run j next w.time (ready_at w j) (sendings w j) (fin j) (later j) (se j)
       next_follows =
           let one_more : suc ((here.count - 1) * k + step) ≡ begun_by k here.count (Running step) = omega arith in
           let number_is = number_now in
           record {
             begun =
-                subst (λ b. Made (step_time run.design j) (step_count run.design run.rounds j)
+                subst (λ b. CountBefore (step_time run.design j) (step_count run.design run.rounds j)
                 (begun_by k here.count (Running step)) b) (sym now)
-                (subst (λ m. Made (step_time run.design j) (step_count run.design run.rounds j) m (suc moment)) one_more
+                (subst (λ m. CountBefore (step_time run.design j) (step_count run.design run.rounds j) m (suc moment)) one_more
                 (made_next (step_time run.design j) (step_count run.design run.rounds j) ((here.count - 1) * k + step)
                 moment (steps_rise run rules j within)
                 (ap (step_time run.design j) (sym number_is) ∙ at.1) (made_at (Between step) between)));
             ended =
-                subst (λ x. Made (finish_time run.design j) (step_count run.design run.rounds j)
+                subst (λ x. CountBefore (finish_time run.design j) (step_count run.design run.rounds j)
                 (ended_by k here.count x) (fin j)) between nf.ended;
             sent = nf.sent;
             since_is = λ other running. follows.time ∙ sym at.1 ∙ ap (step_time run.design j) number_is;
@@ -258,8 +258,8 @@ module _ (run : Run) (rules : IsRunOf run) (w : World) (moment : ℕ) (fin st se
         let number_is : number ≡ (here.count - 1) * k + step + 1 = next_at (Running step) runs in
         let follows_on : number ≡ suc last = omega arith in
         let below = at.0 in
-        let ended : Made (finish_time run.design j) (step_count run.design run.rounds j) last (fin j) =
-        subst (λ x. Made (finish_time run.design j) (step_count run.design run.rounds j) (ended_by k here.count x)
+        let ended : CountBefore (finish_time run.design j) (step_count run.design run.rounds j) last (fin j) =
+        subst (λ x. CountBefore (finish_time run.design j) (step_count run.design run.rounds j) (ended_by k here.count x)
         (fin j)) runs nf.ended in
         let waits : fin j ≤ finish_time run.design j last = ended.after last (omega arith) (omega arith) in
         let apart : step_time run.design j (suc last) ≡ step_time run.design j last + p =

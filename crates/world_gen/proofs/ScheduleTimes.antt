@@ -12,12 +12,12 @@ use Rattle.bus_machine.specs.Plans.{plan_of, component_at}
 use Rattle.bus_machine.specs.Runs.{Run}
 use Rattle.bus_machine.specs.proof.AgreementLaws.{IsRunOf}
 use Rattle.bus_machine.proofs.ListsAndOldestCopies.{none_found}
-use Rattle.world_gen.specs.proof.Schedules.{step_time, finish_time, send_time, which}
+use Rattle.world_gen.specs.proof.Schedules.{step_time, finish_time, send_time, number_at_moment}
 use Rattle.run_laws.proofs.WorldNodeTiming.{FitsAt, fits_at}
 use Rattle.run_laws.proofs.NodePicks.{component_is}
 
 -- ---- which one
-pub which_is : (time : ℕ → ℕ) (count moment number : ℕ) → which time count moment ≡ Some number
+pub which_is : (time : ℕ → ℕ) (count moment number : ℕ) → number_at_moment time count moment ≡ Some number
     → (number < count) × (time number ≡ moment)
 which_is time count moment number is =
     let found = found_at (λ k. nat_eq (time k) moment) (upwards 0 count) number is in
@@ -25,7 +25,7 @@ which_is time count moment number is =
     let same : found.0 ≡ number = let one = at.0 in omega arith in
     (at.1, eqb-true (time number) moment (ap (λ k. nat_eq (time k) moment) (sym same) ∙ found.2))
 
-pub which_none : (time : ℕ → ℕ) (count moment : ℕ) → which time count moment ≡ None → (number : ℕ) → number < count
+pub which_none : (time : ℕ → ℕ) (count moment : ℕ) → number_at_moment time count moment ≡ None → (number : ℕ) → number < count
     → time number ≡ moment → ⊥
 which_none time count moment none number below is =
     let fails =
@@ -35,14 +35,14 @@ which_none time count moment none number below is =
 
 -- ---- one after another, each later than the one before
 -- how many of them come before a time
-pub record Made (time : ℕ → ℕ) (count made bound : ℕ) : Type 0 where
+pub record CountBefore (time : ℕ → ℕ) (count made bound : ℕ) : Type 0 where
   pub before : (number : ℕ) → number < count → number < made → time number < bound
   pub after : (number : ℕ) → number < count → made ≤ number → bound ≤ time number
 
 -- where none of them comes between two times, the same number comes before both
 pub made_later : (time : ℕ → ℕ) (count made bound later : ℕ) → bound ≤ later
     → ((number : ℕ) → number < count → bound ≤ time number → time number < later → ⊥)
-    → Made time count made bound → Made time count made later
+    → CountBefore time count made bound → CountBefore time count made later
 made_later time count made bound later forward quiet m = record {
   before = λ number below is. let b = m.before number below is in omega arith;
   after =
@@ -51,15 +51,15 @@ made_later time count made bound later forward quiet m = record {
 }
 
 -- at a moment at which none comes
-pub made_none : (time : ℕ → ℕ) (count made moment : ℕ) → which time count moment ≡ None → Made time count made moment
-    → Made time count made (suc moment)
+pub made_none : (time : ℕ → ℕ) (count made moment : ℕ) → number_at_moment time count moment ≡ None → CountBefore time count made moment
+    → CountBefore time count made (suc moment)
 made_none time count made moment none m =
     made_later time count made moment (suc moment) (omega arith)
     (λ number below from to. which_none time count moment none number below (omega arith)) m
 
 -- the one that comes is the next
 pub which_next : (time : ℕ → ℕ) (count made moment number : ℕ) → ((a b : ℕ) → a < b → time a < time b)
-    → which time count moment ≡ Some number → Made time count made moment
+    → number_at_moment time count moment ≡ Some number → CountBefore time count made moment
     → number ≡ made
 which_next time count made moment number rises is m =
     let at = which_is time count moment number is in
@@ -77,7 +77,7 @@ which_next time count made moment number rises is m =
     ]
 
 pub made_next : (time : ℕ → ℕ) (count made moment : ℕ) → ((a b : ℕ) → a < b → time a < time b) → time made ≡ moment
-    → Made time count made moment → Made time count (suc made) (suc moment)
+    → CountBefore time count made moment → CountBefore time count (suc made) (suc moment)
 made_next time count made moment rises now m = record {
   before = λ number below is. elim (cases_order number made) [
     | inl same ↦ let at : time number ≡ time made = ap time same in omega arith
@@ -89,7 +89,7 @@ made_next time count made moment rises now m = record {
   after = λ number below is. let less = rises made number (omega arith) in omega arith;
 }
 
-which_not : (time : ℕ → ℕ) (count moment : ℕ) (o : Option ℕ) → which time count moment ≡ o
+which_not : (time : ℕ → ℕ) (count moment : ℕ) (o : Option ℕ) → number_at_moment time count moment ≡ o
     → ((number : ℕ) → number < count → time number ≡ moment → ⊥) → o ≡ None
 which_not time count moment None is never = refl
 which_not time count moment (Some number) is never = let at = which_is time count moment number is in
@@ -97,10 +97,10 @@ which_not time count moment (Some number) is never = let at = which_is time coun
 
 -- none comes before the next one
 pub which_gap : (time : ℕ → ℕ) (count made bound moment : ℕ) → ((a b : ℕ) → a < b → time a < time b)
-    → Made time count made bound → bound ≤ moment
-    → moment < time made → which time count moment ≡ None
+    → CountBefore time count made bound → bound ≤ moment
+    → moment < time made → number_at_moment time count moment ≡ None
 which_gap time count made bound moment rises m above below =
-    which_not time count moment (which time count moment) refl
+    which_not time count moment (number_at_moment time count moment) refl
     (λ number few now. elim (cases_order number made) [
       | inl same ↦ let at : time number ≡ time made = ap time same in absurd (omega arith)
       | inr apart ↦ elim apart [
@@ -110,10 +110,10 @@ which_gap time count made bound moment rises m above below =
     ])
 
 -- nor where all are made
-pub which_over : (time : ℕ → ℕ) (count made bound moment : ℕ) → Made time count made bound → count ≤ made
-    → bound ≤ moment → which time count moment ≡ None
+pub which_over : (time : ℕ → ℕ) (count made bound moment : ℕ) → CountBefore time count made bound → count ≤ made
+    → bound ≤ moment → number_at_moment time count moment ≡ None
 which_over time count made bound moment m over above =
-    which_not time count moment (which time count moment) refl
+    which_not time count moment (number_at_moment time count moment) refl
     (λ number few now. let early = m.before number few (omega arith) in absurd (omega arith))
 
 -- ---- the times of a run's nodes

@@ -21,14 +21,14 @@ use Rattle.bus_machine.proofs.MessageAndRunAgreement.{node_opens}
 use Rattle.run_laws.specs.Worlds.{World, opening_world, since_at, ready_at, sendings, world_after}
 use Rattle.run_laws.specs.EventLists.{world_left}
 use Rattle.world_gen.specs.proof.ScheduleLaws.{SchedulesAreWhole}
-use Rattle.world_gen.specs.proof.Schedules.{step_time, finish_time, send_time, arrive_time, which, all_of, step_count}
+use Rattle.world_gen.specs.proof.Schedules.{step_time, finish_time, send_time, arrive_time, number_at_moment, all_of, step_count}
 use Rattle.world_gen.specs.proof.Schedules.{begins, starts_at, finishes_at, sends_at, arrivals_at, finishes, events_at}
 use Rattle.world_gen.specs.proof.Schedules.{AreMoments, schedule_at}
 use Rattle.run_laws.proofs.WorldNodeTiming.{phase_agrees, rounds_at_most}
 use Rattle.run_laws.proofs.WorldLinkTiming.{rule_of}
 use Rattle.run_laws.proofs.OpeningWorlds.{opening_keeps_time, not_running}
-use Rattle.world_gen.proofs.ScheduleTimes.{Made, which_none, some_rate, some_step, least_step}
-use Rattle.world_gen.proofs.WorldsOnSchedule.{begun_by, ended_by, NodeFollows, Follows, Runs, runs_none, runs_on}
+use Rattle.world_gen.proofs.ScheduleTimes.{CountBefore, which_none, some_rate, some_step, least_step}
+use Rattle.world_gen.proofs.WorldsOnSchedule.{begun_by, ended_by, NodeOnSchedule, IsOnSchedule, LeadsWithin, runs_none, runs_on}
 use Rattle.world_gen.proofs.WorldsOnSchedule.{runs_all, runs_event, bump, bump_done, bump_left, bump_other}
 use Rattle.world_gen.proofs.QuietTimes.{is_quiet, follows_same, none_starts, none_ends, none_sends, none_arrives}
 use Rattle.world_gen.proofs.ScheduleStartsAndSteps.{start_comes}
@@ -37,8 +37,8 @@ use Rattle.world_gen.proofs.ScheduleSends.{send_comes}
 use Rattle.world_gen.proofs.ScheduleArrivals.{arrival_comes}
 use Rattle.world_gen.proofs.ScheduleDeadlines.{all_at, waits_on, pass_fine, pass_follows}
 
-runs_as : (run : Run) (w : World) (events : List Event) (P Q : World → Type 0) → Runs run w events P
-    → ((v : World) → P v → Q v) → Runs run w events Q
+runs_as : (run : Run) (w : World) (events : List Event) (P Q : World → Type 0) → LeadsWithin run w events P
+    → ((v : World) → P v → Q v) → LeadsWithin run w events Q
 runs_as run w events P Q runs go = record { within = runs.within; leaves = go (world_left run w events) runs.leaves }
 
 module _ (run : Run) (rules : IsRunOf run) (moment : ℕ) where
@@ -50,15 +50,15 @@ module _ (run : Run) (rules : IsRunOf run) (moment : ℕ) where
 
   -- ---- each kind of event
   ends_all : (st se ar : ℕ → ℕ) → ((j : ℕ) → j < many → moment < st j + amin) → (w : World)
-      → Follows run w moment (all_at moment) st se ar
-      → Runs run w (finishes run.design run.rounds moment) (λ v. Follows run v moment (all_at (suc moment)) st se ar)
+      → IsOnSchedule run w moment (all_at moment) st se ar
+      → LeadsWithin run w (finishes run.design run.rounds moment) (λ v. IsOnSchedule run v moment (all_at (suc moment)) st se ar)
   ends_all st se ar room w follows =
-      let P : ℕ → World → Type 0 = λ j v. Follows run v moment (bump moment j) st se ar in
+      let P : ℕ → World → Type 0 = λ j v. IsOnSchedule run v moment (bump moment j) st se ar in
       runs_as run w (finishes run.design run.rounds moment) (P many)
-      (λ v. Follows run v moment (all_at (suc moment)) st se ar)
+      (λ v. IsOnSchedule run v moment (all_at (suc moment)) st se ar)
       (runs_all run many (finishes_at run.design run.rounds moment) P
       (λ j v below before.
-      runs_event run v (which (finish_time run.design j) (step_count run.design run.rounds j) moment)
+      runs_event run v (number_at_moment (finish_time run.design j) (step_count run.design run.rounds j) moment)
       (λ number. event.Finish (record { 0 = j })) (P (suc j))
       (λ none. none_ends run v moment j st se ar before none)
       (λ number is.
@@ -72,16 +72,16 @@ module _ (run : Run) (rules : IsRunOf run) (moment : ℕ) where
 
   starts_all : (fin ar : ℕ → ℕ) → ((j : ℕ) → j < many → moment + amin < fin j + (plan_of run.design j).step_period)
       → (w : World)
-      → Follows run w moment fin (all_at moment) (all_at moment) ar
-      → Runs run w (all_of many (starts_at run.design run.rounds moment))
-      (λ v. Follows run v moment fin (all_at (suc moment)) (all_at moment) ar)
+      → IsOnSchedule run w moment fin (all_at moment) (all_at moment) ar
+      → LeadsWithin run w (all_of many (starts_at run.design run.rounds moment))
+      (λ v. IsOnSchedule run v moment fin (all_at (suc moment)) (all_at moment) ar)
   starts_all fin ar gap w follows =
-      let P : ℕ → World → Type 0 = λ j v. Follows run v moment fin (bump moment j) (all_at moment) ar in
+      let P : ℕ → World → Type 0 = λ j v. IsOnSchedule run v moment fin (bump moment j) (all_at moment) ar in
       runs_as run w (all_of many (starts_at run.design run.rounds moment)) (P many)
-      (λ v. Follows run v moment fin (all_at (suc moment)) (all_at moment) ar)
+      (λ v. IsOnSchedule run v moment fin (all_at (suc moment)) (all_at moment) ar)
       (runs_all run many (starts_at run.design run.rounds moment) P
       (λ j v below before.
-      runs_event run v (which (step_time run.design j) (step_count run.design run.rounds j) moment)
+      runs_event run v (number_at_moment (step_time run.design j) (step_count run.design run.rounds j) moment)
       (begins (plan_of run.design j).rate j) (P (suc j))
       (λ none. none_starts run v moment j fin (all_at moment) ar before none)
       (λ number is.
@@ -93,20 +93,20 @@ module _ (run : Run) (rules : IsRunOf run) (moment : ℕ) where
       (λ v after. follows_same run v moment fin (bump moment many) (all_at moment) ar fin (all_at (suc moment))
       (all_at moment) ar after (λ j below. (refl, bump_done moment many j below, refl)) (λ l below. refl))
 
-  sends_all : (w : World) → Follows run w moment (all_at (suc moment)) (all_at (suc moment)) (all_at moment)
+  sends_all : (w : World) → IsOnSchedule run w moment (all_at (suc moment)) (all_at (suc moment)) (all_at moment)
       (all_at moment)
-      → Runs run w (all_of many (sends_at run.design run.rounds moment))
-      (λ v. Follows run v moment (all_at (suc moment)) (all_at (suc moment)) (all_at (suc moment)) (all_at moment))
+      → LeadsWithin run w (all_of many (sends_at run.design run.rounds moment))
+      (λ v. IsOnSchedule run v moment (all_at (suc moment)) (all_at (suc moment)) (all_at (suc moment)) (all_at moment))
   sends_all w follows =
       let on : ℕ → ℕ = all_at (suc moment) in
       let at : ℕ → ℕ = all_at moment in
       let P : ℕ → World → Type 0 =
-      λ j v. Follows run v moment (all_at (suc moment)) (all_at (suc moment)) (bump moment j) (all_at moment) in
+      λ j v. IsOnSchedule run v moment (all_at (suc moment)) (all_at (suc moment)) (bump moment j) (all_at moment) in
       runs_as run w (all_of many (sends_at run.design run.rounds moment)) (P many)
-      (λ v. Follows run v moment (all_at (suc moment)) (all_at (suc moment)) (all_at (suc moment)) (all_at moment))
+      (λ v. IsOnSchedule run v moment (all_at (suc moment)) (all_at (suc moment)) (all_at (suc moment)) (all_at moment))
       (runs_all run many (sends_at run.design run.rounds moment) P
       (λ j v below before.
-      runs_event run v (which (send_time run.design j) run.rounds moment)
+      runs_event run v (number_at_moment (send_time run.design j) run.rounds moment)
       (λ round. event.Send (record { 0 = j })) (P (suc j))
       (λ none. none_sends run v moment j (all_at (suc moment)) (all_at (suc moment)) (all_at moment) before none)
       (λ number is.
@@ -119,23 +119,23 @@ module _ (run : Run) (rules : IsRunOf run) (moment : ℕ) where
       (λ j below. (refl, refl, bump_done moment many j below)) (λ l below. refl))
 
   arrivals_all : (w : World)
-      → Follows run w moment (all_at (suc moment)) (all_at (suc moment)) (all_at (suc moment)) (all_at moment)
-      → Runs run w (all_of (length run.design.links) (arrivals_at run.design run.rounds moment))
-      (λ v. Follows run v moment (all_at (suc moment)) (all_at (suc moment)) (all_at (suc moment))
+      → IsOnSchedule run w moment (all_at (suc moment)) (all_at (suc moment)) (all_at (suc moment)) (all_at moment)
+      → LeadsWithin run w (all_of (length run.design.links) (arrivals_at run.design run.rounds moment))
+      (λ v. IsOnSchedule run v moment (all_at (suc moment)) (all_at (suc moment)) (all_at (suc moment))
       (all_at (suc moment)))
   arrivals_all w follows =
       let on : ℕ → ℕ = all_at (suc moment) in
       let at : ℕ → ℕ = all_at moment in
       let count = length run.design.links in
       let P : ℕ → World → Type 0 =
-      λ l v. Follows run v moment (all_at (suc moment)) (all_at (suc moment)) (all_at (suc moment))
+      λ l v. IsOnSchedule run v moment (all_at (suc moment)) (all_at (suc moment)) (all_at (suc moment))
       (bump moment l) in
       runs_as run w (all_of count (arrivals_at run.design run.rounds moment)) (P count)
-      (λ v. Follows run v moment (all_at (suc moment)) (all_at (suc moment)) (all_at (suc moment))
+      (λ v. IsOnSchedule run v moment (all_at (suc moment)) (all_at (suc moment)) (all_at (suc moment))
       (all_at (suc moment)))
       (runs_all run count (arrivals_at run.design run.rounds moment) P
       (λ l v below before.
-      runs_event run v (which (arrive_time run.design l) run.rounds moment)
+      runs_event run v (number_at_moment (arrive_time run.design l) run.rounds moment)
       (λ round. event.Arrive (record { 0 = l }) round) (P (suc l))
       (λ none. none_arrives run v moment l rules (all_at (suc moment)) (all_at (suc moment)) (all_at (suc moment))
       before none)
@@ -150,11 +150,11 @@ module _ (run : Run) (rules : IsRunOf run) (moment : ℕ) where
 
   -- ---- a moment
   abbrev At : World → Type 0
-  At w = Follows run w moment (all_at moment) (all_at moment) (all_at moment) (all_at moment)
+  At w = IsOnSchedule run w moment (all_at moment) (all_at moment) (all_at moment) (all_at moment)
 
   abbrev Behind : World → Type 0
   Behind w =
-      Follows run w moment (all_at (suc moment)) (all_at (suc moment)) (all_at (suc moment)) (all_at (suc moment))
+      IsOnSchedule run w moment (all_at (suc moment)) (all_at (suc moment)) (all_at (suc moment)) (all_at (suc moment))
 
   abbrev ends_of : List Event
   ends_of = finishes run.design run.rounds moment
@@ -168,22 +168,22 @@ module _ (run : Run) (rules : IsRunOf run) (moment : ℕ) where
   abbrev arrivals_of : List Event
   arrivals_of = all_of (length run.design.links) (arrivals_at run.design run.rounds moment)
 
-  rest_runs : (w : World) → Follows run w moment (all_at (suc moment)) (all_at (suc moment)) (all_at moment)
-      (all_at moment) → Runs run w (sends_of ++ arrivals_of) Behind
+  rest_runs : (w : World) → IsOnSchedule run w moment (all_at (suc moment)) (all_at (suc moment)) (all_at moment)
+      (all_at moment) → LeadsWithin run w (sends_of ++ arrivals_of) Behind
   rest_runs w follows =
       runs_on run w sends_of arrivals_of
-      (λ v. Follows run v moment (all_at (suc moment)) (all_at (suc moment)) (all_at (suc moment)) (all_at moment))
+      (λ v. IsOnSchedule run v moment (all_at (suc moment)) (all_at (suc moment)) (all_at (suc moment)) (all_at moment))
       Behind (sends_all w follows) arrivals_all
 
   moment_by : (b : Bool) → nat_eq amin 0 ≡ b → (w : World) → At w
-      → Runs run w ((if b then [] else ends_of)
+      → LeadsWithin run w ((if b then [] else ends_of)
       ++ (starts_of ++ ((if b then ends_of else []) ++ (sends_of ++ arrivals_of)))) Behind
   moment_by true is w follows =
       let none : amin ≡ 0 = eqb-true amin 0 is in
       let started : World → Type 0 =
-      λ v. Follows run v moment (all_at moment) (all_at (suc moment)) (all_at moment) (all_at moment) in
+      λ v. IsOnSchedule run v moment (all_at moment) (all_at (suc moment)) (all_at moment) (all_at moment) in
       let ended : World → Type 0 =
-      λ v. Follows run v moment (all_at (suc moment)) (all_at (suc moment)) (all_at moment) (all_at moment) in
+      λ v. IsOnSchedule run v moment (all_at (suc moment)) (all_at (suc moment)) (all_at moment) (all_at moment) in
       runs_on run w starts_of (ends_of ++ (sends_of ++ arrivals_of)) started Behind
       (starts_all (all_at moment) (all_at moment)
       (λ j below. let some = some_step run rules j below in omega arith) w follows)
@@ -192,16 +192,16 @@ module _ (run : Run) (rules : IsRunOf run) (moment : ℕ) where
   moment_by false is w follows =
       let some : amin ≢ 0 = eqb-false amin 0 is in
       let ended : World → Type 0 =
-      λ v. Follows run v moment (all_at (suc moment)) (all_at moment) (all_at moment) (all_at moment) in
+      λ v. IsOnSchedule run v moment (all_at (suc moment)) (all_at moment) (all_at moment) (all_at moment) in
       let started : World → Type 0 =
-      λ v. Follows run v moment (all_at (suc moment)) (all_at (suc moment)) (all_at moment) (all_at moment) in
+      λ v. IsOnSchedule run v moment (all_at (suc moment)) (all_at (suc moment)) (all_at moment) (all_at moment) in
       runs_on run w ends_of (starts_of ++ (sends_of ++ arrivals_of)) ended Behind
       (ends_all (all_at moment) (all_at moment) (all_at moment) (λ j below. omega arith) w follows)
       (λ v after. runs_on run v starts_of (sends_of ++ arrivals_of) started Behind
       (starts_all (all_at (suc moment)) (all_at moment)
       (λ j below. let least = least_step run rules j below in omega arith) v after) rest_runs)
 
-  moment_runs : (w : World) → At w → Runs run w (events_at run.design run.rounds moment) Behind
+  moment_runs : (w : World) → At w → LeadsWithin run w (events_at run.design run.rounds moment) Behind
   moment_runs w follows = moment_by (nat_eq amin 0) refl w follows
 
 -- ---- all moments
@@ -210,7 +210,7 @@ abbrev AreDone : Run → World → Type 0
 AreDone run w = (j : ℕ) → j < length run.design.components → (node_at w.bus j).phase ≡ Done
 
 module _ (run : Run) (rules : IsRunOf run) (w : World) (time from : ℕ)
-    (follows : Follows run w time (all_at from) (all_at from) (all_at from) (all_at from))
+    (follows : IsOnSchedule run w time (all_at from) (all_at from) (all_at from) (all_at from))
     (quiet : (later : ℕ) → from ≤ later → events_at run.design run.rounds later ≡ []) where
   module _ (j : ℕ) (below : j < length run.design.components) where
     abbrev here : NodeState
@@ -219,7 +219,7 @@ module _ (run : Run) (rules : IsRunOf run) (w : World) (time from : ℕ)
     abbrev k : ℕ
     k = (plan_of run.design j).rate
 
-    abbrev nf : NodeFollows run j here (since_at w j) (ready_at w j) (sendings w j) from from from
+    abbrev nf : NodeOnSchedule run j here (since_at w j) (ready_at w j) (sendings w j) from from from
     nf = follows.nodes j below
 
     no_start : (number : ℕ) → number < step_count run.design run.rounds j → from ≤ step_time run.design j number → ⊥
@@ -254,7 +254,7 @@ module _ (run : Run) (rules : IsRunOf run) (w : World) (time from : ℕ)
         let some = some_rate run rules j below in
         let few = agrees.1 in
         let begun =
-        subst (λ x. Made (step_time run.design j) (step_count run.design run.rounds j) (begun_by k here.count x)
+        subst (λ x. CountBefore (step_time run.design j) (step_count run.design run.rounds j) (begun_by k here.count x)
         from) same nf.begun in
         let more : (here.count + 1) * k ≤ run.rounds * k =
         mul-le (here.count + 1) k run.rounds k (omega arith) (omega arith) in
@@ -263,14 +263,14 @@ module _ (run : Run) (rules : IsRunOf run) (w : World) (time from : ℕ)
         let number = (here.count - 1) * k + step in
         let inside = within_rounds agrees.under_way.round step agrees.under_way.count agrees.within in
         let ended =
-        subst (λ x. Made (finish_time run.design j) (step_count run.design run.rounds j) (ended_by k here.count x)
+        subst (λ x. CountBefore (finish_time run.design j) (step_count run.design run.rounds j) (ended_by k here.count x)
         from) same nf.ended in
         absurd (no_end number inside (ended.after number inside (omega arith)))
     done_by (Between steps) same agrees =
         let number = (here.count - 1) * k + steps in
         let inside = within_rounds agrees.0.under_way.round steps agrees.0.under_way.count agrees.0.within in
         let begun =
-        subst (λ x. Made (step_time run.design j) (step_count run.design run.rounds j) (begun_by k here.count x)
+        subst (λ x. CountBefore (step_time run.design j) (step_count run.design run.rounds j) (begun_by k here.count x)
         from) same nf.begun in
         absurd (no_start number inside (begun.after number inside (omega arith)))
     done_by Holding same agrees =
@@ -290,9 +290,9 @@ module _ (run : Run) (rules : IsRunOf run) (w : World) (time from : ℕ)
   all_done j below = is_done j below
 
 moments_run : (run : Run) → IsRunOf run → (moments : List ℕ) (from time : ℕ) (w : World) → time ≤ from
-    → Follows run w time (all_at from) (all_at from) (all_at from) (all_at from)
+    → IsOnSchedule run w time (all_at from) (all_at from) (all_at from) (all_at from)
     → AreMoments run.design run.rounds from moments
-    → Runs run w (schedule_at run.design run.rounds moments) (AreDone run)
+    → LeadsWithin run w (schedule_at run.design run.rounds moments) (AreDone run)
 moments_run run rules [] from time w forward follows quiet =
     runs_none run w (AreDone run) (all_done run rules w time from follows quiet)
 moments_run run rules (moment ∷ later) from time w forward follows order =
@@ -304,9 +304,9 @@ moments_run run rules (moment ∷ later) from time w forward follows order =
     let v = world_after run w (event.Pass moment readings) in
     let one = moment_runs run rules moment v passed in
     let behind : World → Type 0 =
-    λ u. Follows run u moment (all_at (suc moment)) (all_at (suc moment)) (all_at (suc moment))
+    λ u. IsOnSchedule run u moment (all_at (suc moment)) (all_at (suc moment)) (all_at (suc moment))
     (all_at (suc moment)) in
-    let first : Runs run w (event.Pass moment readings ∷ events_at run.design run.rounds moment) behind =
+    let first : LeadsWithin run w (event.Pass moment readings ∷ events_at run.design run.rounds moment) behind =
     record { within = (fine, one.within); leaves = one.leaves } in
     runs_on run w (event.Pass moment readings ∷ events_at run.design run.rounds moment)
     (schedule_at run.design run.rounds later) behind (AreDone run) first
@@ -314,7 +314,7 @@ moments_run run rules (moment ∷ later) from time w forward follows order =
 
 -- ---- the opening
 opening_follows : (run : Run) → IsRunOf run
-    → Follows run (opening_world run) 0 (all_at 0) (all_at 0) (all_at 0) (all_at 0)
+    → IsOnSchedule run (opening_world run) 0 (all_at 0) (all_at 0) (all_at 0) (all_at 0)
 opening_follows run rules =
     let w = opening_world run in
     let cs = run.design.components in
@@ -326,7 +326,7 @@ opening_follows run rules =
           let plan = plan_of run.design j in
           let n = opening_node plan in
           let none : 0 * plan.rate ≡ 0 = omega arith in
-          let follows : NodeFollows run j n 0 0 [] 0 0 0 = record {
+          let follows : NodeOnSchedule run j n 0 0 [] 0 0 0 = record {
             begun = record { before = λ number few is. absurd (omega arith); after = λ number few is. omega arith };
             ended = record { before = λ number few is. absurd (omega arith); after = λ number few is. omega arith };
             sent = record { before = λ number few is. absurd (omega arith); after = λ number few is. omega arith };
@@ -335,10 +335,10 @@ opening_follows run rules =
             moments_are = λ round is. absurd (omega arith);
           } in
           let one =
-          subst (λ (m : NodeState). NodeFollows run j m 0 0 [] 0 0 0) (sym (node_opens run j below)) follows in
+          subst (λ (m : NodeState). NodeOnSchedule run j m 0 0 [] 0 0 0) (sym (node_opens run j below)) follows in
           let two =
-          subst (λ x. NodeFollows run j (node_at w.bus j) x x [] 0 0 0) (sym (get_or-map_constant 0 cs j)) one in
-          subst (λ l. NodeFollows run j (node_at w.bus j) (since_at w j) (ready_at w j) l 0 0 0)
+          subst (λ x. NodeOnSchedule run j (node_at w.bus j) x x [] 0 0 0) (sym (get_or-map_constant 0 cs j)) one in
+          subst (λ l. NodeOnSchedule run j (node_at w.bus j) (since_at w j) (ready_at w j) l 0 0 0)
           (sym (get_or-map_constant {Y = List ℕ} [] cs j)) two;
       links = λ l below.
           let flies : flight_at w.bus l ≡ [] = get_or-map_constant {Y = List FlightCopy} [] run.design.links l in

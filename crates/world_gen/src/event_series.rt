@@ -1,6 +1,6 @@
 //! Event series: what is done over and over in a schedule, at equal distances in time. All times are nanoseconds.
 ghost use Rattle.std.specs.Prelude.{◌≡◌, ◌<◌, IfSome, option_map};
-ghost use Rattle.world_gen.specs.proof.Schedules.{which};
+ghost use Rattle.world_gen.specs.proof.Schedules.{number_at_moment};
 ghost use Rattle.world_gen.specs.proof.EventSeries.{HasSteps, event_of_kind, IsEventSeries, time_of, next_of};
 
 use pals_base::{LinkNo, Nanos, NodeNo};
@@ -44,7 +44,7 @@ impl EventKind {
 /// `every` later than before.
 #[derive(Clone, Copy)]
 pub struct EventSeries {
-    pub deed: EventKind,
+    pub event_kind: EventKind,
     pub first: Nanos,
     pub every: Nanos,
     pub count: u32,
@@ -53,7 +53,7 @@ pub struct EventSeries {
 impl EventSeries {
     // The time of the deed of a number.
     fn time(&self, number: u32) -> Nanos
-        requires course { IsEventSeries self.now }
+        requires series { IsEventSeries self.now }
         requires within { number < self.now.count }
         ensures { result ≡ time_of self.now number }
     {
@@ -85,7 +85,7 @@ impl EventSeries {
     /// The number of the deed of a moment, or none.
     pub fn number_at(&self, moment: Nanos) -> Option<u32>
         requires { IsEventSeries self.now }
-        ensures value { result ≡ which (time_of self.now) self.now.count moment }
+        ensures value { result ≡ number_at_moment (time_of self.now) self.now.count moment }
         ensures within { IfSome result (λ number. number < self.now.count) }
     {
         let number = self.next(moment)?;

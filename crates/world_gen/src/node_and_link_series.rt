@@ -3,8 +3,8 @@ ghost use Rattle.std.specs.Prelude.{◌≡◌, ◌<◌, ◌≤◌, ◌++◌, len
 ghost use Rattle.pals_base.specs.declared.limits.TheConstants.{ROUNDS};
 ghost use Rattle.run_laws.specs.Deadlines.{lesser};
 ghost use Rattle.world_gen.specs.proof.Schedules.{send_time};
-ghost use Rattle.world_gen.specs.proof.EventSeries.{IsEventSeries, begin_course, finish_course, send_course};
-ghost use Rattle.world_gen.specs.proof.EventSeries.{arrive_course, all_begins, all_finishes, all_sends, all_arrivals};
+ghost use Rattle.world_gen.specs.proof.EventSeries.{IsEventSeries, begin_series, finish_series, send_series};
+ghost use Rattle.world_gen.specs.proof.EventSeries.{arrive_series, all_begins, all_finishes, all_sends, all_arrivals};
 ghost use Rattle.world_gen.specs.proof.EventSeries.{timetable, next_moment, events_of};
 
 use crate::event_series::{EventKind, EventSeries};
@@ -15,14 +15,14 @@ use pals_runs::Event;
 use std::alloc::Global;
 
 // The steps of a node, as they begin.
-fn begin_course(design: &Design, rounds: u32, node: NodeNo) -> EventSeries
+fn begin_series(design: &Design, rounds: u32, node: NodeNo) -> EventSeries
     requires few { rounds ≤ ROUNDS }
     requires within { node.0 < length design.now.components }
-    ensures { result ≡ begin_course design.now rounds node.0 }
+    ensures { result ≡ begin_series design.now rounds node.0 }
 {
     let rate = design.parts().rate(node);
     EventSeries {
-        deed: EventKind::Begin { node, rate },
+        event_kind: EventKind::Begin { node, rate },
         first: design.period(),
         every: step_period(design.period(), rate),
         count: rounds * rate,
@@ -30,14 +30,14 @@ fn begin_course(design: &Design, rounds: u32, node: NodeNo) -> EventSeries
 }
 
 // The steps of a node, as they finish.
-fn finish_course(design: &Design, rounds: u32, node: NodeNo) -> EventSeries
+fn finish_series(design: &Design, rounds: u32, node: NodeNo) -> EventSeries
     requires few { rounds ≤ ROUNDS }
     requires within { node.0 < length design.now.components }
-    ensures { result ≡ finish_course design.now rounds node.0 }
+    ensures { result ≡ finish_series design.now rounds node.0 }
 {
     let rate = design.parts().rate(node);
     EventSeries {
-        deed: EventKind::Finish(node),
+        event_kind: EventKind::Finish(node),
         first: design.period() + design.gamma().alpha_min,
         every: step_period(design.period(), rate),
         count: rounds * rate,
@@ -60,12 +60,12 @@ fn first_send(design: &Design, node: NodeNo) -> Nanos
 }
 
 // The rounds that a node sends.
-fn send_course(design: &Design, rounds: u32, node: NodeNo) -> EventSeries
+fn send_series(design: &Design, rounds: u32, node: NodeNo) -> EventSeries
     requires { node.0 < length design.now.components }
-    ensures { result ≡ send_course design.now rounds node.0 }
+    ensures { result ≡ send_series design.now rounds node.0 }
 {
     EventSeries {
-        deed: EventKind::Send(node),
+        event_kind: EventKind::Send(node),
         first: first_send(design, node),
         every: design.period(),
         count: rounds,
@@ -73,13 +73,13 @@ fn send_course(design: &Design, rounds: u32, node: NodeNo) -> EventSeries
 }
 
 // The messages of a link, as they arrive.
-fn arrive_course(design: &Design, rounds: u32, link: LinkNo) -> EventSeries
+fn arrive_series(design: &Design, rounds: u32, link: LinkNo) -> EventSeries
     requires { link.0 < length design.now.links }
-    ensures { result ≡ arrive_course design.now rounds link.0 }
+    ensures { result ≡ arrive_series design.now rounds link.0 }
 {
     let source = design.links()[link.0 as usize].source;
     EventSeries {
-        deed: EventKind::Arrive(link),
+        event_kind: EventKind::Arrive(link),
         first: first_send(design, source) + design.gamma().mu_min,
         every: design.period(),
         count: rounds,
@@ -88,54 +88,54 @@ fn arrive_course(design: &Design, rounds: u32, link: LinkNo) -> EventSeries
 
 #[tactic(auto, using(crate::proofs::TabulatedLists::add_numbered))]
 fn add_begins(
-    courses: &mut Items<EventSeries>,
+    all_series: &mut Items<EventSeries>,
     design: &Design,
     rounds: u32,
 ) -> Result<(), NoMemory>
     requires { rounds ≤ ROUNDS }
-    ensures { OnOk result (courses.new ≡ courses.old ++ all_begins design.now rounds) }
+    ensures { OnOk result (all_series.new ≡ all_series.old ++ all_begins design.now rounds) }
 {
     for node in 0..design.components().len() {
-        courses.push(begin_course(design, rounds, NodeNo(node as u32)))?;
+        all_series.push(begin_series(design, rounds, NodeNo(node as u32)))?;
     }
     Ok(())
 }
 
 #[tactic(auto, using(crate::proofs::TabulatedLists::add_numbered))]
 fn add_finishes(
-    courses: &mut Items<EventSeries>,
+    all_series: &mut Items<EventSeries>,
     design: &Design,
     rounds: u32,
 ) -> Result<(), NoMemory>
     requires { rounds ≤ ROUNDS }
-    ensures { OnOk result (courses.new ≡ courses.old ++ all_finishes design.now rounds) }
+    ensures { OnOk result (all_series.new ≡ all_series.old ++ all_finishes design.now rounds) }
 {
     for node in 0..design.components().len() {
-        courses.push(finish_course(design, rounds, NodeNo(node as u32)))?;
+        all_series.push(finish_series(design, rounds, NodeNo(node as u32)))?;
     }
     Ok(())
 }
 
 #[tactic(auto, using(crate::proofs::TabulatedLists::add_numbered))]
-fn add_sends(courses: &mut Items<EventSeries>, design: &Design, rounds: u32) -> Result<(), NoMemory>
-    ensures { OnOk result (courses.new ≡ courses.old ++ all_sends design.now rounds) }
+fn add_sends(all_series: &mut Items<EventSeries>, design: &Design, rounds: u32) -> Result<(), NoMemory>
+    ensures { OnOk result (all_series.new ≡ all_series.old ++ all_sends design.now rounds) }
 {
     for node in 0..design.components().len() {
-        courses.push(send_course(design, rounds, NodeNo(node as u32)))?;
+        all_series.push(send_series(design, rounds, NodeNo(node as u32)))?;
     }
     Ok(())
 }
 
 #[tactic(auto, using(crate::proofs::TabulatedLists::add_numbered))]
 fn add_arrivals(
-    courses: &mut Items<EventSeries>,
+    all_series: &mut Items<EventSeries>,
     design: &Design,
     rounds: u32,
 ) -> Result<(), NoMemory>
-    ensures { OnOk result (courses.new ≡ courses.old ++ all_arrivals design.now rounds) }
+    ensures { OnOk result (all_series.new ≡ all_series.old ++ all_arrivals design.now rounds) }
 {
     for link in 0..design.links().len() {
-        courses.push(arrive_course(design, rounds, LinkNo(link as u32)))?;
+        all_series.push(arrive_series(design, rounds, LinkNo(link as u32)))?;
     }
     Ok(())
 }
@@ -147,20 +147,20 @@ pub fn timetable(
     rounds: u32,
 ) -> Result<Items<EventSeries>, NoMemory>
     requires { rounds ≤ ROUNDS }
-    ensures { IfOk result (λ courses. courses ≡ timetable design.now rounds) }
+    ensures { IfOk result (λ all_series. all_series ≡ timetable design.now rounds) }
 {
-    let mut courses = Items::new(alloc);
+    let mut all_series = Items::new(alloc);
     let is_instant = design.gamma().alpha_min == 0;
     if !is_instant {
-        add_finishes(&mut courses, design, rounds)?;
+        add_finishes(&mut all_series, design, rounds)?;
     }
-    add_begins(&mut courses, design, rounds)?;
+    add_begins(&mut all_series, design, rounds)?;
     if is_instant {
-        add_finishes(&mut courses, design, rounds)?;
+        add_finishes(&mut all_series, design, rounds)?;
     }
-    add_sends(&mut courses, design, rounds)?;
-    add_arrivals(&mut courses, design, rounds)?;
-    Ok(courses)
+    add_sends(&mut all_series, design, rounds)?;
+    add_arrivals(&mut all_series, design, rounds)?;
+    Ok(all_series)
 }
 
 // Where there are two times, the lesser.
@@ -175,13 +175,13 @@ fn lesser(a: Option<Nanos>, b: Option<Nanos>) -> Option<Nanos>
 }
 
 /// The next moment, from a time on, at which one of the courses goes on, or none.
-pub fn next_moment(courses: &[EventSeries], from: Nanos) -> Option<Nanos>
-    requires { All IsEventSeries courses.now }
-    ensures { result ≡ next_moment courses.now from }
+pub fn next_moment(all_series: &[EventSeries], from: Nanos) -> Option<Nanos>
+    requires { All IsEventSeries all_series.now }
+    ensures { result ≡ next_moment all_series.now from }
 {
     let mut moment = None;
-    for course in courses {
-        moment = lesser(moment, course.next_time(from));
+    for series in all_series {
+        moment = lesser(moment, series.next_time(from));
     }
     moment
 }
@@ -189,15 +189,15 @@ pub fn next_moment(courses: &[EventSeries], from: Nanos) -> Option<Nanos>
 /// Adds what the courses do at a moment.
 pub fn add_events(
     events: &mut Items<Event>,
-    courses: &[EventSeries],
+    all_series: &[EventSeries],
     moment: Nanos,
 ) -> Result<(), NoMemory>
-    requires { All IsEventSeries courses.now }
-    ensures { OnOk result (events.new ≡ events.old ++ events_of courses.now moment) }
+    requires { All IsEventSeries all_series.now }
+    ensures { OnOk result (events.new ≡ events.old ++ events_of all_series.now moment) }
 {
-    for course in courses {
-        if let Some(number) = course.number_at(moment) {
-            events.push(course.deed.event(number))?;
+    for series in all_series {
+        if let Some(number) = series.number_at(moment) {
+            events.push(series.event_kind.event(number))?;
         }
     }
     Ok(())

@@ -27,17 +27,17 @@ fn add_moment(
     alloc: Global,
     events: &mut Items<Event>,
     nodes: usize,
-    courses: &[EventSeries],
+    all_series: &[EventSeries],
     moment: Nanos,
 ) -> Result<(), NoMemory>
-    requires { All IsEventSeries courses.now }
-    ensures { OnOk result (events.new ≡ events.old ++ moment_events nodes courses.now moment) }
+    requires { All IsEventSeries all_series.now }
+    ensures { OnOk result (events.new ≡ events.old ++ moment_events nodes all_series.now moment) }
 {
     events.push(Event::Pass {
         time: moment,
         readings: readings(alloc, nodes, moment)?,
     })?;
-    add_events(events, courses, moment)
+    add_events(events, all_series, moment)
 }
 
 /// The schedule of a design for a number of rounds. It is within the bounds, and leaves all nodes
@@ -49,12 +49,12 @@ pub fn schedule(alloc: Global, design: &Design, rounds: u32) -> Result<Items<Eve
     ensures whole { IfOk result (λ events. (env : Env) → IsWhole (world_run design.now env rounds) events) }
 {
     let timetable = timetable(alloc, design, rounds)?;
-    let courses = timetable.as_slice();
+    let all_series = timetable.as_slice();
     let nodes = design.components().len();
     let mut events = Items::new(alloc);
     let mut from = 0;
-    while let Some(moment) = next_moment(courses, from) {
-        add_moment(alloc, &mut events, nodes, courses, moment)?;
+    while let Some(moment) = next_moment(all_series, from) {
+        add_moment(alloc, &mut events, nodes, all_series, moment)?;
         from = moment + 1;
     }
     Ok(events)

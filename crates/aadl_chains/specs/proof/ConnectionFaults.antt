@@ -6,9 +6,9 @@ use Rattle.aadl_names.specs.declared.fault.PackageFault.{PackageFault}
 use Rattle.aadl_names.specs.declared.fault.PackageFault.TheVariants.{DeadEnd, TwoSources}
 use Rattle.aadl_names.specs.proof.FirstFaultSoFar.{found}
 use Rattle.aadl_names.specs.ReferenceResolution.{implementation_at, connections_of}
-use Rattle.aadl_uses.specs.declared.connections_by_target.Wire.{Wire}
+use Rattle.aadl_uses.specs.declared.connections_by_target.ConnectionPorts.{ConnectionPorts}
 use Rattle.aadl_uses.specs.SecondConnections.{IsDuplicate}
-use Rattle.aadl_uses.specs.Wiring.{wires_at}
+use Rattle.aadl_uses.specs.Wiring.{connection_ports_at}
 use Rattle.aadl_chains.specs.proof.ConnectionsOnChains.{IsOnChain}
 
 -- all that have P are found, in some order, and nothing else
@@ -20,14 +20,14 @@ pub record FindsAll (P : PackageFault → Type 0) (old new : Option PackageFault
 
 -- the connection of a number is on a chain
 abbrev pub IsOnChainAt : PackageTree ℕ → ℕ → ℕ → ℕ → Type 0
-IsOnChainAt tree root n k = (wire : Wire) × (slice_get (wires_at tree n) k ≡ Some wire) × IsOnChain tree root n wire
+IsOnChainAt tree root n k = (wire : ConnectionPorts) × (slice_get (connection_ports_at tree n) k ≡ Some wire) × IsOnChain tree root n wire
 
 -- it is on none, or goes into a port into which one before it goes
 pub record IsFoundAt (tree : PackageTree ℕ) (root n k : ℕ) (fault : PackageFault) : Type 0 where
   pub link : Connection ℕ
   pub is_connection : slice_get (connections_of (implementation_at tree n)) k ≡ Some link
   pub kind : ((IsOnChainAt tree root n k → ⊥) × (fault ≡ DeadEnd link.name.spelling link.name.at))
-      ⊎ (IsDuplicate (wires_at tree n) k × (fault ≡ TwoSources link.name.spelling link.name.at))
+      ⊎ (IsDuplicate (connection_ports_at tree n) k × (fault ≡ TwoSources link.name.spelling link.name.at))
 
 -- at some connection of the declaration
 abbrev pub IsFoundIn : PackageTree ℕ → ℕ → ℕ → PackageFault → Type 0

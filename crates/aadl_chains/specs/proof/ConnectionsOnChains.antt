@@ -1,16 +1,16 @@
 -- A connection that is on a chain, by what its ends lead to.
 use Rattle.std.specs.Prelude.{◌≡◌, ℕ, Some}
 use Rattle.aadl_tree.specs.Declarations.{PackageTree}
-use Rattle.aadl_names.specs.declared.port_place.PortPlace.{PortPlace}
-use Rattle.aadl_uses.specs.declared.connections_by_target.Wire.{Wire}
+use Rattle.aadl_names.specs.declared.port_place.NumberedPort.{NumberedPort}
+use Rattle.aadl_uses.specs.declared.connections_by_target.ConnectionPorts.{ConnectionPorts}
 use Rattle.aadl_chains.specs.proof.PortsJoinedInside.{IsInside}
 use Rattle.aadl_chains.specs.proof.PortsJoinedOutside.{LeadsFrom, IsOutside}
 use Rattle.aadl_chains.specs.declared.chain_connections.JoinedPorts.{JoinedPorts}
 use Rattle.aadl_tree.specs.declared.declarations.Direction.TheVariants as directions
 
-pub record IsOnChain (tree : PackageTree ℕ) (root n : ℕ) (wire : Wire) : Type 0 where
-  pub source : PortPlace
-  pub target : PortPlace
+pub record IsOnChain (tree : PackageTree ℕ) (root n : ℕ) (wire : ConnectionPorts) : Type 0 where
+  pub source : NumberedPort
+  pub target : NumberedPort
   pub source_is : wire.source ≡ Some source
   pub target_is : wire.target ≡ Some target
   pub comes : LeadsFrom tree root directions.In n source

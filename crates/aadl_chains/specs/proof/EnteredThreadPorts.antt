@@ -1,32 +1,32 @@
 -- From which connections a thread's port is entered.
 use Rattle.std.specs.Prelude.{◌≡◌, ℕ, ◌<◌, ◌+◌, List, [], ◌∷◌, ◌++◌, Option, Some, None, slice_get}
 use Rattle.aadl_tree.specs.Declarations.{PackageTree}
-use Rattle.aadl_names.specs.declared.port_place.PortPlace.TheVariants.{Own, Inner}
+use Rattle.aadl_names.specs.declared.port_place.NumberedPort.TheVariants.{Own, Inner}
 use Rattle.aadl_uses.specs.Uses.{below}
-use Rattle.aadl_uses.specs.declared.connections_by_target.Wire.{Wire}
-use Rattle.aadl_uses.specs.Wiring.{wires_at}
+use Rattle.aadl_uses.specs.declared.connections_by_target.ConnectionPorts.{ConnectionPorts}
+use Rattle.aadl_uses.specs.Wiring.{connection_ports_at}
 use Rattle.aadl_uses.specs.proof.IncomingConnections.{first_into_at}
 use Rattle.aadl_chains.specs.proof.PortsJoinedInside.{ReachesIn}
 use Rattle.aadl_chains.specs.Chains.{Port}
-use Rattle.aadl_chains.specs.proof.Walks.{Crossing, at_root, crosses, climb, IsThreadPort}
+use Rattle.aadl_chains.specs.proof.Walks.{Crossing, at_root, crosses, walk_back, IsThreadPort}
 use Rattle.aadl_tree.specs.declared.declarations.Direction.TheVariants as directions
 
 -- connections lead to it from an own in port of the implementation
 abbrev pub ComesFrom : PackageTree ℕ → ℕ → ℕ → Port → Type 0
 ComesFrom tree n q port =
-    IsThreadPort tree n port × ((last : Option ℕ) × (climb tree n None port.path port.port ≡ at_root last q))
+    IsThreadPort tree n port × ((last : Option ℕ) × (walk_back tree n None port.path port.port ≡ at_root last q))
 
 
 -- it is the target of a link below the implementation
 abbrev pub EndsLink : PackageTree ℕ → ℕ → Port → Type 0
 EndsLink tree n port =
     IsThreadPort tree n port
-    × ((c : Crossing) × (climb tree n None port.path port.port ≡ crosses c)
+    × ((c : Crossing) × (walk_back tree n None port.path port.port ≡ crosses c)
     × ReachesIn tree directions.Out c.declaration c.sub c.port)
 
 
 -- it is entered through a connection of the implementation into a subcomponent
-pub record Through (tree : PackageTree ℕ) (n connection : ℕ) (port : Port) : Type 0 where
+pub record IsEnteredThrough (tree : PackageTree ℕ) (n connection : ℕ) (port : Port) : Type 0 where
   pub sub : ℕ
   pub number : ℕ
   pub inner : List ℕ
@@ -38,7 +38,7 @@ pub record Through (tree : PackageTree ℕ) (n connection : ℕ) (port : Port) :
 
 
 -- it is the target of a link below a subcomponent
-pub record Deeper (tree : PackageTree ℕ) (n sub : ℕ) (port : Port) : Type 0 where
+pub record IsLinkBelow (tree : PackageTree ℕ) (n sub : ℕ) (port : Port) : Type 0 where
   pub number : ℕ
   pub inner : List ℕ
   pub path_is : port.path ≡ inner ++ sub ∷ []
@@ -48,13 +48,13 @@ pub record Deeper (tree : PackageTree ℕ) (n sub : ℕ) (port : Port) : Type 0 
 
 -- a connection comes from an own port
 abbrev pub IsFromOwn : PackageTree ℕ → ℕ → ℕ → ℕ → Type 0
-IsFromOwn tree n k q = (wire : Wire) × (slice_get (wires_at tree n) k ≡ Some wire) × (wire.source ≡ Some (Own q))
+IsFromOwn tree n k q = (wire : ConnectionPorts) × (slice_get (connection_ports_at tree n) k ≡ Some wire) × (wire.source ≡ Some (Own q))
 
 
 -- it comes from a port of a subcomponent to which a thread gives
 abbrev pub IsFromThread : PackageTree ℕ → ℕ → ℕ → Type 0
 IsFromThread tree n k =
-    (wire : Wire) × (t q : ℕ) × (slice_get (wires_at tree n) k ≡ Some wire) × (wire.source ≡ Some (Inner t q))
+    (wire : ConnectionPorts) × (t q : ℕ) × (slice_get (connection_ports_at tree n) k ≡ Some wire) × (wire.source ≡ Some (Inner t q))
     × ReachesIn tree directions.Out n t q
 
 
@@ -64,8 +64,8 @@ AmongFirst P i port = (k : ℕ) × (k < i) × P k port
 
 
 abbrev pub FromOwn : PackageTree ℕ → ℕ → ℕ → ℕ → Port → Type 0
-FromOwn tree n q k port = IsFromOwn tree n k q × Through tree n k port
+FromOwn tree n q k port = IsFromOwn tree n k q × IsEnteredThrough tree n k port
 
 
 abbrev pub FromThread : PackageTree ℕ → ℕ → ℕ → Port → Type 0
-FromThread tree n k port = IsFromThread tree n k × Through tree n k port
+FromThread tree n k port = IsFromThread tree n k × IsEnteredThrough tree n k port

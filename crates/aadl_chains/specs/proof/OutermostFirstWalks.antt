@@ -1,16 +1,16 @@
 -- The walk back from a port, on paths with the outermost subcomponent first, as the code makes it.
 use Rattle.std.specs.Prelude.{ℕ, List, take, reverse, Option, Some, None, option_map}
 use Rattle.aadl_tree.specs.Declarations.{PackageTree}
-use Rattle.aadl_names.specs.declared.port_place.PortPlace.TheVariants.{Inner}
+use Rattle.aadl_names.specs.declared.port_place.NumberedPort.TheVariants.{Inner}
 use Rattle.aadl_uses.specs.proof.IncomingConnections.{connection_into}
 use Rattle.aadl_chains.specs.declared.chain_tracing.ChainStart.{ChainStart}
 use Rattle.aadl_chains.specs.declared.chain_tracing.ChainRoute.{ChainRoute}
 use Rattle.aadl_chains.specs.declared.chain_tracing.ConnectionInto.{ConnectionInto}
 use Rattle.aadl_chains.specs.declared.chain_tracing.CrossConnection.{CrossConnection}
-use Rattle.aadl_chains.specs.declared.chain_tracing.ClimbResult.{ClimbResult}
-use Rattle.aadl_chains.specs.proof.Walks.{Crossing, Climb, nowhere, at_root, crosses}
+use Rattle.aadl_chains.specs.declared.chain_tracing.WalkResult.{WalkResult}
+use Rattle.aadl_chains.specs.proof.Walks.{Crossing, WalkEnd, nowhere, at_root, crosses}
 use Rattle.aadl_chains.specs.declared.chain_tracing.ChainStart.TheVariants as begins
-use Rattle.aadl_chains.specs.declared.chain_tracing.ClimbResult.TheVariants as ends
+use Rattle.aadl_chains.specs.declared.chain_tracing.WalkResult.TheVariants as ends
 
 -- the first connection into a port of a subcomponent
 abbrev pub entry : PackageTree ℕ → Option ℕ → ℕ → ℕ → Option ConnectionInto
@@ -29,7 +29,7 @@ crossing path c =
     }
 
 -- where the walk ends
-abbrev pub climbed : List ℕ → ClimbResult → Climb
+abbrev pub climbed : List ℕ → WalkResult → WalkEnd
 climbed path ends.Nowhere = nowhere
 climbed path (ends.Root last port) = at_root last port
 climbed path (ends.Crossing c) = crosses (crossing path c)

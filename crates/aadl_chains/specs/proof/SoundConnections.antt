@@ -2,21 +2,21 @@
 -- into each port, each ends where it may, and threads have none.
 use Rattle.std.specs.Prelude.{◌≡◌, ℕ, true, Some, slice_get}
 use Rattle.aadl_tree.specs.Declarations.{Connection, Implementation, PackageTree}
-use Rattle.aadl_names.specs.declared.port_place.PortPlace.{PortPlace}
-use Rattle.aadl_names.specs.ReferenceResolution.{implementation_at, is_thread, site}
+use Rattle.aadl_names.specs.declared.port_place.NumberedPort.{NumberedPort}
+use Rattle.aadl_names.specs.ReferenceResolution.{implementation_at, is_thread, end_port}
 use Rattle.aadl_uses.specs.Uses.{IsInUse}
 use Rattle.aadl_chains.specs.proof.DeclaredEnds.{MayEnter}
 
-pub record IsSound (tree : PackageTree ℕ) (root : ℕ) : Type 0 where
-  pub one_source : (n i j : ℕ) (component : Implementation ℕ) (x y : Connection ℕ) (target : PortPlace)
+pub record AreFaultless (tree : PackageTree ℕ) (root : ℕ) : Type 0 where
+  pub one_source : (n i j : ℕ) (component : Implementation ℕ) (x y : Connection ℕ) (target : NumberedPort)
       → IsInUse tree root n
       → implementation_at tree n ≡ Some component
       → slice_get component.connections i ≡ Some x → slice_get component.connections j ≡ Some y
-      → site tree component x.target ≡ Some target
-      → site tree component y.target ≡ Some target → i ≡ j
-  pub enters : (n i : ℕ) (component : Implementation ℕ) (x : Connection ℕ) (target : PortPlace)
+      → end_port tree component x.target ≡ Some target
+      → end_port tree component y.target ≡ Some target → i ≡ j
+  pub enters : (n i : ℕ) (component : Implementation ℕ) (x : Connection ℕ) (target : NumberedPort)
       → implementation_at tree n ≡ Some component
       → slice_get component.connections i ≡ Some x
-      → site tree component x.target ≡ Some target → MayEnter tree n target
+      → end_port tree component x.target ≡ Some target → MayEnter tree n target
   pub threads : (n i : ℕ) (component : Implementation ℕ) (x : Connection ℕ) → implementation_at tree n ≡ Some component
       → is_thread component.category ≡ true → slice_get component.connections i ≡ Some x → ⊥

@@ -2,12 +2,12 @@
 -- subcomponents, or the root.
 use Rattle.std.specs.Prelude.{◌≡◌, ℕ, true, List, [], ◌∷◌, Option, Some, None}
 use Rattle.aadl_tree.specs.Declarations.{PackageTree}
-use Rattle.aadl_names.specs.declared.port_place.PortPlace.{PortPlace}
-use Rattle.aadl_names.specs.declared.port_place.PortPlace.TheVariants.{Own, Inner}
-use Rattle.aadl_uses.specs.Uses.{standing, IsInUse}
+use Rattle.aadl_names.specs.declared.port_place.NumberedPort.{NumberedPort}
+use Rattle.aadl_names.specs.declared.port_place.NumberedPort.TheVariants.{Own, Inner}
+use Rattle.aadl_uses.specs.Uses.{number_at_path, IsInUse}
 use Rattle.aadl_uses.specs.ThreadsBelow.{IsThreadAt}
 use Rattle.aadl_uses.specs.SecondConnections.{target_in}
-use Rattle.aadl_uses.specs.Wiring.{wires_at}
+use Rattle.aadl_uses.specs.Wiring.{connection_ports_at}
 use Rattle.aadl_uses.specs.proof.IncomingConnections.{connection_into}
 use Rattle.aadl_chains.specs.Chains.{Port, is_in}
 
@@ -21,33 +21,33 @@ pub record Crossing : Type 0 where
 
 -- where the walk ends: at a port into which no connection goes, at a port of the root, by the last connection that
 -- was passed, or at a crossing
-pub data Climb : Type 0 where
-  nowhere : Climb
-  at_root : Option ℕ → ℕ → Climb
-  crosses : Crossing → Climb
+pub data WalkEnd : Type 0 where
+  nowhere : WalkEnd
+  at_root : Option ℕ → ℕ → WalkEnd
+  crosses : Crossing → WalkEnd
 
-abbrev pub climb_by : (ℕ → ℕ → Climb) → List ℕ → ℕ → ℕ → PortPlace → Climb
-climb_by up path n k (Own q) = up k q
-climb_by up path n k (Inner t p) = crosses (record { path = path; declaration = n; connection = k; sub = t; port = p })
+abbrev pub walk_back_by : (ℕ → ℕ → WalkEnd) → List ℕ → ℕ → ℕ → NumberedPort → WalkEnd
+walk_back_by up path n k (Own q) = up k q
+walk_back_by up path n k (Inner t p) = crosses (record { path = path; declaration = n; connection = k; sub = t; port = p })
 
-abbrev pub climb_along : (ℕ → ℕ → Climb) → List ℕ → ℕ → Option (ℕ × PortPlace) → Climb
-climb_along up path n None = nowhere
-climb_along up path n (Some from) = climb_by up path n from.0 from.1
+abbrev pub walk_back_along : (ℕ → ℕ → WalkEnd) → List ℕ → ℕ → Option (ℕ × NumberedPort) → WalkEnd
+walk_back_along up path n None = nowhere
+walk_back_along up path n (Some from) = walk_back_by up path n from.0 from.1
 
-abbrev pub climb_into : PackageTree ℕ → (ℕ → ℕ → Climb) → List ℕ → ℕ → ℕ → Option ℕ → Climb
-climb_into tree up path s port None = nowhere
-climb_into tree up path s port (Some n) = climb_along up path n (connection_into tree n (Inner s port))
+abbrev pub walk_back_into : PackageTree ℕ → (ℕ → ℕ → WalkEnd) → List ℕ → ℕ → ℕ → Option ℕ → WalkEnd
+walk_back_into tree up path s port None = nowhere
+walk_back_into tree up path s port (Some n) = walk_back_along up path n (connection_into tree n (Inner s port))
 
 -- from a port of the component at a path, the innermost subcomponent first, behind the last connection
-abbrev pub climb : PackageTree ℕ → ℕ → Option ℕ → List ℕ → ℕ → Climb
-climb tree root last [] port = at_root last port
-climb tree root last (s ∷ path) port =
-    climb_into tree (λ k q. climb tree root (Some k) path q) path s port (standing tree root path)
+abbrev pub walk_back : PackageTree ℕ → ℕ → Option ℕ → List ℕ → ℕ → WalkEnd
+walk_back tree root last [] port = at_root last port
+walk_back tree root last (s ∷ path) port =
+    walk_back_into tree (λ k q. walk_back tree root (Some k) path q) path s port (number_at_path tree root path)
 
 -- at most one connection of an implementation in use goes into a port
 abbrev pub OneEach : PackageTree ℕ → ℕ → Type 0
-OneEach tree root = (n i j : ℕ) (target : PortPlace) → IsInUse tree root n → target_in (wires_at tree n) i ≡ Some target
-    → target_in (wires_at tree n) j ≡ Some target → i ≡ j
+OneEach tree root = (n i j : ℕ) (target : NumberedPort) → IsInUse tree root n → target_in (connection_ports_at tree n) i ≡ Some target
+    → target_in (connection_ports_at tree n) j ≡ Some target → i ≡ j
 
 -- an in port of a thread
 abbrev pub IsThreadPort : PackageTree ℕ → ℕ → Port → Type 0

@@ -5,7 +5,7 @@ use Rattle.std.proofs.lemmas.Bool.{eqb-true, or_cases, or_left, or_right}
 use Rattle.aadl_grammar.specs.proof.GrammarSymbols.{Class, Symbol}
 use Rattle.aadl_grammar.specs.proof.ParseTable.{rows, can_omit}
 use Rattle.aadl_grammar.specs.proof.StackMachine.{Stack, class_number}
-use Rattle.aadl_grammar.proofs.DerivationTrees.ForbiddenFollowers.{among, firsts, first_of, nullable, tail, apart}
+use Rattle.aadl_grammar.proofs.DerivationTrees.ForbiddenFollowers.{among, firsts, first_of, nullable, forbidden_after, apart}
 use Rattle.aadl_grammar.proofs.DerivationTrees.ForbiddenFollowers.{covers, settled, omits_settled, settled_omits}
 use Rattle.std.specs.Cmp.{first_so, second_so}
 use Rattle.aadl_grammar.proofs.KeywordListMembership.{not_both}
@@ -52,15 +52,15 @@ covers_means (c ∷ cs) ds e n h = elim (or_cases (n == class_number c) (among n
 -- nothing that may stand behind a symbol of the stack belongs to it
 abbrev pub Clear : Stack → Type 0
 Clear [] = Unit {0}
-Clear (x ∷ below) = Apart (first_of below) (tail x) × Clear below
+Clear (x ∷ below) = Apart (first_of below) (forbidden_after x) × Clear below
 
-omits_by : (b : Bool) (x : Symbol) → b ≡ true → omits_settled b x ≡ true → covers (firsts (rows x)) (tail x) ≡ true
+omits_by : (b : Bool) (x : Symbol) → b ≡ true → omits_settled b x ≡ true → covers (firsts (rows x)) (forbidden_after x) ≡ true
 omits_by true x e h = h
 omits_by false x e h = cc
 
 -- what a symbol that may be left out begins with does not stand behind it
-pub firsts_in_tail : (x : Symbol) → can_omit x ≡ true → Covers (firsts (rows x)) (tail x)
-firsts_in_tail x e = covers_means (firsts (rows x)) (tail x) (omits_by (can_omit x) x e (settled_omits x))
+pub firsts_in_tail : (x : Symbol) → can_omit x ≡ true → Covers (firsts (rows x)) (forbidden_after x)
+firsts_in_tail x e = covers_means (firsts (rows x)) (forbidden_after x) (omits_by (can_omit x) x e (settled_omits x))
 
 -- the first symbols, where more stand behind them
 first_by : (x : Symbol) (f : List Symbol) (below : Stack) (n : ℕ)
@@ -91,10 +91,10 @@ pub clear_behind : (outer : List Class) (f : List Symbol) (below : Stack) → se
     → Apart (first_of below) outer → Clear below → Clear (f ++ below)
 clear_behind outer [] below e h c = c
 clear_behind outer (x ∷ f) below e h c =
-    let rest : ((not (nullable f) || covers (tail x) outer) && settled outer f) ≡ true =
-    second_so (apart (first_of f) (tail x)) _ e in (
-      first_behind f below (tail x) (apart_means (first_of f) (tail x) (first_so _ _ e))
-          (λ null n p q. h n p (covers_means (tail x) outer
-          (covers_if (nullable f) (covers (tail x) outer) (first_so _ _ rest) null) n q)),
-      clear_behind outer f below (second_so (not (nullable f) || covers (tail x) outer) _ rest) h c,
+    let rest : ((not (nullable f) || covers (forbidden_after x) outer) && settled outer f) ≡ true =
+    second_so (apart (first_of f) (forbidden_after x)) _ e in (
+      first_behind f below (forbidden_after x) (apart_means (first_of f) (forbidden_after x) (first_so _ _ e))
+          (λ null n p q. h n p (covers_means (forbidden_after x) outer
+          (covers_if (nullable f) (covers (forbidden_after x) outer) (first_so _ _ rest) null) n q)),
+      clear_behind outer f below (second_so (not (nullable f) || covers (forbidden_after x) outer) _ rest) h c,
     )

@@ -47,74 +47,74 @@ abbrev after_actions : List Class
 after_actions = a_word ∷ the k.If ∷ the k.For ∷ the k.Semicolon ∷ after_expression
 
 -- what may not stand behind a symbol, since it would still belong to it
-unfoldable pub tail : Symbol → List Class
-tail s.name = the k.Scope ∷ []
-tail s.names = the k.Scope ∷ []
-tail s.path = the k.Dot ∷ []
-tail s.paths = the k.Dot ∷ []
-tail s.more_identifiers = the k.Comma ∷ []
-tail s.reference = after_reference
-tail s.dot_identifier = the k.Dot ∷ []
-tail s.unit = a_word ∷ []
-tail s.quantity = a_word ∷ []
-tail s.upper = a_word ∷ the k.Range ∷ []
-tail s.value = after_value
-tail s.values = the k.Comma ∷ firsts (rows s.value) ++ after_value
-tail s.more_values = the k.Comma ∷ after_value
-tail s.constant = the k.Constant ∷ []
-tail s.applies = the k.Applies ∷ the k.Comma ∷ the k.Dot ∷ []
-tail s.more_paths = the k.Comma ∷ the k.Dot ∷ []
-tail s.associations = a_word ∷ []
-tail s.properties = the k.BraceOpen ∷ []
-tail s.primary = the k.Tick ∷ []
-tail s.fresh = the k.Tick ∷ []
-tail s.factor = the k.Tick ∷ []
-tail s.term = after_term
-tail s.factors = after_term
-tail s.sum = after_sum
-tail s.terms = after_sum
-tail s.compared = after_relation
-tail s.relation = after_relation
-tail s.relations = after_expression
-tail s.after_and = after_relation
-tail s.after_or = after_relation
-tail s.expression = after_expression
-tail s.after_target = after_expression
-tail s.action = after_expression
-tail s.actions = after_actions
-tail s.mores = after_actions
-tail s.after_semicolon = after_actions
-tail s.body = after_actions
-tail s.elsifs = the k.Elsif ∷ after_actions
-tail s.otherwise = the k.Else ∷ after_actions
-tail s.variable_list = a_word ∷ []
-tail s.variables = the k.Variables ∷ a_word ∷ []
-tail s.initial = the k.Initial ∷ []
-tail s.complete = the k.Complete ∷ []
-tail s.state_list = a_word ∷ []
-tail s.states = the k.States ∷ a_word ∷ []
-tail s.guard = firsts (rows s.guard) ++ after_expression
-tail s.effect = the k.BraceOpen ∷ []
-tail s.transition_list = a_word ∷ []
-tail s.transitions = the k.Transitions ∷ a_word ∷ []
-tail s.annexes = the k.Annex ∷ []
-tail s.data_type = a_word ∷ after_reference
-tail s.feature_list = a_word ∷ []
-tail s.feature_section = a_word ∷ []
-tail s.features = the k.Features ∷ a_word ∷ []
-tail s.subcomponent_list = a_word ∷ []
-tail s.subcomponent_section = a_word ∷ []
-tail s.subcomponents = the k.Subcomponents ∷ a_word ∷ []
-tail s.connection_end = the k.Dot ∷ []
-tail s.connection_list = a_word ∷ []
-tail s.connection_section = a_word ∷ []
-tail s.connections = the k.Connections ∷ a_word ∷ []
-tail s.property_section = a_word ∷ []
-tail s.own_properties = the k.Properties ∷ a_word ∷ []
-tail s.declarations = firsts (rows s.declarations)
-tail s.more_names = the k.Comma ∷ the k.Scope ∷ []
-tail s.withs = the k.With ∷ []
-tail _ = []
+unfoldable pub forbidden_after : Symbol → List Class
+forbidden_after s.name = the k.Scope ∷ []
+forbidden_after s.names = the k.Scope ∷ []
+forbidden_after s.path = the k.Dot ∷ []
+forbidden_after s.paths = the k.Dot ∷ []
+forbidden_after s.more_identifiers = the k.Comma ∷ []
+forbidden_after s.reference = after_reference
+forbidden_after s.dot_identifier = the k.Dot ∷ []
+forbidden_after s.unit = a_word ∷ []
+forbidden_after s.quantity = a_word ∷ []
+forbidden_after s.upper = a_word ∷ the k.Range ∷ []
+forbidden_after s.value = after_value
+forbidden_after s.values = the k.Comma ∷ firsts (rows s.value) ++ after_value
+forbidden_after s.more_values = the k.Comma ∷ after_value
+forbidden_after s.constant = the k.Constant ∷ []
+forbidden_after s.applies = the k.Applies ∷ the k.Comma ∷ the k.Dot ∷ []
+forbidden_after s.more_paths = the k.Comma ∷ the k.Dot ∷ []
+forbidden_after s.associations = a_word ∷ []
+forbidden_after s.properties = the k.BraceOpen ∷ []
+forbidden_after s.primary = the k.Tick ∷ []
+forbidden_after s.fresh = the k.Tick ∷ []
+forbidden_after s.factor = the k.Tick ∷ []
+forbidden_after s.term = after_term
+forbidden_after s.factors = after_term
+forbidden_after s.sum = after_sum
+forbidden_after s.terms = after_sum
+forbidden_after s.compared = after_relation
+forbidden_after s.relation = after_relation
+forbidden_after s.relations = after_expression
+forbidden_after s.after_and = after_relation
+forbidden_after s.after_or = after_relation
+forbidden_after s.expression = after_expression
+forbidden_after s.after_target = after_expression
+forbidden_after s.action = after_expression
+forbidden_after s.actions = after_actions
+forbidden_after s.mores = after_actions
+forbidden_after s.after_semicolon = after_actions
+forbidden_after s.body = after_actions
+forbidden_after s.elsifs = the k.Elsif ∷ after_actions
+forbidden_after s.otherwise = the k.Else ∷ after_actions
+forbidden_after s.variable_list = a_word ∷ []
+forbidden_after s.variables = the k.Variables ∷ a_word ∷ []
+forbidden_after s.initial = the k.Initial ∷ []
+forbidden_after s.complete = the k.Complete ∷ []
+forbidden_after s.state_list = a_word ∷ []
+forbidden_after s.states = the k.States ∷ a_word ∷ []
+forbidden_after s.guard = firsts (rows s.guard) ++ after_expression
+forbidden_after s.effect = the k.BraceOpen ∷ []
+forbidden_after s.transition_list = a_word ∷ []
+forbidden_after s.transitions = the k.Transitions ∷ a_word ∷ []
+forbidden_after s.annexes = the k.Annex ∷ []
+forbidden_after s.data_type = a_word ∷ after_reference
+forbidden_after s.feature_list = a_word ∷ []
+forbidden_after s.feature_section = a_word ∷ []
+forbidden_after s.features = the k.Features ∷ a_word ∷ []
+forbidden_after s.subcomponent_list = a_word ∷ []
+forbidden_after s.subcomponent_section = a_word ∷ []
+forbidden_after s.subcomponents = the k.Subcomponents ∷ a_word ∷ []
+forbidden_after s.connection_end = the k.Dot ∷ []
+forbidden_after s.connection_list = a_word ∷ []
+forbidden_after s.connection_section = a_word ∷ []
+forbidden_after s.connections = the k.Connections ∷ a_word ∷ []
+forbidden_after s.property_section = a_word ∷ []
+forbidden_after s.own_properties = the k.Properties ∷ a_word ∷ []
+forbidden_after s.declarations = firsts (rows s.declarations)
+forbidden_after s.more_names = the k.Comma ∷ the k.Scope ∷ []
+forbidden_after s.withs = the k.With ∷ []
+forbidden_after _ = []
 
 -- no class is in both lists
 abbrev pub apart : List Class → List Class → Bool
@@ -134,7 +134,7 @@ distinct (c ∷ cs) = not (among (class_number c) cs) && distinct cs
 -- stand behind all of them.
 abbrev pub settled : List Class → List Symbol → Bool
 settled outer [] = true
-settled outer (x ∷ f) = apart (first_of f) (tail x) && ((not (nullable f) || covers (tail x) outer) && settled outer f)
+settled outer (x ∷ f) = apart (first_of f) (forbidden_after x) && ((not (nullable f) || covers (forbidden_after x) outer) && settled outer f)
 
 abbrev pub rows_settled : List Class → List Row → Bool
 rows_settled outer [] = true
@@ -142,18 +142,18 @@ rows_settled outer (r ∷ rs) = settled outer r.wanted && rows_settled outer rs
 
 abbrev pub omits_settled : Bool → Symbol → Bool
 omits_settled false x = true
-omits_settled true x = covers (firsts (rows x)) (tail x)
+omits_settled true x = covers (firsts (rows x)) (forbidden_after x)
 
 pub distinct_firsts : (x : Symbol) → distinct (firsts (rows x)) ≡ true
 distinct_firsts s.identifier = refl
 distinct_firsts _ = refl
 
-pub settled_rows : (x : Symbol) → rows_settled (tail x) (rows x) ≡ true
-unfolding tail
+pub settled_rows : (x : Symbol) → rows_settled (forbidden_after x) (rows x) ≡ true
+unfolding forbidden_after
 settled_rows s.identifier = refl
 settled_rows _ = refl
 
 pub settled_omits : (x : Symbol) → omits_settled (can_omit x) x ≡ true
-unfolding tail
+unfolding forbidden_after
 settled_omits s.identifier = refl
 settled_omits _ = refl

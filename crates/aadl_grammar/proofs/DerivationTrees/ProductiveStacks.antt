@@ -2,7 +2,7 @@
 use Rattle.std.proofs.Common.{◌≡◌, ℕ, zero, suc, Bool, true, false, cond, subst, refl, List, [], ◌∷◌, ◌++◌, Option}
 use Rattle.std.proofs.Common.{Some, None, append_assoc, is_some, inl, pos}
 use Rattle.std.proofs.lemmas.Option.{same_Some}
-use Rattle.aadl_tree.specs.Terminals.{Kind}
+use Rattle.aadl_tree.specs.Terminals.{PlainTerminal}
 use Rattle.aadl_grammar.specs.proof.GrammarSymbols.{Class, a_word, a_whole, a_real, a_quoted, an_unread, the, Symbol}
 use Rattle.aadl_grammar.specs.proof.GrammarSymbols.{Row}
 use Rattle.aadl_grammar.specs.proof.GrammarSymbols as s
@@ -20,46 +20,46 @@ sample a_quoted = []
 sample an_unread = []
 sample (the m) = tt
 
-abbrev with_first : Kind → Option (List Kind) → Option (List Kind)
+abbrev with_first : PlainTerminal → Option (List PlainTerminal) → Option (List PlainTerminal)
 with_first kind None = None
 with_first kind (Some ks) = Some (kind ∷ ks)
 
-abbrev by_first : List Row → (Stack → Option (List Kind)) → Stack → Option (List Kind)
+abbrev by_first : List Row → (Stack → Option (List PlainTerminal)) → Stack → Option (List PlainTerminal)
 by_first [] later below = None
 by_first (r ∷ rs) later below = with_first (kind_with r.first (sample r.first)) (later (r.wanted ++ below))
 
 -- a text, by the first row of each symbol that cannot be left out, in n steps at most
-abbrev text : ℕ → Stack → Option (List Kind)
+abbrev text : ℕ → Stack → Option (List PlainTerminal)
 text zero wanted = None
 text (suc n) [] = Some []
 text (suc n) (x ∷ below) = cond (can_omit x) (text n below) (by_first (rows x) (text n) below)
 
-with_derives : (x : Symbol) (below : Stack) (r : Row) (o : Option (List Kind)) (ks : List Kind) → Member r (rows x)
-    → ((more : List Kind) → o ≡ Some more → Derives (r.wanted ++ below) more)
+with_derives : (x : Symbol) (below : Stack) (r : Row) (o : Option (List PlainTerminal)) (ks : List PlainTerminal) → Member r (rows x)
+    → ((more : List PlainTerminal) → o ≡ Some more → Derives (r.wanted ++ below) more)
     → with_first (kind_with r.first (sample r.first)) o ≡ Some ks → Derives (x ∷ below) ks
 with_derives x below r None ks m h e = absurd cc
 with_derives x below r (Some more) ks m h e =
-    subst (λ (l : List Kind). Derives (x ∷ below) l) (same_Some _ ks e)
+    subst (λ (l : List PlainTerminal). Derives (x ∷ below) l) (same_Some _ ks e)
     (take x below r (kind_with r.first (sample r.first)) more m (fits_with r.first (sample r.first)) (h more refl))
 
-first_derives : (x : Symbol) (below : Stack) (rs : List Row) (later : Stack → Option (List Kind)) (ks : List Kind)
+first_derives : (x : Symbol) (below : Stack) (rs : List Row) (later : Stack → Option (List PlainTerminal)) (ks : List PlainTerminal)
     → ((r : Row) → Member r rs → Member r (rows x))
-    → ((wanted : Stack) (more : List Kind) → later wanted ≡ Some more → Derives wanted more)
+    → ((wanted : Stack) (more : List PlainTerminal) → later wanted ≡ Some more → Derives wanted more)
     → by_first rs later below ≡ Some ks → Derives (x ∷ below) ks
 first_derives x below [] later ks m h e = absurd cc
 first_derives x below (r ∷ rs) later ks m h e =
     with_derives x below r (later (r.wanted ++ below)) ks (m r (inl refl)) (λ more g. h (r.wanted ++ below) more g) e
 
-omit_derives : (x : Symbol) (below : Stack) (n : ℕ) (ks : List Kind)
-    → ((wanted : Stack) (more : List Kind) → text n wanted ≡ Some more → Derives wanted more)
+omit_derives : (x : Symbol) (below : Stack) (n : ℕ) (ks : List PlainTerminal)
+    → ((wanted : Stack) (more : List PlainTerminal) → text n wanted ≡ Some more → Derives wanted more)
     → (b : Bool) → can_omit x ≡ b → cond b (text n below) (by_first (rows x) (text n) below) ≡ Some ks
     → Derives (x ∷ below) ks
 omit_derives x below n ks h true o e = omit x below ks o (h below ks e)
 omit_derives x below n ks h false o e = first_derives x below (rows x) (text n) ks (λ r m. m) h e
 
-text_derives : (n : ℕ) (wanted : Stack) (ks : List Kind) → text n wanted ≡ Some ks → Derives wanted ks
+text_derives : (n : ℕ) (wanted : Stack) (ks : List PlainTerminal) → text n wanted ≡ Some ks → Derives wanted ks
 text_derives zero wanted ks e = absurd cc
-text_derives (suc n) [] ks e = subst (λ (l : List Kind). Derives [] l) (same_Some [] ks e) nothing
+text_derives (suc n) [] ks e = subst (λ (l : List PlainTerminal). Derives [] l) (same_Some [] ks e) nothing
 text_derives (suc n) (x ∷ below) ks e =
     omit_derives x below n ks (λ wanted more h. text_derives n wanted more h) (can_omit x) refl e
 
@@ -68,14 +68,14 @@ has_text s.identifier = refl
 has_text _ = refl
 
 pub record Text (wanted : Stack) : Type 0 where
-  pub kinds : List Kind
+  pub kinds : List PlainTerminal
   pub derived : Derives wanted kinds
 
-text_of : (wanted : Stack) (o : Option (List Kind)) → text 40 wanted ≡ o → is_some o ≡ true → Text wanted
+text_of : (wanted : Stack) (o : Option (List PlainTerminal)) → text 40 wanted ≡ o → is_some o ≡ true → Text wanted
 text_of wanted None e h = absurd cc
 text_of wanted (Some ks) e h = record { kinds = ks; derived = text_derives 40 wanted ks e }
 
-derives_both : (a b : Stack) (ks ls : List Kind) → Derives a ks → Derives b ls → Derives (a ++ b) (ks ++ ls)
+derives_both : (a b : Stack) (ks ls : List PlainTerminal) → Derives a ks → Derives b ls → Derives (a ++ b) (ks ++ ls)
 derives_both [] b ks ls nothing e = e
 derives_both (x ∷ a) b ks ls (take _ _ r kind more m h d) e =
     take x (a ++ b) r kind (more ++ ls) m h

@@ -4,7 +4,7 @@ use Rattle.std.specs.Prelude.{nat_lt}
 use Rattle.std.proofs.lemmas.Bool.{eqb-true, ltb-true}
 use Rattle.aadl_tree.specs.declared.mark.Mark.{Mark}
 use Rattle.aadl_tree.specs.declared.mark.Mark.TheVariants as k
-use Rattle.aadl_tree.specs.Terminals.{Kind, word, whole, real, quoted, unread, mark, other}
+use Rattle.aadl_tree.specs.Terminals.{PlainTerminal, word, whole, real, quoted, unread, mark, other}
 use Rattle.aadl_grammar.specs.proof.GrammarSymbols.{Class, a_word, a_whole, a_real, a_quoted, an_unread, the}
 use Rattle.aadl_tree.specs.proof.MarkNumbers.{mark_number}
 use Rattle.aadl_tree.proofs.MarkNumbers.{same_number}
@@ -18,11 +18,11 @@ small _ = refl
 no_mark : (m : Mark) (n : ℕ) → 100 ≤ n → n ≡ mark_number m → ⊥
 no_mark m n h e = let l = ltb-true (mark_number m) 100 (small m) in absurd (omega arith)
 
-pub record Said (c : Class) (kind : Kind) : Type 0 where
+pub record HasContent (c : Class) (kind : PlainTerminal) : Type 0 where
   pub content : Content c
   pub whole : kind ≡ kind_with c content
 
-said_by : (c : Class) (kind : Kind) → kind_number kind ≡ class_number c → Said c kind
+said_by : (c : Class) (kind : PlainTerminal) → kind_number kind ≡ class_number c → HasContent c kind
 said_by a_word (word w) e = record { content = w; whole = refl }
 said_by a_whole (whole w) e = record { content = w; whole = refl }
 said_by a_real (real w) e = record { content = w; whole = refl }
@@ -46,7 +46,7 @@ said_by a_real _ e = absurd (omega (arith, e))
 said_by a_quoted _ e = absurd (omega (arith, e))
 said_by an_unread _ e = absurd (omega (arith, e))
 
-pub said : (c : Class) (kind : Kind) → fits c kind ≡ true → Said c kind
+pub said : (c : Class) (kind : PlainTerminal) → fits c kind ≡ true → HasContent c kind
 said c kind e = said_by c kind (eqb-true (kind_number kind) (class_number c) e)
 
 pub number_of : (c : Class) (w : Content c) → kind_number (kind_with c w) ≡ class_number c

@@ -1,32 +1,32 @@
 -- What a production, which is a row of the parse table, builds of its terminal and of the trees behind it. So a tree
 -- that terminals spell is known by how it begins.
 use Rattle.std.proofs.Common.{◌≡◌, ◌⊎◌, ◌∙◌, sym, ap, ap₂, subst, refl, List, [], ◌∷◌, ◌++◌, inl, inr}
-use Rattle.aadl_tree.specs.Terminals.{Kind}
-use Rattle.aadl_tree.specs.SpellingParts.{Part, Spells}
+use Rattle.aadl_tree.specs.Terminals.{PlainTerminal}
+use Rattle.aadl_tree.specs.SpellingParts.{SpellingPart, Spells}
 use Rattle.aadl_tree.proofs.ConcatenatedSpellings.{spells_append, spells_split}
 use Rattle.aadl_grammar.specs.proof.GrammarSymbols.{Symbol, Row}
 use Rattle.aadl_grammar.specs.proof.ParseTable.{behind, rows}
-use Rattle.aadl_grammar.specs.proof.SymbolTrees.{U, Content, kind_with, TreeOf, parts, Trees, parts_all}
+use Rattle.aadl_grammar.specs.proof.SymbolTrees.{NoPlace, Content, kind_with, TreeOf, parts, Trees, parts_all}
 
-pub record Split (ps qs : List (Part U)) (ks rest : List Kind) : Type 0 where
-  pub mid : List Kind
+pub record Split (ps qs : List (SpellingPart NoPlace)) (ks rest : List PlainTerminal) : Type 0 where
+  pub mid : List PlainTerminal
   pub before : Spells ps ks mid
   pub behind : Spells qs mid rest
 
-pub split : (ps qs : List (Part U)) (ks rest : List Kind) → Spells (ps ++ qs) ks rest → Split ps qs ks rest
+pub split : (ps qs : List (SpellingPart NoPlace)) (ks rest : List PlainTerminal) → Spells (ps ++ qs) ks rest → Split ps qs ks rest
 split ps qs ks rest sp = let r = spells_split ps qs ks rest sp in record { mid = r.0; before = r.1; behind = r.2 }
 
-pub respell : (ps qs : List (Part U)) (ks rest : List Kind) → ps ≡ qs → Spells ps ks rest → Spells qs ks rest
-respell ps qs ks rest e sp = subst (λ (l : List (Part U)). Spells l ks rest) e sp
+pub respell : (ps qs : List (SpellingPart NoPlace)) (ks rest : List PlainTerminal) → ps ≡ qs → Spells ps ks rest → Spells qs ks rest
+respell ps qs ks rest e sp = subst (λ (l : List (SpellingPart NoPlace)). Spells l ks rest) e sp
 
-pub split_first : (y : Symbol) (f : List Symbol) (ts : Trees (y ∷ f)) (ks rest : List Kind)
+pub split_first : (y : Symbol) (f : List Symbol) (ts : Trees (y ∷ f)) (ks rest : List PlainTerminal)
     → Spells (parts_all (y ∷ f) ts) ks rest → Split (parts y ts.0) (parts_all f ts.1) ks rest
 split_first y [] ts ks rest sp = record { mid = rest; before = sp; behind = refl }
 split_first y (z ∷ f) ts ks rest sp = split (parts y ts.0) (parts_all (z ∷ f) ts.1) ks rest sp
 
-pub follow_first : (y : Symbol) (f : List Symbol) (ts : Trees (y ∷ f)) (ks mid rest : List Kind)
+pub follow_first : (y : Symbol) (f : List Symbol) (ts : Trees (y ∷ f)) (ks mid rest : List PlainTerminal)
     → Spells (parts y ts.0) ks mid → Spells (parts_all f ts.1) mid rest → Spells (parts_all (y ∷ f) ts) ks rest
-follow_first y [] ts ks mid rest b e = subst (λ (l : List Kind). Spells (parts y ts.0) ks l) e b
+follow_first y [] ts ks mid rest b e = subst (λ (l : List PlainTerminal). Spells (parts y ts.0) ks l) e b
 follow_first y (z ∷ f) ts ks mid rest b sp = spells_append (parts y ts.0) (parts_all (z ∷ f) ts.1) ks mid rest b sp
 
 abbrev pub front : (f more : List Symbol) → Trees (f ++ more) → Trees f
@@ -50,7 +50,7 @@ pub back_joined : (f more : List Symbol) (us : Trees f) (ts : Trees more) → ba
 back_joined [] more us ts = refl
 back_joined (y ∷ f) more us ts = back_joined f more us.1 ts
 
-pub split_all : (f more : List Symbol) (ts : Trees (f ++ more)) (ks rest : List Kind)
+pub split_all : (f more : List Symbol) (ts : Trees (f ++ more)) (ks rest : List PlainTerminal)
     → Spells (parts_all (f ++ more) ts) ks rest
     → Split (parts_all f (front f more ts)) (parts_all more (back f more ts)) ks rest
 split_all [] more ts ks rest sp = record { mid = ks; before = refl; behind = sp }
@@ -63,10 +63,10 @@ split_all (y ∷ f) more ts ks rest sp =
       behind = q.behind;
     }
 
-pub follow_all : (f more : List Symbol) (us : Trees f) (ts : Trees more) (ks mid rest : List Kind)
+pub follow_all : (f more : List Symbol) (us : Trees f) (ts : Trees more) (ks mid rest : List PlainTerminal)
     → Spells (parts_all f us) ks mid → Spells (parts_all more ts) mid rest
     → Spells (parts_all (f ++ more) (joined f more us ts)) ks rest
-follow_all [] more us ts ks mid rest e sp = subst (λ (l : List Kind). Spells (parts_all more ts) l rest) (sym e) sp
+follow_all [] more us ts ks mid rest e sp = subst (λ (l : List PlainTerminal). Spells (parts_all more ts) l rest) (sym e) sp
 follow_all (y ∷ f) more us ts ks mid rest b sp =
     let r = split_first y f us ks mid b in
     follow_first y (f ++ more) (joined (y ∷ f) more us ts) ks r.mid rest r.before
@@ -77,47 +77,47 @@ abbrev pub Builder : Symbol → Row → Type 0
 Builder y r = Content r.first → Trees r.wanted → TreeOf y
 
 abbrev pub Builders : Symbol → List Row → Type 0
-Builders y [] = U
+Builders y [] = NoPlace
 Builders y (r ∷ rs) = Builder y r × Builders y rs
 
 -- it is spelled by the terminal and by what spells those trees
 abbrev pub Gives : (y : Symbol) (r : Row) → Builder y r → Type 0
 Gives y r b =
-    (w : Content r.first) (ts : Trees r.wanted) (ks rest : List Kind) → Spells (parts_all r.wanted ts) ks rest
+    (w : Content r.first) (ts : Trees r.wanted) (ks rest : List PlainTerminal) → Spells (parts_all r.wanted ts) ks rest
     → Spells (parts y (b w ts)) (kind_with r.first w ∷ ks) rest
 
 abbrev pub AllGive : (y : Symbol) (rs : List Row) → Builders y rs → Type 0
-AllGive y [] bs = U
+AllGive y [] bs = NoPlace
 AllGive y (r ∷ rs) bs = Gives y r bs.0 × AllGive y rs bs.1
 
 -- a spelled tree is what a row makes
-pub record Uses (y : Symbol) (r : Row) (b : Builder y r) (t : TreeOf y) (ks rest : List Kind) : Type 0 where
+pub record Uses (y : Symbol) (r : Row) (b : Builder y r) (t : TreeOf y) (ks rest : List PlainTerminal) : Type 0 where
   pub content : Content r.first
   pub trees : Trees r.wanted
-  pub more : List Kind
+  pub more : List PlainTerminal
   pub made : t ≡ b content trees
   pub whole : ks ≡ kind_with r.first content ∷ more
   pub spelled : Spells (parts_all r.wanted trees) more rest
 
-pub uses : {y : Symbol} {r : Row} {b : Builder y r} {ks rest : List Kind} (content : Content r.first)
-    (trees : Trees r.wanted) (more : List Kind) → ks ≡ kind_with r.first content ∷ more
+pub uses : {y : Symbol} {r : Row} {b : Builder y r} {ks rest : List PlainTerminal} (content : Content r.first)
+    (trees : Trees r.wanted) (more : List PlainTerminal) → ks ≡ kind_with r.first content ∷ more
     → Spells (parts_all r.wanted trees) more rest
     → Uses y r b (b content trees) ks rest
 uses content trees more whole spelled =
     record { content = content; trees = trees; more = more; made = refl; whole = whole; spelled = spelled }
 
-abbrev pub InRows : (y : Symbol) (rs : List Row) → Builders y rs → TreeOf y → List Kind → List Kind → Type 0
+abbrev pub InRows : (y : Symbol) (rs : List Row) → Builders y rs → TreeOf y → List PlainTerminal → List PlainTerminal → Type 0
 InRows y [] bs t ks rest = ⊥
 InRows y (r ∷ rs) bs t ks rest = Uses y r bs.0 t ks rest ⊎ InRows y rs bs.1 t ks rest
 
 -- each spelled tree of the symbol is what a row makes
 abbrev pub Opens : (y : Symbol) → Builders y (rows y) → Type 0
-Opens y bs = (t : TreeOf y) (ks rest : List Kind) → Spells (parts y t) ks rest → InRows y (rows y) bs t ks rest
+Opens y bs = (t : TreeOf y) (ks rest : List PlainTerminal) → Spells (parts y t) ks rest → InRows y (rows y) bs t ks rest
 
 -- or it is this one, and nothing spells it
 abbrev pub OpensOr : (y : Symbol) → Builders y (rows y) → TreeOf y → Type 0
 OpensOr y bs e =
-    (t : TreeOf y) (ks rest : List Kind) → Spells (parts y t) ks rest
+    (t : TreeOf y) (ks rest : List PlainTerminal) → Spells (parts y t) ks rest
     → InRows y (rows y) bs t ks rest ⊎ ((t ≡ e) × (ks ≡ rest))
 
 -- how a symbol that begins as another one does makes its tree, of that one's tree and the trees behind it
@@ -146,7 +146,7 @@ behind_give y z more (r ∷ rs) j bs same gs = (
 )
 
 behind_uses : (y z : Symbol) (more : List Symbol) (rs : List Row) (j : Joins y z more) (bs : Builders z rs)
-    (u : TreeOf z) (ts : Trees more) (ks mid rest : List Kind)
+    (u : TreeOf z) (ts : Trees more) (ks mid rest : List PlainTerminal)
     → InRows z rs bs u ks mid → Spells (parts_all more ts) mid rest
     → InRows y (behind more rs) (behind_builders y z more rs j bs) (j u ts) ks rest
 behind_uses y z more [] j bs u ts ks mid rest i sp = absurd i
@@ -164,8 +164,8 @@ behind_uses y z more (r ∷ rs) j bs u ts ks mid rest (inr i) sp =
     inr (behind_uses y z more rs j bs.1 u ts ks mid rest i sp)
 
 pub behind_opens : (y z : Symbol) (more : List Symbol) (rs : List Row) (j : Joins y z more) (bs : Builders z rs)
-    (u : TreeOf z) (ts : Trees more) (ks rest : List Kind)
-    → ((mid : List Kind) → Spells (parts z u) ks mid → InRows z rs bs u ks mid)
+    (u : TreeOf z) (ts : Trees more) (ks rest : List PlainTerminal)
+    → ((mid : List PlainTerminal) → Spells (parts z u) ks mid → InRows z rs bs u ks mid)
     → Spells (parts z u ++ parts_all more ts) ks rest
     → InRows y (behind more rs) (behind_builders y z more rs j bs) (j u ts) ks rest
 behind_opens y z more rs j bs u ts ks rest opens sp =

@@ -1,7 +1,7 @@
 -- A list of terminals spells at most one tree of a symbol. For the claim `a_text_has_one_tree`.
 use Rattle.std.proofs.Common.{◌≡◌, Bool, true, false, ◌∙◌, sym, ap, ap₂, subst, refl, List, [], ◌∷◌, ◌++◌, inl, inr}
 use Rattle.std.proofs.Common.{not, ◌==◌, eq-eqb, ℕ}
-use Rattle.aadl_tree.specs.Terminals.{Kind}
+use Rattle.aadl_tree.specs.Terminals.{PlainTerminal}
 use Rattle.aadl_tree.specs.SpellingParts.{Spells, kept}
 use Rattle.aadl_grammar.specs.proof.GrammarSymbols.{Symbol, Row}
 use Rattle.aadl_grammar.specs.proof.ParseTable.{rows, can_omit}
@@ -29,17 +29,17 @@ use Rattle.aadl_grammar.proofs.PlaceIndependence.Declarations.{package_alike}
 use Rattle.aadl_grammar.proofs.Fates.GrammarLanguages.{body_clear, body_of, body_trees, nowhere, package_clear}
 use Rattle.aadl_grammar.proofs.Fates.GrammarLanguages.{package_trees}
 
-abbrev Spelled : (wanted : Stack) → Trees wanted → List Kind → Type 0
+abbrev Spelled : (wanted : Stack) → Trees wanted → List PlainTerminal → Type 0
 Spelled wanted ts ks = Spells (parts_all wanted ts) ks []
 
 -- the first of the terminals, with which one of the rows begins
-record Headed (rs : List Row) (ks : List Kind) : Type 0 where
-  kind : Kind
-  more : List Kind
+record Headed (rs : List Row) (ks : List PlainTerminal) : Type 0 where
+  kind : PlainTerminal
+  more : List PlainTerminal
   whole : ks ≡ kind ∷ more
   first : among (kind_number kind) (firsts rs) ≡ true
 
-headed : (y : Symbol) (rs : List Row) (bs : Builders y rs) (t : TreeOf y) (ks rest : List Kind)
+headed : (y : Symbol) (rs : List Row) (bs : Builders y rs) (t : TreeOf y) (ks rest : List PlainTerminal)
     → InRows y rs bs t ks rest → Headed rs ks
 headed y [] bs t ks rest i = absurd i
 headed y (r ∷ rs) bs t ks rest (inl i) =
@@ -59,7 +59,7 @@ headed y (r ∷ rs) bs t ks rest (inr i) =
     }
 
 -- one row is used, where the rows are of distinct classes
-other_row : (y : Symbol) (r : Row) (rs : List Row) (bs : Builders y (r ∷ rs)) (t u : TreeOf y) (ks mid nid : List Kind)
+other_row : (y : Symbol) (r : Row) (rs : List Row) (bs : Builders y (r ∷ rs)) (t u : TreeOf y) (ks mid nid : List PlainTerminal)
     → distinct (firsts (r ∷ rs)) ≡ true → Uses y r bs.0 t ks mid → InRows y rs bs.1 u ks nid → ⊥
 other_row y r rs bs t u ks mid nid d i j =
     let h = headed y rs bs.1 u ks nid j in
@@ -67,9 +67,9 @@ other_row y r rs bs t u ks mid nid d i j =
     not_both (among (class_number r.first) (firsts rs)) (first_so _ _ d)
     (ap (λ n. among n (firsts rs)) (sym (number_of r.first i.content) ∙ ap kind_number same) ∙ h.first)
 
-abbrev Same : List Kind → Type 0
+abbrev Same : List PlainTerminal → Type 0
 Same ks =
-    (kind : Kind) (more : List Kind) → ks ≡ kind ∷ more → (wanted : Stack) → Clear wanted → (ts us : Trees wanted)
+    (kind : PlainTerminal) (more : List PlainTerminal) → ks ≡ kind ∷ more → (wanted : Stack) → Clear wanted → (ts us : Trees wanted)
     → Spelled wanted ts more → Spelled wanted us more → ts ≡ us
 
 record Both (y : Symbol) (below : Stack) (t u : TreeOf y) (v w : Trees below) : Type 0 where
@@ -77,7 +77,7 @@ record Both (y : Symbol) (below : Stack) (t u : TreeOf y) (v w : Trees below) : 
   trees : v ≡ w
 
 one_row : (y : Symbol) (below : Stack) (rs : List Row) (bs : Builders y rs) (t u : TreeOf y) (v w : Trees below)
-    (ks mid nid : List Kind) → Same ks → Clear (y ∷ below)
+    (ks mid nid : List PlainTerminal) → Same ks → Clear (y ∷ below)
     → ((r : Row) → Member r rs → Member r (rows y)) → distinct (firsts rs) ≡ true → InRows y rs bs t ks mid
     → InRows y rs bs u ks nid → Spelled below v mid → Spelled below w nid → Both y below t u v w
 one_row y below [] bs t u v w ks mid nid again c m d i j sp sq = absurd i
@@ -91,7 +91,7 @@ one_row y below (r ∷ rs) bs t u v w ks mid nid again c m d (inl i) (inl j) sp 
     again (kind_with r.first i.content) i.more i.whole (r.wanted ++ below)
     (clear_taken y below r (m r (inl refl)) c) ts us
     (follow_all r.wanted below i.trees v i.more mid [] i.spelled sp)
-    (subst (λ (l : List Kind). Spelled (r.wanted ++ below) us l) more
+    (subst (λ (l : List PlainTerminal). Spelled (r.wanted ++ below) us l) more
     (follow_all r.wanted below j.trees w j.more nid [] j.spelled sq)) in
     record {
       tree =
@@ -111,28 +111,28 @@ one_row y below (r ∷ rs) bs t u v w ks mid nid again c m d (inr i) (inr j) sp 
     (second_so (not (among (class_number r.first) (firsts rs))) _ d) i j sp sq
 
 -- a symbol that is left out does not begin as what stands behind it
-clash : (y : Symbol) (below : Stack) (t : TreeOf y) (w : Trees below) (ks mid nid : List Kind) → Clear (y ∷ below)
+clash : (y : Symbol) (below : Stack) (t : TreeOf y) (w : Trees below) (ks mid nid : List PlainTerminal) → Clear (y ∷ below)
     → can_omit y ≡ true → InRows y (rows y) (builders y) t ks mid → ks ≡ nid → Spelled below w nid → ⊥
 clash y below t w ks mid nid (h, c) o i e sq =
     let g = headed y (rows y) (builders y) t ks mid i in
-    let d = derives (g.kind ∷ g.more) below w (subst (λ (l : List Kind). Spelled below w l) (sym e ∙ g.whole) sq) in
+    let d = derives (g.kind ∷ g.more) below w (subst (λ (l : List PlainTerminal). Spelled below w l) (sym e ∙ g.whole) sq) in
     h (kind_number g.kind) (begins below g.kind g.more d) (firsts_in_tail y o (kind_number g.kind) g.first)
 
-record OmittedAs (y : Symbol) (t : TreeOf y) (ks rest : List Kind) : Type 0 where
+record OmittedAs (y : Symbol) (t : TreeOf y) (ks rest : List PlainTerminal) : Type 0 where
   can : can_omit y ≡ true
   rests : ks ≡ rest
 
-omitted_as : (b : Bool) (y : Symbol) (e : Empty b y) (t : TreeOf y) (ks rest : List Kind) → can_omit y ≡ b
+omitted_as : (b : Bool) (y : Symbol) (e : Empty b y) (t : TreeOf y) (ks rest : List PlainTerminal) → can_omit y ≡ b
     → Omitted b y e t ks rest → OmittedAs y t ks rest
 omitted_as true y e t ks rest o (same, h) = record { can = o; rests = h }
 omitted_as false y e t ks rest o i = absurd i
 
-both_omitted : (b : Bool) (y : Symbol) (e : Empty b y) (t u : TreeOf y) (ks mid nid : List Kind)
+both_omitted : (b : Bool) (y : Symbol) (e : Empty b y) (t u : TreeOf y) (ks mid nid : List PlainTerminal)
     → Omitted b y e t ks mid → Omitted b y e u ks nid → t ≡ u
 both_omitted true y e t u ks mid nid (i, h) (j, g) = i ∙ sym j
 both_omitted false y e t u ks mid nid i j = absurd i
 
-one_symbol : (y : Symbol) (below : Stack) (ts us : Trees (y ∷ below)) (ks mid nid : List Kind) → Same ks
+one_symbol : (y : Symbol) (below : Stack) (ts us : Trees (y ∷ below)) (ks mid nid : List PlainTerminal) → Same ks
     → Clear (y ∷ below) → (Spelled below ts.1 ks → Spelled below us.1 ks → ts.1 ≡ us.1)
     → Opened y ts.0 ks mid → Opened y us.0 ks nid → Spelled below ts.1 mid → Spelled below us.1 nid
     → Both y below ts.0 us.0 ts.1 us.1
@@ -151,15 +151,15 @@ one_symbol y below ts us ks mid nid again c later (inr i) (inr j) sp sq =
     record {
       tree = both_omitted (can_omit y) y (empty y) ts.0 us.0 ks mid nid i j;
       trees =
-          later (subst (λ (l : List Kind). Spelled below ts.1 l) (sym o.rests) sp)
-          (subst (λ (l : List Kind). Spelled below us.1 l) (sym p.rests) sq);
+          later (subst (λ (l : List PlainTerminal). Spelled below ts.1 l) (sym o.rests) sp)
+          (subst (λ (l : List PlainTerminal). Spelled below us.1 l) (sym p.rests) sq);
     }
 
 both_same : (y : Symbol) (below : Stack) (ts us : Trees (y ∷ below)) → Both y below ts.0 us.0 ts.1 us.1 → ts ≡ us
 both_same y below ts us b =
     ap₂ (λ (t : TreeOf y) (v : Trees below). let r : Trees (y ∷ below) = (t, v) in r) b.tree b.trees
 
-one_stack : (ks : List Kind) → Same ks → (wanted : Stack) → Clear wanted → (ts us : Trees wanted) → Spelled wanted ts ks
+one_stack : (ks : List PlainTerminal) → Same ks → (wanted : Stack) → Clear wanted → (ts us : Trees wanted) → Spelled wanted ts ks
     → Spelled wanted us ks → ts ≡ us
 one_stack ks again [] c ts us sp sq = refl
 one_stack ks again (y ∷ below) c ts us sp sq =
@@ -170,27 +170,27 @@ one_stack ks again (y ∷ below) c ts us sp sq =
     (opens y ts.0 ks q.mid q.before) (opens y us.0 ks r.mid r.before) q.behind r.behind)
 
 -- trees that are spelled alike are the same
-pub one : (ks : List Kind) (wanted : Stack) → Clear wanted → (ts us : Trees wanted) → Spells (parts_all wanted ts) ks []
+pub one : (ks : List PlainTerminal) (wanted : Stack) → Clear wanted → (ts us : Trees wanted) → Spells (parts_all wanted ts) ks []
     → Spells (parts_all wanted us) ks [] → ts ≡ us
 one [] wanted c ts us sp sq = one_stack [] (λ kind more e. absurd (never_nil kind more e)) wanted c ts us sp sq
 one (kind ∷ ks) wanted c ts us sp sq =
     one_stack (kind ∷ ks) (λ other more e later d v w h g.
     let same = sym (tails kind other ks more e) in
-    one ks later d v w (subst (λ (l : List Kind). Spelled later v l) same h)
-    (subst (λ (l : List Kind). Spelled later w l) same g)) wanted c ts us sp sq
+    one ks later d v w (subst (λ (l : List PlainTerminal). Spelled later v l) same h)
+    (subst (λ (l : List PlainTerminal). Spelled later w l) same g)) wanted c ts us sp sq
 
-pub one_package : (ks : List Kind) (t u : PackageTree (Unit {0})) → Spells (package_parts t) ks []
+pub one_package : (ks : List PlainTerminal) (t u : PackageTree (Unit {0})) → Spells (package_parts t) ks []
     → Spells (package_parts u) ks [] → t ≡ u
 one_package ks t u sp sq =
     ap (λ (x : Trees whole_package). x.0) (one ks whole_package package_clear (package_trees t) (package_trees u) sp sq)
 
 
-pub one_behaviour : (ks : List Kind) (t u : AnnexTree (Unit {0})) → Spells (annex_tree_parts t) ks []
+pub one_behaviour : (ks : List PlainTerminal) (t u : AnnexTree (Unit {0})) → Spells (annex_tree_parts t) ks []
     → Spells (annex_tree_parts u) ks [] → t ≡ u
 one_behaviour ks t u sp sq = ap body_of (one ks annex_body body_clear (body_trees t) (body_trees u) sp sq)
 
 
-pub package_kept : (ks : List Kind) (t u : PackageTree ℕ) → Spells (package_parts t) ks []
+pub package_kept : (ks : List PlainTerminal) (t u : PackageTree ℕ) → Spells (package_parts t) ks []
     → Spells (package_parts u) ks [] → kept (package_parts t) ≡ kept (package_parts u)
 package_kept ks t u sp sq =
     let same =
@@ -200,7 +200,7 @@ package_kept ks t u sp sq =
     ∙ sym (alike_kept (package_alike nowhere u))
 
 
-pub behaviour_kept : (ks : List Kind) (t u : AnnexTree ℕ) → Spells (annex_tree_parts t) ks []
+pub behaviour_kept : (ks : List PlainTerminal) (t u : AnnexTree ℕ) → Spells (annex_tree_parts t) ks []
     → Spells (annex_tree_parts u) ks [] → kept (annex_tree_parts t) ≡ kept (annex_tree_parts u)
 behaviour_kept ks t u sp sq =
     let same =

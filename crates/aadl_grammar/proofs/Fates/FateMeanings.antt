@@ -6,7 +6,7 @@ use Rattle.std.proofs.lemmas.List.{append-nil, map-append}
 use Rattle.std.proofs.lemmas.Bool.{true≢false}
 use Rattle.aadl_tree.specs.declared.nesting_limit.TheConstants.{GREATEST_NESTING}
 use Rattle.aadl_tree.specs.declared.mark.Mark.TheVariants as k
-use Rattle.aadl_tree.specs.Terminals.{Kind, word, whole, real, quoted, unread, mark, other, Spot, kinds_of}
+use Rattle.aadl_tree.specs.Terminals.{PlainTerminal, word, whole, real, quoted, unread, mark, other, PlacedTerminal, kinds_of}
 use Rattle.aadl_tree.specs.LanguagesAndNesting.{opened, is_end, nesting_from, nesting, IsShallow}
 use Rattle.aadl_tree.specs.TerminalFaults.{Begins, IsStuck, FailsAt, DeepAt}
 use Rattle.aadl_grammar.specs.proof.StackMachine.{Stack, depth, Fate, finished, syntax_at, deep_at, fate}
@@ -14,26 +14,26 @@ use Rattle.aadl_grammar.proofs.DerivationTrees.ForbiddenFollowerMembership.{Clea
 use Rattle.aadl_grammar.proofs.DerivationTrees.DerivationsAndMachineSteps.{Derives, steps, derived_ends, ends_derived}
 use Rattle.aadl_grammar.proofs.DerivationTrees.ProductiveStacks.{some_text}
 use Rattle.aadl_grammar.proofs.Fates.StackNesting.{Good}
-use Rattle.aadl_grammar.proofs.Fates.MachineWalks.{walk, walk_front, walk_then, walk_derives, derived_left, walk_depth}
+use Rattle.aadl_grammar.proofs.Fates.MachineWalks.{stack_after_all, walk_front, walk_then, walk_derives, derived_left, walk_depth}
 use Rattle.aadl_grammar.proofs.Fates.MachineWalks.{Within}
 use Rattle.aadl_grammar.proofs.Fates.FateRuns.{StopsBy, Stops, Deepens, Finishes, Tells, tells}
 
 -- a language by the stack that its texts are derived from
-pub record Language (IsText : List Kind → Type 0) (outer : ℕ) : Type 0 where
+pub record Language (IsText : List PlainTerminal → Type 0) (outer : ℕ) : Type 0 where
   pub start : Stack
-  pub derived : (ks : List Kind) → IsText ks → Derives start ks
-  pub text : (ks : List Kind) → Derives start ks → IsText ks
+  pub derived : (ks : List PlainTerminal) → IsText ks → Derives start ks
+  pub text : (ks : List PlainTerminal) → Derives start ks → IsText ks
   pub clear : Clear start
   pub good : Good false start
   pub flat : depth start ≡ 0
   pub low : outer ≤ GREATEST_NESTING
 
-pub low_start : (IsText : List Kind → Type 0) (outer : ℕ) (l : Language IsText outer)
+pub low_start : (IsText : List PlainTerminal → Type 0) (outer : ℕ) (l : Language IsText outer)
     → outer + depth l.start ≤ GREATEST_NESTING
 low_start IsText outer l = let e = l.flat in let h = l.low in omega arith
 
-begins : (IsText : List Kind → Type 0) (outer : ℕ) (l : Language IsText outer) (ks : List Kind) (last : Stack)
-    → walk l.start ks ≡ Some last → Begins IsText ks
+begins : (IsText : List PlainTerminal → Type 0) (outer : ℕ) (l : Language IsText outer) (ks : List PlainTerminal) (last : Stack)
+    → stack_after_all l.start ks ≡ Some last → Begins IsText ks
 begins IsText outer l ks last e =
     let more = some_text last in
     record {
@@ -44,35 +44,35 @@ begins IsText outer l ks last e =
 nothing_is_some : (a : Stack) → Some a ≡ None → ⊥
 nothing_is_some a e = cc
 
-stuck : (IsText : List Kind → Type 0) (outer : ℕ) (l : Language IsText outer) (seen : List Kind) (left : List Spot)
-    (last : Stack) → walk l.start seen ≡ Some last → StopsBy last left → IsStuck IsText seen left
+stuck : (IsText : List PlainTerminal → Type 0) (outer : ℕ) (l : Language IsText outer) (seen : List PlainTerminal) (left : List PlacedTerminal)
+    (last : Stack) → stack_after_all l.start seen ≡ Some last → StopsBy last left → IsStuck IsText seen left
 stuck IsText outer l seen [] last e h = λ (text : IsText seen).
     let r =
     derived_left seen l.start last [] l.clear e
-    (subst (λ (x : List Kind). Derives l.start x) (sym (append-nil seen)) (l.derived seen text)) in
+    (subst (λ (x : List PlainTerminal). Derives l.start x) (sym (append-nil seen)) (l.derived seen text)) in
     true≢false (sym (derived_ends last r.derived) ∙ h)
 stuck IsText outer l seen (t ∷ ts) last e h = λ (b : Begins IsText (seen ++ t.kind ∷ [])).
     let d =
-    subst (λ (x : List Kind). Derives l.start x) (append_assoc seen (t.kind ∷ []) b.more) (l.derived _ b.text) in
+    subst (λ (x : List PlainTerminal). Derives l.start x) (append_assoc seen (t.kind ∷ []) b.more) (l.derived _ b.text) in
     let r = derived_left seen l.start last (t.kind ∷ b.more) l.clear e d in
     let s = steps last t.kind b.more r.clear r.derived in
     nothing_is_some s.next (sym s.stepped ∙ h)
 
-nesting_is : (IsText : List Kind → Type 0) (outer : ℕ) (l : Language IsText outer) (ks : List Kind) (last : Stack)
-    → walk l.start ks ≡ Some last → nesting outer ks ≡ outer + depth last
+nesting_is : (IsText : List PlainTerminal → Type 0) (outer : ℕ) (l : Language IsText outer) (ks : List PlainTerminal) (last : Stack)
+    → stack_after_all l.start ks ≡ Some last → nesting outer ks ≡ outer + depth last
 nesting_is IsText outer l ks last e =
     let zero : outer ≡ outer + depth l.start = (let f = l.flat in omega arith) in
     ap (λ n. nesting_from n false ks) zero ∙ walk_depth outer ks l.start last false l.good e
 
-shallow : (IsText : List Kind → Type 0) (outer : ℕ) (l : Language IsText outer) (ks : List Kind) (last : Stack)
-    → walk l.start ks ≡ Some last → Within outer l.start ks → IsShallow outer ks
+shallow : (IsText : List PlainTerminal → Type 0) (outer : ℕ) (l : Language IsText outer) (ks : List PlainTerminal) (last : Stack)
+    → stack_after_all l.start ks ≡ Some last → Within outer l.start ks → IsShallow outer ks
 shallow IsText outer l ks last e within front back same =
-    let mid = walk_front front back l.start last (ap (walk l.start) (sym same) ∙ e) in
+    let mid = walk_front front back l.start last (ap (stack_after_all l.start) (sym same) ∙ e) in
     let n = nesting_is IsText outer l front mid.0 mid.1 in
     let d = within front back mid.0 same mid.1 in
     omega arith
 
-opened_most : (n : ℕ) (ended : Bool) (kind : Kind) → opened n ended kind ≤ n + 1
+opened_most : (n : ℕ) (ended : Bool) (kind : PlainTerminal) → opened n ended kind ≤ n + 1
 opened_most n true (word w) = omega arith
 opened_most n true (whole w) = omega arith
 opened_most n true (real w) = omega arith
@@ -90,12 +90,12 @@ opened_most n false (other w) = omega arith
 opened_most n false (mark k.If) = omega arith
 opened_most n false (mark _) = omega arith
 
-nesting_more : (ks : List Kind) (n : ℕ) (ended : Bool) (kind : Kind)
+nesting_more : (ks : List PlainTerminal) (n : ℕ) (ended : Bool) (kind : PlainTerminal)
     → nesting_from n ended (ks ++ kind ∷ []) ≤ nesting_from n ended ks + 1
 nesting_more [] n ended kind = opened_most n ended kind
 nesting_more (x ∷ ks) n ended kind = nesting_more ks (opened n ended x) (is_end x) kind
 
-pub stops_fail : (IsText : List Kind → Type 0) (outer end : ℕ) (l : Language IsText outer) (ts : List Spot) (at : ℕ)
+pub stops_fail : (IsText : List PlainTerminal → Type 0) (outer end : ℕ) (l : Language IsText outer) (ts : List PlacedTerminal) (at : ℕ)
     → Stops outer end l.start ts at → FailsAt IsText outer end ts at
 stops_fail IsText outer end l ts at r = record {
   seen = r.seen;
@@ -107,7 +107,7 @@ stops_fail IsText outer end l ts at r = record {
   shallow = shallow IsText outer l (kinds_of r.seen) r.last r.walked r.within;
 }
 
-pub deepens_deep : (IsText : List Kind → Type 0) (outer end : ℕ) (l : Language IsText outer) (ts : List Spot) (at : ℕ)
+pub deepens_deep : (IsText : List PlainTerminal → Type 0) (outer end : ℕ) (l : Language IsText outer) (ts : List PlacedTerminal) (at : ℕ)
     → Deepens outer l.start ts at → DeepAt IsText outer ts at
 deepens_deep IsText outer end l ts at r =
     let through = walk_then (kinds_of r.seen) l.start r.last r.after r.opener.kind r.walked r.stepped in
@@ -127,45 +127,45 @@ deepens_deep IsText outer end l ts at r =
       deep = omega arith;
     }
 
-pub finishes_text : (IsText : List Kind → Type 0) (outer : ℕ) (l : Language IsText outer) (ts : List Spot)
+pub finishes_text : (IsText : List PlainTerminal → Type 0) (outer : ℕ) (l : Language IsText outer) (ts : List PlacedTerminal)
     → Finishes outer l.start ts → IsText (kinds_of ts) × IsShallow outer (kinds_of ts)
 finishes_text IsText outer l ts r =
     let d = walk_derives (kinds_of ts) l.start r.last [] r.walked (ends_derived r.last r.ended) in (
-      l.text (kinds_of ts) (subst (λ (x : List Kind). Derives l.start x) (append-nil (kinds_of ts)) d),
+      l.text (kinds_of ts) (subst (λ (x : List PlainTerminal). Derives l.start x) (append-nil (kinds_of ts)) d),
       shallow IsText outer l (kinds_of ts) r.last r.walked r.within,
     )
 
 -- The answers exclude one another.
 
-text_from : (IsText : List Kind → Type 0) (ts seen : List Spot) (t : Spot) (left : List Spot) → ts ≡ seen ++ t ∷ left
+text_from : (IsText : List PlainTerminal → Type 0) (ts seen : List PlacedTerminal) (t : PlacedTerminal) (left : List PlacedTerminal) → ts ≡ seen ++ t ∷ left
     → IsText (kinds_of ts) → Begins IsText (kinds_of seen ++ t.kind ∷ [])
 text_from IsText ts seen t left e text = record {
   more = kinds_of left;
   text =
-      subst IsText (ap kinds_of e ∙ map-append (λ (x : Spot). x.kind) seen (t ∷ left)
+      subst IsText (ap kinds_of e ∙ map-append (λ (x : PlacedTerminal). x.kind) seen (t ∷ left)
       ∙ sym (append_assoc (kinds_of seen) (t.kind ∷ []) (kinds_of left))) text;
 }
 
-by_left : (IsText : List Kind → Type 0) (ts seen left : List Spot) → ts ≡ seen ++ left
+by_left : (IsText : List PlainTerminal → Type 0) (ts seen left : List PlacedTerminal) → ts ≡ seen ++ left
     → IsStuck IsText (kinds_of seen) left → IsText (kinds_of ts) → ⊥
 by_left IsText ts seen [] e never text =
-    never (subst (λ (x : List Spot). IsText (kinds_of x)) (e ∙ append-nil seen) text)
+    never (subst (λ (x : List PlacedTerminal). IsText (kinds_of x)) (e ∙ append-nil seen) text)
 by_left IsText ts seen (t ∷ left) e never text = never (text_from IsText ts seen t left e text)
 
-pub fails_no_text : (IsText : List Kind → Type 0) (outer end : ℕ) (ts : List Spot) (at : ℕ)
+pub fails_no_text : (IsText : List PlainTerminal → Type 0) (outer end : ℕ) (ts : List PlacedTerminal) (at : ℕ)
     → FailsAt IsText outer end ts at → IsText (kinds_of ts) → ⊥
 fails_no_text IsText outer end ts at f text = by_left IsText ts f.seen f.left f.whole f.stuck text
 
-pub deep_not_shallow : (IsText : List Kind → Type 0) (outer : ℕ) (ts : List Spot) (at : ℕ) → DeepAt IsText outer ts at
+pub deep_not_shallow : (IsText : List PlainTerminal → Type 0) (outer : ℕ) (ts : List PlacedTerminal) (at : ℕ) → DeepAt IsText outer ts at
     → IsShallow outer (kinds_of ts) → ⊥
 deep_not_shallow IsText outer ts at d flat =
     let h = flat (kinds_of d.seen ++ d.opener.kind ∷ []) (kinds_of d.left)
-    (ap kinds_of d.whole ∙ map-append (λ (x : Spot). x.kind) d.seen (d.opener ∷ d.left)
+    (ap kinds_of d.whole ∙ map-append (λ (x : PlacedTerminal). x.kind) d.seen (d.opener ∷ d.left)
     ∙ sym (append_assoc (kinds_of d.seen) (d.opener.kind ∷ []) (kinds_of d.left))) in
     let g = d.deep in
     absurd (omega arith)
 
-finished_by : (IsText : List Kind → Type 0) (outer end : ℕ) (l : Language IsText outer) (ts : List Spot)
+finished_by : (IsText : List PlainTerminal → Type 0) (outer end : ℕ) (l : Language IsText outer) (ts : List PlacedTerminal)
     → IsText (kinds_of ts) → IsShallow outer (kinds_of ts) → (f : Fate) → Tells outer end l.start ts f → f ≡ finished
 finished_by IsText outer end l ts text flat finished r = refl
 finished_by IsText outer end l ts text flat (syntax_at at) r =
@@ -173,27 +173,27 @@ finished_by IsText outer end l ts text flat (syntax_at at) r =
 finished_by IsText outer end l ts text flat (deep_at at) r =
     absurd (deep_not_shallow IsText outer ts at (deepens_deep IsText outer end l ts at r) flat)
 
-pub text_finishes : (IsText : List Kind → Type 0) (outer end : ℕ) (l : Language IsText outer) (ts : List Spot)
+pub text_finishes : (IsText : List PlainTerminal → Type 0) (outer end : ℕ) (l : Language IsText outer) (ts : List PlacedTerminal)
     → IsText (kinds_of ts) → IsShallow outer (kinds_of ts) → fate outer end l.start ts ≡ finished
 text_finishes IsText outer end l ts text flat =
     finished_by IsText outer end l ts text flat (fate outer end l.start ts)
     (tells outer end ts l.start (low_start IsText outer l))
 
-told : (outer end : ℕ) (start : Stack) (ts : List Spot) (f : Fate) → outer + depth start ≤ GREATEST_NESTING
+told : (outer end : ℕ) (start : Stack) (ts : List PlacedTerminal) (f : Fate) → outer + depth start ≤ GREATEST_NESTING
     → fate outer end start ts ≡ f → Tells outer end start ts f
 told outer end start ts f h e = subst (λ (x : Fate). Tells outer end start ts x) e (tells outer end ts start h)
 
-pub fails_at : (IsText : List Kind → Type 0) (outer end : ℕ) (l : Language IsText outer) (ts : List Spot) (at : ℕ)
+pub fails_at : (IsText : List PlainTerminal → Type 0) (outer end : ℕ) (l : Language IsText outer) (ts : List PlacedTerminal) (at : ℕ)
     → fate outer end l.start ts ≡ syntax_at at → FailsAt IsText outer end ts at
 fails_at IsText outer end l ts at e =
     stops_fail IsText outer end l ts at (told outer end l.start ts (syntax_at at) (low_start IsText outer l) e)
 
-pub deep_at_opener : (IsText : List Kind → Type 0) (outer end : ℕ) (l : Language IsText outer) (ts : List Spot) (at : ℕ)
+pub deep_at_opener : (IsText : List PlainTerminal → Type 0) (outer end : ℕ) (l : Language IsText outer) (ts : List PlacedTerminal) (at : ℕ)
     → fate outer end l.start ts ≡ deep_at at → DeepAt IsText outer ts at
 deep_at_opener IsText outer end l ts at e =
     deepens_deep IsText outer end l ts at (told outer end l.start ts (deep_at at) (low_start IsText outer l) e)
 
-pub is_text : (IsText : List Kind → Type 0) (outer end : ℕ) (l : Language IsText outer) (ts : List Spot)
+pub is_text : (IsText : List PlainTerminal → Type 0) (outer end : ℕ) (l : Language IsText outer) (ts : List PlacedTerminal)
     → fate outer end l.start ts ≡ finished → IsText (kinds_of ts) × IsShallow outer (kinds_of ts)
 is_text IsText outer end l ts e =
     finishes_text IsText outer l ts (told outer end l.start ts finished (low_start IsText outer l) e)

@@ -4,33 +4,33 @@ use Rattle.std.proofs.Common.{◌≡◌, ℕ, ◌+◌, ◌<◌, ◌≤◌, Bool,
 use Rattle.std.proofs.Common.{◌++◌, append_assoc, le-ltb, lt-ltb, ◌&&◌}
 use Rattle.std.specs.Prelude.{nat_lt}
 use Rattle.aadl_tree.specs.declared.mark.Mark.{Mark}
-use Rattle.aadl_tree.specs.Terminals.{Kind, mark, Spot}
+use Rattle.aadl_tree.specs.Terminals.{PlainTerminal, mark, PlacedTerminal}
 use Rattle.aadl_tree.specs.declared.nesting_limit.TheConstants.{GREATEST_NESTING}
 use Rattle.aadl_tree.specs.TerminalFaults.{place}
 use Rattle.aadl_grammar.specs.proof.GrammarSymbols.{the, Symbol, Row}
 use Rattle.aadl_grammar.specs.proof.ParseTable.{behind, rows, can_omit}
 use Rattle.aadl_grammar.specs.proof.StackMachine.{Stack, Move, takes, omitted, refuses, kind_number, fits, move_by}
-use Rattle.aadl_grammar.specs.proof.StackMachine.{move, chosen, step, ends, depth, Fate, finished, syntax_at, deep_at}
+use Rattle.aadl_grammar.specs.proof.StackMachine.{move, chosen, stack_after, ends, depth, Fate, finished, syntax_at, deep_at}
 use Rattle.aadl_grammar.specs.proof.StackMachine.{fate_after, fate}
 use Rattle.aadl_grammar.proofs.DerivationTrees.ForbiddenFollowers.{among, firsts}
-use Rattle.aadl_grammar.proofs.DerivationTrees.TerminalContents.{Said, said, fits_with}
+use Rattle.aadl_grammar.proofs.DerivationTrees.TerminalContents.{HasContent, said, fits_with}
 use Rattle.std.proofs.lemmas.Bool.{or_parts}
 
 -- what the symbol does where these terminals are left
-abbrev pub move_at : Symbol → List Spot → Move
+abbrev pub move_at : Symbol → List PlacedTerminal → Move
 move_at x [] = cond (can_omit x) omitted refuses
 move_at x (t ∷ ts) = move x t.kind
 
 -- the fate as far as it hangs on the top alone
-abbrev pub fate_by : ℕ → ℕ → Move → Stack → List Spot → Fate
+abbrev pub fate_by : ℕ → ℕ → Move → Stack → List PlacedTerminal → Fate
 fate_by outer end (takes f) below [] = syntax_at end
 fate_by outer end (takes f) below (t ∷ ts) =
     cond (nat_lt GREATEST_NESTING (outer + depth (f ++ below))) (deep_at t.at) (fate outer end (f ++ below) ts)
 fate_by outer end omitted below ts = fate outer end below ts
 fate_by outer end refuses below ts = syntax_at (place end ts)
 
-by_move : (outer end : ℕ) (y : Move) (below : Stack) (t : Spot) (ts : List Spot)
-    → fate_after outer (chosen y below (step below t.kind)) t.at (λ next. fate outer end next ts)
+by_move : (outer end : ℕ) (y : Move) (below : Stack) (t : PlacedTerminal) (ts : List PlacedTerminal)
+    → fate_after outer (chosen y below (stack_after below t.kind)) t.at (λ next. fate outer end next ts)
     ≡ fate_by outer end y below (t ∷ ts)
 unfolding fate
 by_move outer end (takes f) below t ts = refl
@@ -43,13 +43,13 @@ unfolding fate
 by_end outer end true below = refl
 by_end outer end false below = refl
 
-pub fate_is : (outer end : ℕ) (x : Symbol) (below : Stack) (ts : List Spot)
+pub fate_is : (outer end : ℕ) (x : Symbol) (below : Stack) (ts : List PlacedTerminal)
     → fate outer end (x ∷ below) ts ≡ fate_by outer end (move_at x ts) below ts
-unfolding fate step ends
+unfolding fate stack_after ends
 fate_is outer end x below [] = by_end outer end (can_omit x) below
 fate_is outer end x below (t ∷ ts) = by_move outer end (move x t.kind) below t ts
 
-pub fate_takes : (outer end : ℕ) (x : Symbol) (below : Stack) (t : Spot) (ts : List Spot) (f : List Symbol)
+pub fate_takes : (outer end : ℕ) (x : Symbol) (below : Stack) (t : PlacedTerminal) (ts : List PlacedTerminal) (f : List Symbol)
     → move x t.kind ≡ takes f → outer + depth (f ++ below) ≤ GREATEST_NESTING
     → fate outer end (x ∷ below) (t ∷ ts) ≡ fate outer end (f ++ below) ts
 fate_takes outer end x below t ts f e h =
@@ -57,7 +57,7 @@ fate_takes outer end x below t ts f e h =
     ∙ ap (λ b. cond b (deep_at t.at) (fate outer end (f ++ below) ts))
     (le-ltb GREATEST_NESTING (outer + depth (f ++ below)) h)
 
-pub fate_deep : (outer end : ℕ) (x : Symbol) (below : Stack) (t : Spot) (ts : List Spot) (f : List Symbol)
+pub fate_deep : (outer end : ℕ) (x : Symbol) (below : Stack) (t : PlacedTerminal) (ts : List PlacedTerminal) (f : List Symbol)
     → move x t.kind ≡ takes f → GREATEST_NESTING < outer + depth (f ++ below)
     → fate outer end (x ∷ below) (t ∷ ts) ≡ deep_at t.at
 fate_deep outer end x below t ts f e h =
@@ -65,11 +65,11 @@ fate_deep outer end x below t ts f e h =
     ∙ ap (λ b. cond b (deep_at t.at) (fate outer end (f ++ below) ts))
     (lt-ltb GREATEST_NESTING (outer + depth (f ++ below)) h)
 
-pub fate_omits : (outer end : ℕ) (x : Symbol) (below : Stack) (ts : List Spot) → move_at x ts ≡ omitted
+pub fate_omits : (outer end : ℕ) (x : Symbol) (below : Stack) (ts : List PlacedTerminal) → move_at x ts ≡ omitted
     → fate outer end (x ∷ below) ts ≡ fate outer end below ts
 fate_omits outer end x below ts e = fate_is outer end x below ts ∙ ap (λ y. fate_by outer end y below ts) e
 
-pub fate_refuses : (outer end : ℕ) (x : Symbol) (below : Stack) (ts : List Spot) → move_at x ts ≡ refuses
+pub fate_refuses : (outer end : ℕ) (x : Symbol) (below : Stack) (ts : List PlacedTerminal) → move_at x ts ≡ refuses
     → fate outer end (x ∷ below) ts ≡ syntax_at (place end ts)
 fate_refuses outer end x below ts e = fate_is outer end x below ts ∙ ap (λ y. fate_by outer end y below ts) e
 
@@ -78,8 +78,8 @@ pub fate_end : (outer end : ℕ) → fate outer end [] [] ≡ finished
 unfolding fate ends
 fate_end outer end = refl
 
-pub fate_left : (outer end : ℕ) (t : Spot) (ts : List Spot) → fate outer end [] (t ∷ ts) ≡ syntax_at t.at
-unfolding fate step
+pub fate_left : (outer end : ℕ) (t : PlacedTerminal) (ts : List PlacedTerminal) → fate outer end [] (t ∷ ts) ≡ syntax_at t.at
+unfolding fate stack_after
 fate_left outer end t ts = refl
 
 -- A symbol that begins as another one does, with more behind it.
@@ -90,12 +90,12 @@ followed_by more omitted = omitted
 followed_by more refuses = refuses
 
 -- none of the rows fits the first of the terminals
-abbrev pub NoneFits : List Row → List Spot → Type 0
+abbrev pub NoneFits : List Row → List PlacedTerminal → Type 0
 NoneFits own [] = Unit {0}
 NoneFits own (t ∷ ts) = among (kind_number t.kind) (firsts own) ≡ false
 
 -- the symbol has no rows of its own
-pub none_own : (ts : List Spot) → NoneFits [] ts
+pub none_own : (ts : List PlacedTerminal) → NoneFits [] ts
 none_own [] = tt
 none_own (t ∷ ts) = refl
 
@@ -110,14 +110,14 @@ followed_cond : (b : Bool) (more f : List Symbol) (y : Move) (z : Bool)
 followed_cond b more f y true = refl
 followed_cond b more f y false = refl
 
-move_behind : (b : Bool) (more : List Symbol) (rs : List Row) (kind : Kind)
+move_behind : (b : Bool) (more : List Symbol) (rs : List Row) (kind : PlainTerminal)
     → move_by (behind more rs) b kind ≡ or_by b (followed_by more (move_by rs false kind))
 move_behind b more [] kind = refl
 move_behind b more (r ∷ rs) kind =
     ap (cond (fits r.first kind) (takes (r.wanted ++ more))) (move_behind b more rs kind)
     ∙ followed_cond b more r.wanted (move_by rs false kind) (fits r.first kind)
 
-move_past : (own rs : List Row) (b : Bool) (kind : Kind) → among (kind_number kind) (firsts own) ≡ false
+move_past : (own rs : List Row) (b : Bool) (kind : PlainTerminal) → among (kind_number kind) (firsts own) ≡ false
     → move_by (own ++ rs) b kind ≡ move_by rs b kind
 move_past [] rs b kind e = refl
 move_past (r ∷ own) rs b kind e =
@@ -125,7 +125,7 @@ move_past (r ∷ own) rs b kind e =
     ap (λ z. cond z (takes r.wanted) (move_by (own ++ rs) b kind)) both.0 ∙ move_past own rs b kind both.1
 
 -- The symbol begins as the other one does, and none of its own rows fits.
-expanded : (x y : Symbol) (own : List Row) (more : List Symbol) (ts : List Spot) → rows x ≡ own ++ behind more (rows y)
+expanded : (x y : Symbol) (own : List Row) (more : List Symbol) (ts : List PlacedTerminal) → rows x ≡ own ++ behind more (rows y)
     → can_omit y ≡ false → NoneFits own ts
     → move_at x ts ≡ or_by (can_omit x) (followed_by more (move_at y ts))
 unfolding move
@@ -144,7 +144,7 @@ never_cond : (f : List Symbol) (y : Move) (b : Bool) → Never y → Never (cond
 never_cond f y true h = tt
 never_cond f y false h = h
 
-never_omits : (rs : List Row) (kind : Kind) → Never (move_by rs false kind)
+never_omits : (rs : List Row) (kind : PlainTerminal) → Never (move_by rs false kind)
 never_omits [] kind = tt
 never_omits (r ∷ rs) kind = never_cond r.wanted (move_by rs false kind) (fits r.first kind) (never_omits rs kind)
 
@@ -152,12 +152,12 @@ never_refused : (b : Bool) → b ≡ false → Never (cond b omitted refuses)
 never_refused true e = cc
 never_refused false e = tt
 
-never_at : (y : Symbol) (ts : List Spot) → can_omit y ≡ false → Never (move_at y ts)
+never_at : (y : Symbol) (ts : List PlacedTerminal) → can_omit y ≡ false → Never (move_at y ts)
 unfolding move
 never_at y [] p = never_refused (can_omit y) p
 never_at y (t ∷ ts) p = subst (λ (b : Bool). Never (move_by (rows y) b t.kind)) (sym p) (never_omits (rows y) t.kind)
 
-by_followed : (outer end : ℕ) (y : Move) (more : List Symbol) (below : Stack) (ts : List Spot) → Never y
+by_followed : (outer end : ℕ) (y : Move) (more : List Symbol) (below : Stack) (ts : List PlacedTerminal) → Never y
     → fate_by outer end (followed_by more y) below ts ≡ fate_by outer end y (more ++ below) ts
 by_followed outer end (takes g) more below [] never = refl
 by_followed outer end (takes g) more below (t ∷ ts) never =
@@ -172,7 +172,7 @@ or_false omitted = refl
 or_false refuses = refl
 
 -- a symbol that cannot be left out does as the other one
-pub fate_expands : (outer end : ℕ) (x y : Symbol) (own : List Row) (more : List Symbol) (below : Stack) (ts : List Spot)
+pub fate_expands : (outer end : ℕ) (x y : Symbol) (own : List Row) (more : List Symbol) (below : Stack) (ts : List PlacedTerminal)
     → rows x ≡ own ++ behind more (rows y) → can_omit x ≡ false → can_omit y ≡ false → NoneFits own ts
     → fate outer end (x ∷ below) ts ≡ fate outer end (y ∷ more ++ below) ts
 fate_expands outer end x y own more below ts e o p n =
@@ -184,7 +184,7 @@ fate_expands outer end x y own more below ts e o p n =
     ∙ sym (fate_is outer end y (more ++ below) ts)
 
 -- so does one that can be left out, where the other one takes the terminal
-pub fate_enters : (outer end : ℕ) (x y : Symbol) (own : List Row) (more : List Symbol) (below : Stack) (ts : List Spot)
+pub fate_enters : (outer end : ℕ) (x y : Symbol) (own : List Row) (more : List Symbol) (below : Stack) (ts : List PlacedTerminal)
     (f : List Symbol) → rows x ≡ own ++ behind more (rows y) → can_omit y ≡ false → NoneFits own ts
     → move_at y ts ≡ takes f → fate outer end (x ∷ below) ts ≡ fate outer end (y ∷ more ++ below) ts
 fate_enters outer end x y own more below ts f e p n h =
@@ -196,7 +196,7 @@ fate_enters outer end x y own more below ts f e p n h =
     ∙ sym (fate_is outer end y (more ++ below) ts)
 
 -- and it is left out where the other one refuses the terminal
-pub fate_passes : (outer end : ℕ) (x y : Symbol) (own : List Row) (more : List Symbol) (below : Stack) (ts : List Spot)
+pub fate_passes : (outer end : ℕ) (x y : Symbol) (own : List Row) (more : List Symbol) (below : Stack) (ts : List PlacedTerminal)
     → rows x ≡ own ++ behind more (rows y) → can_omit x ≡ true → can_omit y ≡ false → NoneFits own ts
     → move_at y ts ≡ refuses → fate outer end (x ∷ below) ts ≡ fate outer end below ts
 fate_passes outer end x y own more below ts e o p n h =
@@ -205,8 +205,8 @@ fate_passes outer end x y own more below ts e o p n h =
     ∙ ap (λ b. cond b omitted refuses) o)
 
 -- a keyword or a symbol is known by its number
-pub fits_mark : (m : Mark) (kind : Kind) → fits (the m) kind ≡ true → kind ≡ mark m
-fits_mark m kind e = Said.whole (said (the m) kind e)
+pub fits_mark : (m : Mark) (kind : PlainTerminal) → fits (the m) kind ≡ true → kind ≡ mark m
+fits_mark m kind e = HasContent.whole (said (the m) kind e)
 
 pub fits_itself : (m : Mark) → fits (the m) (mark m) ≡ true
 fits_itself m = fits_with (the m) tt

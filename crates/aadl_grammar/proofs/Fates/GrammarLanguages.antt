@@ -2,13 +2,13 @@
 -- starts from.
 use Rattle.std.proofs.Common.{ℕ, ◌≡◌, refl, ◌≤◌, List, [], ◌∷◌, arith}
 use Rattle.aadl_tree.specs.declared.nesting_limit.TheConstants.{GREATEST_NESTING}
-use Rattle.aadl_tree.specs.Terminals.{Kind}
+use Rattle.aadl_tree.specs.Terminals.{PlainTerminal}
 use Rattle.aadl_tree.specs.Annexes.{AnnexTree}
 use Rattle.aadl_tree.specs.Declarations.{PackageTree}
 use Rattle.aadl_tree.specs.LanguagesAndNesting.{IsPackage, IsBehaviour}
 use Rattle.aadl_grammar.specs.proof.GrammarSymbols as s
 use Rattle.aadl_grammar.specs.proof.StackMachine.{depth, whole_package, annex_body}
-use Rattle.aadl_grammar.proofs.DerivationTrees.ForbiddenFollowers.{first_of, tail}
+use Rattle.aadl_grammar.proofs.DerivationTrees.ForbiddenFollowers.{first_of, forbidden_after}
 use Rattle.aadl_grammar.proofs.DerivationTrees.ForbiddenFollowerMembership.{Clear, apart_means}
 use Rattle.aadl_grammar.specs.proof.SymbolTrees.{Trees}
 use Rattle.aadl_grammar.proofs.DerivationTrees.DerivedTrees.{derives, Written, written}
@@ -19,16 +19,16 @@ use Rattle.aadl_grammar.proofs.PlaceIndependence.Declarations.{package_alike}
 use Rattle.aadl_grammar.proofs.Fates.FateMeanings.{Language}
 
 pub package_clear : Clear whole_package
-unfolding tail
-package_clear = (apart_means [] (tail s.a_package) refl, tt)
+unfolding forbidden_after
+package_clear = (apart_means [] (forbidden_after s.a_package) refl, tt)
 
 pub body_clear : Clear annex_body
-unfolding tail
+unfolding forbidden_after
 body_clear = (
-  apart_means (first_of (s.states ∷ s.transitions ∷ [])) (tail s.variables) refl,
+  apart_means (first_of (s.states ∷ s.transitions ∷ [])) (forbidden_after s.variables) refl,
   (
-    apart_means (first_of (s.transitions ∷ [])) (tail s.states) refl,
-    (apart_means [] (tail s.transitions) refl, tt),
+    apart_means (first_of (s.transitions ∷ [])) (forbidden_after s.states) refl,
+    (apart_means [] (forbidden_after s.transitions) refl, tt),
   ),
 )
 
@@ -42,14 +42,14 @@ somewhere u = 0
 abbrev pub body_of : Trees annex_body → AnnexTree (Unit {0})
 body_of y = record { variables = y.0; states = y.1.0; transitions = y.1.1.0 }
 
-pub package_text : (ks : List Kind) → Written whole_package ks → IsPackage ks
+pub package_text : (ks : List PlainTerminal) → Written whole_package ks → IsPackage ks
 package_text ks w =
     record {
       tree = package_to somewhere w.trees.0;
       spelled = alike_spells ks [] (package_alike somewhere w.trees.0) w.spelled;
     }
 
-pub body_text : (ks : List Kind) → Written annex_body ks → IsBehaviour ks
+pub body_text : (ks : List PlainTerminal) → Written annex_body ks → IsBehaviour ks
 body_text ks w =
     record {
       tree = annex_tree_to somewhere (body_of w.trees);

@@ -3,7 +3,7 @@
 use Rattle.std.proofs.Common.{◌≡◌, ℕ, ◌+◌, ◌-◌, Bool, true, false, cond, not, ◌&&◌, ◌||◌, ◌==◌, List, [], ◌∷◌, refl}
 use Rattle.aadl_tree.specs.declared.mark.Mark.{Mark}
 use Rattle.aadl_tree.specs.declared.mark.Mark.TheVariants as k
-use Rattle.aadl_tree.specs.Terminals.{Kind, word, whole, real, quoted, unread, mark, other}
+use Rattle.aadl_tree.specs.Terminals.{PlainTerminal, word, whole, real, quoted, unread, mark, other}
 use Rattle.aadl_tree.specs.LanguagesAndNesting.{opened, is_end}
 use Rattle.aadl_grammar.specs.proof.GrammarSymbols.{Class, the, Symbol, Row}
 use Rattle.aadl_grammar.specs.proof.GrammarSymbols as s
@@ -22,7 +22,7 @@ closers = the k.ParenClose ∷ the k.BracketClose ∷ the k.BraceClose ∷ the k
 abbrev pub shift : ℕ → ℕ → ℕ
 shift n x = cond (among x openers) (n + 1) (cond (among x closers) (n - 1) n)
 
-pub shift_is : (n : ℕ) (kind : Kind) → opened n false kind ≡ shift n (kind_number kind)
+pub shift_is : (n : ℕ) (kind : PlainTerminal) → opened n false kind ≡ shift n (kind_number kind)
 shift_is n (word w) = refl
 shift_is n (whole w) = refl
 shift_is n (real w) = refl
@@ -32,7 +32,7 @@ shift_is n (other w) = refl
 shift_is n (mark k.If) = refl
 shift_is n (mark _) = refl
 
-pub end_is : (kind : Kind) → is_end kind ≡ (kind_number kind == class_number (the k.End))
+pub end_is : (kind : PlainTerminal) → is_end kind ≡ (kind_number kind == class_number (the k.End))
 end_is (word w) = refl
 end_is (whole w) = refl
 end_is (real w) = refl
@@ -43,7 +43,7 @@ end_is (mark k.If) = refl
 end_is (mark _) = refl
 
 -- behind `end` all terminals but `if` open and close as ever
-pub opened_same : (n : ℕ) (ended : Bool) (kind : Kind) → (kind_number kind == class_number (the k.If)) ≡ false
+pub opened_same : (n : ℕ) (ended : Bool) (kind : PlainTerminal) → (kind_number kind == class_number (the k.If)) ≡ false
     → opened n ended kind ≡ opened n false kind
 opened_same n false kind e = refl
 opened_same n true (word w) e = refl
@@ -61,23 +61,23 @@ closing s.closing_if = true
 closing _ = false
 
 -- symbols that stand in no stack but for that one: openers, `if` and `end` by themselves
-abbrev pub odd : Symbol → Bool
-odd (s.only m) = among (mark_number m) (the k.End ∷ openers)
-odd s.closing_if = true
-odd _ = false
+abbrev pub is_never_stacked : Symbol → Bool
+is_never_stacked (s.only m) = among (mark_number m) (the k.End ∷ openers)
+is_never_stacked s.closing_if = true
+is_never_stacked _ = false
 
 abbrev pub plain : List Symbol → Bool
 plain [] = true
-plain (x ∷ f) = not (odd x) && plain f
+plain (x ∷ f) = not (is_never_stacked x) && plain f
 
 -- `if` does not begin the symbol, nor what stands behind it
-abbrev pub blunt : Symbol → Bool
-blunt x = not (can_omit x) && (not (among (class_number (the k.If)) (firsts (rows x))) && not (odd x))
+abbrev pub begins_without_if : Symbol → Bool
+begins_without_if x = not (can_omit x) && (not (among (class_number (the k.If)) (firsts (rows x))) && not (is_never_stacked x))
 
 -- what may be wanted behind `end`
 abbrev pub closing_first : List Symbol → Bool
 closing_first [] = false
-closing_first (x ∷ f) = (closing x || blunt x) && plain f
+closing_first (x ∷ f) = (closing x || begins_without_if x) && plain f
 
 abbrev pub good : Bool → List Symbol → Bool
 good true f = closing_first f
@@ -97,12 +97,12 @@ abbrev pub rows_shift : Symbol → List Row → Bool
 rows_shift x [] = true
 rows_shift x (r ∷ rs) = row_shifts x r && rows_shift x rs
 
-only_shift : (m : Mark) → (odd (s.only m) || rows_shift (s.only m) (rows (s.only m))) ≡ true
+only_shift : (m : Mark) → (is_never_stacked (s.only m) || rows_shift (s.only m) (rows (s.only m))) ≡ true
 unfolding depth
 only_shift k.If = refl
 only_shift _ = refl
 
-pub rows_shifted : (x : Symbol) → (odd x || rows_shift x (rows x)) ≡ true
+pub rows_shifted : (x : Symbol) → (is_never_stacked x || rows_shift x (rows x)) ≡ true
 unfolding depth
 rows_shifted (s.only m) = only_shift m
 rows_shifted _ = refl

@@ -3,18 +3,18 @@ use Rattle.std.proofs.Common.{◌≡◌, ℕ, ◌+◌, ◌-◌, Bool, true, fals
 use Rattle.std.proofs.Common.{List, [], ◌∷◌, ◌++◌, Option, Some, inl, inr, arith}
 use Rattle.std.proofs.lemmas.Bool.{eqb-true, and_from, false_from_ne_true, or_cases}
 use Rattle.aadl_tree.specs.declared.mark.Mark.TheVariants as k
-use Rattle.aadl_tree.specs.Terminals.{Kind, mark}
+use Rattle.aadl_tree.specs.Terminals.{PlainTerminal, mark}
 use Rattle.aadl_tree.specs.LanguagesAndNesting.{opened, is_end}
 use Rattle.aadl_grammar.specs.proof.GrammarSymbols.{the, Symbol, Row}
 use Rattle.aadl_grammar.specs.proof.GrammarSymbols as s
 use Rattle.aadl_grammar.specs.proof.ParseTable.{rows, can_omit}
 use Rattle.aadl_grammar.specs.proof.StackMachine.{Stack, Move, takes, omitted, refuses, class_number, kind_number, fits}
-use Rattle.aadl_grammar.specs.proof.StackMachine.{move, chosen, step, closes, depth}
+use Rattle.aadl_grammar.specs.proof.StackMachine.{move, chosen, stack_after, closes, depth}
 use Rattle.aadl_grammar.proofs.DerivationTrees.ForbiddenFollowers.{among, firsts}
 use Rattle.aadl_grammar.proofs.DerivationTrees.DerivationsAndMachineSteps.{Member, Goes, goes, member_first}
-use Rattle.aadl_grammar.proofs.DerivationTrees.TerminalContents.{Said, said}
+use Rattle.aadl_grammar.proofs.DerivationTrees.TerminalContents.{HasContent, said}
 use Rattle.aadl_grammar.proofs.Fates.ProductionNesting.{openers, closers, shift, shift_is, end_is, opened_same, closing}
-use Rattle.aadl_grammar.proofs.Fates.ProductionNesting.{odd, plain, blunt, closing_first, good, changes, row_shifts}
+use Rattle.aadl_grammar.proofs.Fates.ProductionNesting.{is_never_stacked, plain, begins_without_if, closing_first, good, changes, row_shifts}
 use Rattle.aadl_grammar.proofs.Fates.ProductionNesting.{rows_shift, rows_shifted, omits_close_nothing}
 use Rattle.std.specs.Cmp.{first_so, second_so}
 use Rattle.std.proofs.lemmas.Option.{same_Some}
@@ -31,14 +31,14 @@ depth_append (x ∷ f) below = let e = depth_append f below in omega arith
 plain_append : (f below : Stack) → plain f ≡ true → plain below ≡ true → plain (f ++ below) ≡ true
 plain_append [] below e h = h
 plain_append (x ∷ f) below e h =
-    and_from (not (odd x)) _ (first_so _ _ e) (plain_append f below (second_so (not (odd x)) _ e) h)
+    and_from (not (is_never_stacked x)) _ (first_so _ _ e) (plain_append f below (second_so (not (is_never_stacked x)) _ e) h)
 
 good_append : (ended : Bool) (f below : Stack) → good ended f ≡ true → plain below ≡ true
     → good ended (f ++ below) ≡ true
 good_append false f below e h = plain_append f below e h
 good_append true [] below e h = cc
 good_append true (x ∷ f) below e h =
-    and_from (closing x || blunt x) _ (first_so _ _ e) (plain_append f below (second_so (closing x || blunt x) _ e) h)
+    and_from (closing x || begins_without_if x) _ (first_so _ _ e) (plain_append f below (second_so (closing x || begins_without_if x) _ e) h)
 
 shift_by : (outer x before behind rest : ℕ) (a b : Bool)
     → cond a (behind == before + 1) (cond b (behind + 1 == before) (behind == before)) ≡ true
@@ -48,7 +48,7 @@ shift_by outer x before behind rest true b e = let h = eqb-true behind (before +
 shift_by outer x before behind rest false true e = let h = eqb-true (behind + 1) before e in omega arith
 shift_by outer x before behind rest false false e = let h = eqb-true behind before e in omega arith
 
-pub record Moved (outer : ℕ) (wanted next : Stack) (ended : Bool) (kind : Kind) : Type 0 where
+pub record Moved (outer : ℕ) (wanted next : Stack) (ended : Bool) (kind : PlainTerminal) : Type 0 where
   pub after : Good (is_end kind) next
   pub counts : opened (outer + depth wanted) ended kind ≡ outer + depth next
 
@@ -63,11 +63,11 @@ or_else true b e h = cc
 or_else false b e h = e
 
 -- a row of a symbol that is in a stack, where `end` does not stand before
-row_moved : (outer : ℕ) (x : Symbol) (below : Stack) (r : Row) (kind : Kind) → not (odd x) ≡ true → plain below ≡ true
+row_moved : (outer : ℕ) (x : Symbol) (below : Stack) (r : Row) (kind : PlainTerminal) → not (is_never_stacked x) ≡ true → plain below ≡ true
     → Member r (rows x) → fits r.first kind ≡ true → Moved outer (x ∷ below) (r.wanted ++ below) false kind
 unfolding depth
 row_moved outer x below r kind n p m e =
-    let row = row_of x r (rows x) m (or_else (odd x) _ (rows_shifted x) n) in
+    let row = row_of x r (rows x) m (or_else (is_never_stacked x) _ (rows_shifted x) n) in
     let number = eqb-true (kind_number kind) (class_number r.first) e in
     let ended : is_end kind ≡ (class_number r.first == class_number (the k.End)) = end_is kind
     ∙ ap (λ z. z == class_number (the k.End)) number in
@@ -86,8 +86,8 @@ row_moved outer x below r kind n p m e =
     }
 
 -- where `end` does not stand before
-by_move : (outer : ℕ) (x : Symbol) (below next : Stack) (kind : Kind) (y : Move) (later : Option Stack)
-    → Goes (rows x) (can_omit x) kind y → not (odd x) ≡ true → plain below ≡ true
+by_move : (outer : ℕ) (x : Symbol) (below next : Stack) (kind : PlainTerminal) (y : Move) (later : Option Stack)
+    → Goes (rows x) (can_omit x) kind y → not (is_never_stacked x) ≡ true → plain below ≡ true
     → (later ≡ Some next → Moved outer below next false kind) → chosen y below later ≡ Some next
     → Moved outer (x ∷ below) next false kind
 unfolding depth
@@ -101,13 +101,13 @@ by_move outer x below next kind omitted later o n p go h =
     record { after = more.after; counts = ap (λ z. opened (outer + z) false kind) same ∙ more.counts }
 by_move outer x below next kind refuses later g n p go h = absurd cc
 
-step_moves : (outer : ℕ) (wanted next : Stack) (kind : Kind) → plain wanted ≡ true → step wanted kind ≡ Some next
+step_moves : (outer : ℕ) (wanted next : Stack) (kind : PlainTerminal) → plain wanted ≡ true → stack_after wanted kind ≡ Some next
     → Moved outer wanted next false kind
-unfolding step move
+unfolding stack_after move
 step_moves outer [] next kind p e = absurd cc
 step_moves outer (x ∷ below) next kind p e =
-    let rest = second_so (not (odd x)) _ p in
-    by_move outer x below next kind (move x kind) (step below kind) (goes (rows x) (can_omit x) kind) (first_so _ _ p)
+    let rest = second_so (not (is_never_stacked x)) _ p in
+    by_move outer x below next kind (move x kind) (stack_after below kind) (goes (rows x) (can_omit x) kind) (first_so _ _ p)
     rest (λ h. step_moves outer below next kind rest h) e
 
 -- Behind `end`.
@@ -117,22 +117,22 @@ closing_is s.closing_if e = refl
 closing_is s.identifier e = absurd cc
 closing_is _ e = absurd cc
 
-closing_row : (y : Move) (kind : Kind) (below next : Stack) (later : Option Stack)
+closing_row : (y : Move) (kind : PlainTerminal) (below next : Stack) (later : Option Stack)
     → Goes (rows s.closing_if) false kind y → chosen y below later ≡ Some next → (kind ≡ mark k.If) × (below ≡ next)
 closing_row (takes f) kind below next later (r, inl m, e, w) h = (
-  Said.whole (said (the k.If) kind (ap (λ (q : Row). fits q.first kind) (sym m) ∙ e)),
+  HasContent.whole (said (the k.If) kind (ap (λ (q : Row). fits q.first kind) (sym m) ∙ e)),
   ap (λ (q : Row). q.wanted ++ below) (sym m) ∙ ap (λ z. z ++ below) w ∙ same_Some (f ++ below) next h,
 )
 closing_row (takes f) kind below next later (r, inr m, e, w) h = absurd m
 closing_row omitted kind below next later o h = cc
 closing_row refuses kind below next later g h = absurd cc
 
-closing_moves : (outer : ℕ) (below next : Stack) (kind : Kind) → plain below ≡ true
-    → step (s.closing_if ∷ below) kind ≡ Some next → Moved outer (s.closing_if ∷ below) next true kind
-unfolding step move depth
+closing_moves : (outer : ℕ) (below next : Stack) (kind : PlainTerminal) → plain below ≡ true
+    → stack_after (s.closing_if ∷ below) kind ≡ Some next → Moved outer (s.closing_if ∷ below) next true kind
+unfolding stack_after move depth
 closing_moves outer below next kind p e =
     let r =
-    closing_row (move s.closing_if kind) kind below next (step below kind)
+    closing_row (move s.closing_if kind) kind below next (stack_after below kind)
     (goes (rows s.closing_if) false kind) e in
     record {
       after = ap (λ z. good (is_end z) next) r.0 ∙ ap plain (sym r.1) ∙ p;
@@ -142,8 +142,8 @@ closing_moves outer below next kind p e =
           ∙ ap (λ z. outer + depth z) r.1;
     }
 
-blunt_move : (outer : ℕ) (x : Symbol) (below next : Stack) (kind : Kind) (y : Move) (later : Option Stack)
-    → Goes (rows x) (can_omit x) kind y → blunt x ≡ true → plain below ≡ true
+blunt_move : (outer : ℕ) (x : Symbol) (below next : Stack) (kind : PlainTerminal) (y : Move) (later : Option Stack)
+    → Goes (rows x) (can_omit x) kind y → begins_without_if x ≡ true → plain below ≡ true
     → chosen y below later ≡ Some next → Moved outer (x ∷ below) next true kind
 blunt_move outer x below next kind (takes f) later (r, m, e, w) b p h =
     let rest = second_so (not (can_omit x)) _ b in
@@ -163,21 +163,21 @@ blunt_move outer x below next kind (takes f) later (r, m, e, w) b p h =
 blunt_move outer x below next kind omitted later o b p h = absurd (not_both (can_omit x) (first_so _ _ b) o)
 blunt_move outer x below next kind refuses later g b p h = absurd cc
 
-ended_moves : (outer : ℕ) (wanted next : Stack) (kind : Kind) → closing_first wanted ≡ true
-    → step wanted kind ≡ Some next → Moved outer wanted next true kind
-unfolding step move
+ended_moves : (outer : ℕ) (wanted next : Stack) (kind : PlainTerminal) → closing_first wanted ≡ true
+    → stack_after wanted kind ≡ Some next → Moved outer wanted next true kind
+unfolding stack_after move
 ended_moves outer [] next kind g e = absurd cc
 ended_moves outer (x ∷ below) next kind g e =
-    let p = second_so (closing x || blunt x) _ g in
-    elim (or_cases (closing x) (blunt x) (first_so _ _ g)) [
+    let p = second_so (closing x || begins_without_if x) _ g in
+    elim (or_cases (closing x) (begins_without_if x) (first_so _ _ g)) [
       | inl i ↦ subst (λ (z : Symbol). Moved outer (z ∷ below) next true kind) (sym (closing_is x i))
-          (closing_moves outer below next kind p (ap (λ z. step (z ∷ below) kind) (sym (closing_is x i)) ∙ e))
-      | inr i ↦ blunt_move outer x below next kind (move x kind) (step below kind)
+          (closing_moves outer below next kind p (ap (λ z. stack_after (z ∷ below) kind) (sym (closing_is x i)) ∙ e))
+      | inr i ↦ blunt_move outer x below next kind (move x kind) (stack_after below kind)
           (goes (rows x) (can_omit x) kind) i p e
     ]
 
 -- a terminal changes the depth as it opens or closes
-pub step_depth : (outer : ℕ) (wanted next : Stack) (kind : Kind) (ended : Bool) → Good ended wanted
-    → step wanted kind ≡ Some next → Moved outer wanted next ended kind
+pub step_depth : (outer : ℕ) (wanted next : Stack) (kind : PlainTerminal) (ended : Bool) → Good ended wanted
+    → stack_after wanted kind ≡ Some next → Moved outer wanted next ended kind
 step_depth outer wanted next kind true g e = ended_moves outer wanted next kind g e
 step_depth outer wanted next kind false g e = step_moves outer wanted next kind g e

@@ -3,7 +3,7 @@
 use Rattle.std.proofs.Common.{ℕ, sym, List, [], ◌∷◌, ◌++◌, flat_map}
 use Rattle.aadl_tree.specs.declared.mark.Mark.TheVariants as k
 use Rattle.aadl_tree.specs.Terminals.{mark}
-use Rattle.aadl_tree.specs.SpellingParts.{Part, token, feature_section, subcomponent_section, connection_section}
+use Rattle.aadl_tree.specs.SpellingParts.{SpellingPart, token, feature_section, subcomponent_section, connection_section}
 use Rattle.aadl_tree.specs.SpellingParts.{property_section, parts_if, behind, chained}
 use Rattle.aadl_grammar.proofs.PlaceFilling.FilledTrees.{U, Fills, split, cut, cut_at, nil, joined, consed, list_fill}
 use Rattle.aadl_grammar.proofs.PlaceFilling.FilledTrees.{option_fill, chain_fill, sectioned, section_fill}
@@ -15,7 +15,7 @@ use Rattle.aadl_grammar.proofs.PlaceFilling.Names.{identifier_fill, name_fill, d
 use Rattle.aadl_grammar.proofs.PlaceFilling.Values.{associations_fill, properties_fill}
 use Rattle.aadl_grammar.proofs.PlaceFilling.Annexes.{annex_fill}
 
-abbrev chained_names : {P : Type 0} → d.With P → List (Part P)
+abbrev chained_names : {P : Type 0} → d.With P → List (SpellingPart P)
 chained_names t = chained k.Comma n.name_parts t.first t.rest
 
 pub feature_fill : Fills (d.Feature U) (d.Feature ℕ) d.feature_parts d.feature_parts

@@ -2,8 +2,8 @@
 use Rattle.std.proofs.Common.{◌≡◌, ℕ, ◌∙◌, sym, ap, ap₂, Bool, true, false, List, [], ◌∷◌, ◌++◌, flat_map, Option, Some}
 use Rattle.std.proofs.Common.{None, refl}
 use Rattle.aadl_tree.specs.declared.mark.Mark.{Mark}
-use Rattle.aadl_tree.specs.Terminals.{Kind, mark}
-use Rattle.aadl_tree.specs.SpellingParts.{Part, token, may, Extra, Section, section_mark, empty_section, marked_if}
+use Rattle.aadl_tree.specs.Terminals.{PlainTerminal, mark}
+use Rattle.aadl_tree.specs.SpellingParts.{SpellingPart, token, may, Extra, Section, section_mark, empty_section, marked_if}
 use Rattle.aadl_tree.specs.SpellingParts.{parts_if, behind}
 use Rattle.aadl_tree.specs.Declarations.{section_parts}
 
@@ -17,21 +17,21 @@ AreAsMany (p ∷ ps) (u ∷ us) = AreAsMany ps us
 AreAsMany _ _ = ⊥
 
 -- the same parts, with places
-abbrev pub Like : List (Part ℕ) → List (Part U) → Type 0
+abbrev pub Like : List (SpellingPart ℕ) → List (SpellingPart U) → Type 0
 Like [] [] = Unit {0}
 Like (token kind ps ∷ b) (token its us ∷ c) = (kind ≡ its) × AreAsMany ps us × Like b c
 Like (may extra ∷ b) (may its ∷ c) = (extra ≡ its) × Like b c
 Like _ _ = ⊥
 
 -- ---- pieces
-pub record Split (b : List (Part ℕ)) (c d : List (Part U)) : Type 0 where
-  pub front : List (Part ℕ)
-  pub back : List (Part ℕ)
+pub record Split (b : List (SpellingPart ℕ)) (c d : List (SpellingPart U)) : Type 0 where
+  pub front : List (SpellingPart ℕ)
+  pub back : List (SpellingPart ℕ)
   pub is : b ≡ front ++ back
   pub first : Like front c
   pub second : Like back d
 
-pub split : (c d : List (Part U)) (b : List (Part ℕ)) → Like b (c ++ d) → Split b c d
+pub split : (c d : List (SpellingPart U)) (b : List (SpellingPart ℕ)) → Like b (c ++ d) → Split b c d
 split [] d b l = record { front = []; back = b; is = refl; first = tt; second = l }
 split (token kind us ∷ c) d [] l = absurd l
 split (token kind us ∷ c) d (token its ps ∷ b) (e, z, l) =
@@ -39,7 +39,7 @@ split (token kind us ∷ c) d (token its ps ∷ b) (e, z, l) =
     record {
       front = token its ps ∷ s.front;
       back = s.back;
-      is = ap (λ (x : List (Part ℕ)). token its ps ∷ x) s.is;
+      is = ap (λ (x : List (SpellingPart ℕ)). token its ps ∷ x) s.is;
       first = (e, z, s.first);
       second = s.second;
     }
@@ -51,66 +51,66 @@ split (may extra ∷ c) d (may its ∷ b) (e, l) =
     record {
       front = may its ∷ s.front;
       back = s.back;
-      is = ap (λ (x : List (Part ℕ)). may its ∷ x) s.is;
+      is = ap (λ (x : List (SpellingPart ℕ)). may its ∷ x) s.is;
       first = (e, s.first);
       second = s.second;
     }
 
 -- behind one part
-pub record Behind (b : List (Part ℕ)) (p : Part ℕ) (d : List (Part U)) : Type 0 where
-  pub back : List (Part ℕ)
+pub record Behind (b : List (SpellingPart ℕ)) (p : SpellingPart ℕ) (d : List (SpellingPart U)) : Type 0 where
+  pub back : List (SpellingPart ℕ)
   pub is : b ≡ p ∷ back
   pub rest : Like back d
 
-pub cut : (kind : Kind) (d : List (Part U)) (b : List (Part ℕ)) → Like b (token kind [] ∷ d)
+pub cut : (kind : PlainTerminal) (d : List (SpellingPart U)) (b : List (SpellingPart ℕ)) → Like b (token kind [] ∷ d)
     → Behind b (token kind []) d
 cut kind d [] l = absurd l
 cut kind d (token its [] ∷ b) (e, z, l) =
-    record { back = b; is = ap (λ (x : Kind). let r : List (Part ℕ) = token x [] ∷ b in r) e; rest = l }
+    record { back = b; is = ap (λ (x : PlainTerminal). let r : List (SpellingPart ℕ) = token x [] ∷ b in r) e; rest = l }
 cut kind d (token its (p ∷ ps) ∷ b) (e, z, l) = absurd z
 cut kind d (may its ∷ b) l = absurd l
 
-pub record BehindAt (b : List (Part ℕ)) (kind : Kind) (d : List (Part U)) : Type 0 where
+pub record BehindAt (b : List (SpellingPart ℕ)) (kind : PlainTerminal) (d : List (SpellingPart U)) : Type 0 where
   pub at : ℕ
-  pub back : List (Part ℕ)
+  pub back : List (SpellingPart ℕ)
   pub is : b ≡ token kind (at ∷ []) ∷ back
   pub rest : Like back d
 
-pub cut_at : (kind : Kind) (u : U) (d : List (Part U)) (b : List (Part ℕ)) → Like b (token kind (u ∷ []) ∷ d)
+pub cut_at : (kind : PlainTerminal) (u : U) (d : List (SpellingPart U)) (b : List (SpellingPart ℕ)) → Like b (token kind (u ∷ []) ∷ d)
     → BehindAt b kind d
 cut_at kind u d [] l = absurd l
 cut_at kind u d (token its [] ∷ b) (e, z, l) = absurd z
 cut_at kind u d (token its (p ∷ []) ∷ b) (e, z, l) =
-    record { at = p; back = b; is = ap (λ (x : Kind). let r : List (Part ℕ) = token x (p ∷ []) ∷ b in r) e; rest = l }
+    record { at = p; back = b; is = ap (λ (x : PlainTerminal). let r : List (SpellingPart ℕ) = token x (p ∷ []) ∷ b in r) e; rest = l }
 cut_at kind u d (token its (p ∷ q ∷ ps) ∷ b) (e, z, l) = absurd z
 cut_at kind u d (may its ∷ b) l = absurd l
 
-pub cut_may : (extra : Extra) (d : List (Part U)) (b : List (Part ℕ)) → Like b (may extra ∷ d) → Behind b (may extra) d
+pub cut_may : (extra : Extra) (d : List (SpellingPart U)) (b : List (SpellingPart ℕ)) → Like b (may extra ∷ d) → Behind b (may extra) d
 cut_may extra d [] l = absurd l
 cut_may extra d (token its ps ∷ b) l = absurd l
 cut_may extra d (may its ∷ b) (e, l) =
-    record { back = b; is = ap (λ (x : Extra). let r : List (Part ℕ) = may x ∷ b in r) e; rest = l }
+    record { back = b; is = ap (λ (x : Extra). let r : List (SpellingPart ℕ) = may x ∷ b in r) e; rest = l }
 
-pub nil : (b : List (Part ℕ)) → Like b [] → b ≡ []
+pub nil : (b : List (SpellingPart ℕ)) → Like b [] → b ≡ []
 nil [] l = refl
 nil (token its ps ∷ b) l = absurd l
 nil (may its ∷ b) l = absurd l
 
-pub joined : {a b c d w : List (Part ℕ)} → a ≡ c → b ≡ d → w ≡ c ++ d → a ++ b ≡ w
-joined e f h = ap₂ (λ (x y : List (Part ℕ)). x ++ y) e f ∙ sym h
+pub joined : {a b c d w : List (SpellingPart ℕ)} → a ≡ c → b ≡ d → w ≡ c ++ d → a ++ b ≡ w
+joined e f h = ap₂ (λ (x y : List (SpellingPart ℕ)). x ++ y) e f ∙ sym h
 
-pub consed : {p : Part ℕ} {b d w : List (Part ℕ)} → b ≡ d → w ≡ p ∷ d → p ∷ b ≡ w
-consed {p = p} e h = ap (λ (x : List (Part ℕ)). p ∷ x) e ∙ sym h
+pub consed : {p : SpellingPart ℕ} {b d w : List (SpellingPart ℕ)} → b ≡ d → w ≡ p ∷ d → p ∷ b ≡ w
+consed {p = p} e h = ap (λ (x : List (SpellingPart ℕ)). p ∷ x) e ∙ sym h
 
 -- ---- a tree of given parts
-pub record Filled (B : Type 0) (pb : B → List (Part ℕ)) (b : List (Part ℕ)) : Type 0 where
+pub record Filled (B : Type 0) (pb : B → List (SpellingPart ℕ)) (b : List (SpellingPart ℕ)) : Type 0 where
   pub tree : B
   pub is : pb tree ≡ b
 
-abbrev pub Fills : (A B : Type 0) → (A → List (Part U)) → (B → List (Part ℕ)) → Type 0
-Fills A B pa pb = (t : A) (b : List (Part ℕ)) → Like b (pa t) → Filled B pb b
+abbrev pub Fills : (A B : Type 0) → (A → List (SpellingPart U)) → (B → List (SpellingPart ℕ)) → Type 0
+Fills A B pa pb = (t : A) (b : List (SpellingPart ℕ)) → Like b (pa t) → Filled B pb b
 
-pub list_fill : {A B : Type 0} (pa : A → List (Part U)) (pb : B → List (Part ℕ)) → Fills A B pa pb
+pub list_fill : {A B : Type 0} (pa : A → List (SpellingPart U)) (pb : B → List (SpellingPart ℕ)) → Fills A B pa pb
     → Fills (List A) (List B) (flat_map pa) (flat_map pb)
 list_fill pa pb f [] b l = record { tree = []; is = sym (nil b l) }
 list_fill pa pb f (t ∷ ts) b l =
@@ -119,7 +119,7 @@ list_fill pa pb f (t ∷ ts) b l =
     let q = list_fill pa pb f ts s.back s.second in
     record { tree = r.tree ∷ q.tree; is = joined r.is q.is s.is }
 
-pub chain_fill : {A B : Type 0} (m : Mark) (pa : A → List (Part U)) (pb : B → List (Part ℕ)) → Fills A B pa pb
+pub chain_fill : {A B : Type 0} (m : Mark) (pa : A → List (SpellingPart U)) (pb : B → List (SpellingPart ℕ)) → Fills A B pa pb
     → Fills (List A) (List B) (flat_map (behind m pa)) (flat_map (behind m pb))
 chain_fill m pa pb f [] b l = record { tree = []; is = sym (nil b l) }
 chain_fill m pa pb f (t ∷ ts) b l =
@@ -129,7 +129,7 @@ chain_fill m pa pb f (t ∷ ts) b l =
     let q = chain_fill m pa pb f ts s.back s.second in
     record { tree = r.tree ∷ q.tree; is = consed (joined r.is q.is s.is) c.is }
 
-pub option_fill : {A B : Type 0} (pa : A → List (Part U)) (pb : B → List (Part ℕ)) → Fills A B pa pb
+pub option_fill : {A B : Type 0} (pa : A → List (SpellingPart U)) (pb : B → List (SpellingPart ℕ)) → Fills A B pa pb
     → Fills (Option A) (Option B) (parts_if pa) (parts_if pb)
 option_fill pa pb f None b l = record { tree = None; is = sym (nil b l) }
 option_fill pa pb f (Some t) b l = let r = f t b l in record { tree = Some r.tree; is = r.is }
@@ -140,18 +140,18 @@ marked_fill m true b l = let c = cut (mark m) [] b l in
 marked_fill m false b l = record { tree = false; is = sym (nil b l) }
 
 -- ---- sections
-abbrev pub sectioned : {P A : Type 0} → Section → (A → List (Part P)) → A → List (Part P)
+abbrev pub sectioned : {P A : Type 0} → Section → (A → List (SpellingPart P)) → A → List (SpellingPart P)
 sectioned section parts t = section_parts section (parts t)
 
-some_section : (section : Section) (q : Part U) (qs : List (Part U)) (b : List (Part ℕ)) → Like b (q ∷ qs)
+some_section : (section : Section) (q : SpellingPart U) (qs : List (SpellingPart U)) (b : List (SpellingPart ℕ)) → Like b (q ∷ qs)
     → section_parts section b ≡ token (mark (section_mark section)) [] ∷ b
 some_section section (token kind us) qs [] l = absurd l
 some_section section (may extra) qs [] l = absurd l
 some_section section q qs (p ∷ b) l = refl
 
-by_section : {B : Type 0} (section : Section) (pb : B → List (Part ℕ)) (ps : List (Part U))
-    → ((b : List (Part ℕ)) → Like b ps → Filled B pb b)
-    → (b : List (Part ℕ)) → Like b (section_parts section ps) → Filled B (sectioned section pb) b
+by_section : {B : Type 0} (section : Section) (pb : B → List (SpellingPart ℕ)) (ps : List (SpellingPart U))
+    → ((b : List (SpellingPart ℕ)) → Like b ps → Filled B pb b)
+    → (b : List (SpellingPart ℕ)) → Like b (section_parts section ps) → Filled B (sectioned section pb) b
 by_section section pb [] f b l =
     let c = cut_may (empty_section section) [] b l in
     let r = f [] tt in
@@ -161,6 +161,6 @@ by_section section pb (q ∷ qs) f b l =
     let r = f c.back c.rest in
     record { tree = r.tree; is = ap (section_parts section) r.is ∙ some_section section q qs c.back c.rest ∙ sym c.is }
 
-pub section_fill : {A B : Type 0} (section : Section) (pa : A → List (Part U)) (pb : B → List (Part ℕ))
+pub section_fill : {A B : Type 0} (section : Section) (pa : A → List (SpellingPart U)) (pb : B → List (SpellingPart ℕ))
     → Fills A B pa pb → Fills A B (sectioned section pa) (sectioned section pb)
 section_fill section pa pb f t b l = by_section section pb (pa t) (f t) b l

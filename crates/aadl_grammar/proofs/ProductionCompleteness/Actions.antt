@@ -2,7 +2,7 @@
 -- the proof that a text has one tree.
 use Rattle.std.proofs.Common.{ℤ, Bool, true, false, sym, refl, List, [], ◌∷◌, append_assoc, inl, inr}
 use Rattle.std.proofs.lemmas.List.{append-nil}
-use Rattle.aadl_tree.specs.Terminals.{Kind}
+use Rattle.aadl_tree.specs.Terminals.{PlainTerminal}
 use Rattle.aadl_tree.specs.SpellingParts.{may, last_semicolon, Spells}
 use Rattle.aadl_tree.specs.Names as n
 use Rattle.aadl_tree.specs.Actions as a
@@ -24,7 +24,7 @@ test_opens t ks rest (more, e, sp) = inl (uses tt (t, (tt, tt)) more e sp)
 pub whole_number_opens : Opens s.whole_number whole_number_builders
 whole_number_opens t ks rest (more, e, sp) = inl (uses t tt more e sp)
 
-bound_by : (b : Bool) (z : ℤ) (ks rest : List Kind)
+bound_by : (b : Bool) (z : ℤ) (ks rest : List PlainTerminal)
     → Spells (parts s.bound (record { negative = b; value = z })) ks rest
     → InRows s.bound (rows s.bound) bound_builders (record { negative = b; value = z }) ks rest
 bound_by false z ks rest (more, e, sp) = inl (uses z tt more e sp)

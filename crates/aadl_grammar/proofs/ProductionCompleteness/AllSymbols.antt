@@ -1,12 +1,12 @@
 -- All symbols together: each tree of a symbol that terminals spell is built by one of its rows, or the symbol is
 -- left out, and nothing spells its tree then.
 use Rattle.std.proofs.Common.{◌≡◌, ◌⊎◌, Bool, true, false, refl, List, inl}
-use Rattle.aadl_tree.specs.Terminals.{Kind}
+use Rattle.aadl_tree.specs.Terminals.{PlainTerminal}
 use Rattle.aadl_tree.specs.SpellingParts.{Spells}
 use Rattle.aadl_grammar.specs.proof.GrammarSymbols.{Symbol}
 use Rattle.aadl_grammar.specs.proof.GrammarSymbols as s
 use Rattle.aadl_grammar.specs.proof.ParseTable.{rows, can_omit}
-use Rattle.aadl_grammar.specs.proof.SymbolTrees.{U, TreeOf, parts}
+use Rattle.aadl_grammar.specs.proof.SymbolTrees.{NoPlace, TreeOf, parts}
 use Rattle.aadl_grammar.proofs.DerivationTrees.TreeBuilders.{AllGive, InRows, uses}
 use Rattle.aadl_grammar.proofs.ProductionTrees.AllSymbols.{builders, Empty, empty}
 use Rattle.aadl_grammar.proofs.ProductionSoundness.NamesAndValues.{only_give, identifier_give, name_give, names_give}
@@ -83,14 +83,14 @@ use Rattle.aadl_grammar.proofs.ProductionCompleteness.Declarations.{declarations
 use Rattle.aadl_grammar.proofs.ProductionCompleteness.Declarations.{a_package_opens}
 
 -- the symbol is left out
-abbrev pub Omitted : (b : Bool) (y : Symbol) → Empty b y → TreeOf y → List Kind → List Kind → Type 0
+abbrev pub Omitted : (b : Bool) (y : Symbol) → Empty b y → TreeOf y → List PlainTerminal → List PlainTerminal → Type 0
 Omitted true y e t ks rest = (t ≡ e) × (ks ≡ rest)
 Omitted false y e t ks rest = ⊥
 
-abbrev pub Opened : (y : Symbol) → TreeOf y → List Kind → List Kind → Type 0
+abbrev pub Opened : (y : Symbol) → TreeOf y → List PlainTerminal → List PlainTerminal → Type 0
 Opened y t ks rest = InRows y (rows y) (builders y) t ks rest ⊎ Omitted (can_omit y) y (empty y) t ks rest
 
-pub opens : (y : Symbol) (t : TreeOf y) (ks rest : List Kind) → Spells (parts y t) ks rest → Opened y t ks rest
+pub opens : (y : Symbol) (t : TreeOf y) (ks rest : List PlainTerminal) → Spells (parts y t) ks rest → Opened y t ks rest
 opens (s.only m) t ks rest (more, e, sp) = inl (inl (uses tt tt more e sp))
 opens s.identifier t ks rest sp = inl (identifier_opens t ks rest sp)
 opens s.name t ks rest sp = inl (name_opens t ks rest sp)
@@ -292,8 +292,8 @@ all_give s.a_package = a_package_give
 
 -- nothing spells the tree of a symbol that is left out
 abbrev pub Nothing : (b : Bool) (y : Symbol) → Empty b y → Type 0
-Nothing true y e = (ks : List Kind) → Spells (parts y e) ks ks
-Nothing false y e = U
+Nothing true y e = (ks : List PlainTerminal) → Spells (parts y e) ks ks
+Nothing false y e = NoPlace
 
 pub nothing : (y : Symbol) → Nothing (can_omit y) y (empty y)
 nothing s.names = λ ks. refl

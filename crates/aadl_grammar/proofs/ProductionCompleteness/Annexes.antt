@@ -3,14 +3,14 @@
 use Rattle.std.proofs.Common.{true, false, sym, refl, List, [], ◌∷◌, ◌++◌, Option, Some, None, append_assoc, inl, inr}
 use Rattle.std.proofs.lemmas.List.{append-nil}
 use Rattle.aadl_tree.specs.declared.mark.Mark.TheVariants as k
-use Rattle.aadl_tree.specs.Terminals.{Kind}
+use Rattle.aadl_tree.specs.Terminals.{PlainTerminal}
 use Rattle.aadl_tree.specs.SpellingParts.{Spells, plain, parts_if}
 use Rattle.aadl_tree.specs.Names as n
 use Rattle.aadl_tree.specs.Actions as a
 use Rattle.aadl_tree.specs.Annexes as x
 use Rattle.aadl_grammar.specs.proof.GrammarSymbols as s
 use Rattle.aadl_grammar.specs.proof.ParseTable.{rows}
-use Rattle.aadl_grammar.specs.proof.SymbolTrees.{U, parts}
+use Rattle.aadl_grammar.specs.proof.SymbolTrees.{NoPlace, parts}
 use Rattle.aadl_grammar.proofs.DerivationTrees.TreeBuilders.{respell, InRows, behind_opens, uses, Opens, OpensOr}
 use Rattle.aadl_grammar.proofs.ProductionTrees.Expressions.{expression_builders}
 use Rattle.aadl_grammar.proofs.ProductionTrees.Actions.{block_builders}
@@ -83,8 +83,8 @@ effect_opens (Some x) ks rest sp =
     inl (behind_opens s.effect s.block [] (rows s.block) effect_joins block_builders x tt ks rest (block_opens x ks)
     (respell _ _ ks rest (sym (append-nil (parts s.block x))) sp))
 
-transition_by : (y : Option (n.Identifier U)) (first : n.Identifier U) (g : Option (x.Guard U))
-    (target : n.Identifier U) (effect : Option (a.Block U)) (ks rest : List Kind)
+transition_by : (y : Option (n.Identifier NoPlace)) (first : n.Identifier NoPlace) (g : Option (x.Guard NoPlace))
+    (target : n.Identifier NoPlace) (effect : Option (a.Block NoPlace)) (ks rest : List PlainTerminal)
     → Spells (parts s.transition (record { label = y; source = first; guard = g; target = target; effect = effect })) ks
     rest → InRows s.transition (rows s.transition) transition_builders
     (record { label = y; source = first; guard = g; target = target; effect = effect }) ks rest

@@ -6,7 +6,7 @@ use Rattle.aadl_tree.specs.declared.mark.Mark.TheVariants as k
 use Rattle.aadl_tree.specs.declared.declarations.Category.{Category}
 use Rattle.aadl_tree.specs.declared.declarations.Category.TheVariants as categories
 use Rattle.aadl_tree.specs.declared.declarations.Direction.TheVariants as directions
-use Rattle.aadl_tree.specs.Terminals.{Kind, mark}
+use Rattle.aadl_tree.specs.Terminals.{PlainTerminal, mark}
 use Rattle.aadl_tree.specs.SpellingParts.{token, Spells}
 use Rattle.aadl_tree.specs.SpellingParts as p
 use Rattle.aadl_tree.specs.Names as n
@@ -14,7 +14,7 @@ use Rattle.aadl_tree.specs.Values as v
 use Rattle.aadl_tree.specs.Declarations as d
 use Rattle.aadl_grammar.specs.proof.GrammarSymbols as s
 use Rattle.aadl_grammar.specs.proof.ParseTable.{rows}
-use Rattle.aadl_grammar.specs.proof.SymbolTrees.{U, Rest, type_rest, implementation_rest, declaration_of}
+use Rattle.aadl_grammar.specs.proof.SymbolTrees.{NoPlace, DeclarationRest, type_rest, implementation_rest, declaration_of}
 use Rattle.aadl_grammar.specs.proof.SymbolTrees.{rest_parts, parts}
 use Rattle.aadl_grammar.proofs.DerivationTrees.TreeBuilders.{respell, InRows, behind_opens, uses, Opens, OpensOr}
 use Rattle.aadl_grammar.proofs.ProductionTrees.NamesAndValues.{reference_builders, association_builders}
@@ -182,7 +182,7 @@ after_category_opens (type_rest x f q y z) ks rest (more, e, sp) =
 after_category_opens (implementation_rest x f c q y z) ks rest (more, e, sp) =
     inr (inl (uses tt (x, (f, (c, (q, (y, (z, tt)))))) more e sp))
 
-declaration_by : (c : Category) (y : Rest) (z : List (d.Declaration U)) (ks rest : List Kind)
+declaration_by : (c : Category) (y : DeclarationRest) (z : List (d.Declaration NoPlace)) (ks rest : List PlainTerminal)
     → Spells (token (mark (d.category_mark c)) [] ∷ (rest_parts y ++ flat_map d.declaration_parts z)) ks rest
     → InRows s.declarations (rows s.declarations) declarations_builders (declaration_of c y ∷ z) ks rest
 declaration_by categories.System y z ks rest (more, e, sp) = inl (uses tt (y, (z, tt)) more e sp)

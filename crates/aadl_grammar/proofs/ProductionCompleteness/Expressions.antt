@@ -8,12 +8,12 @@ use Rattle.aadl_tree.specs.declared.expressions.LogicOperator.TheVariants as log
 use Rattle.aadl_tree.specs.declared.expressions.RelationOperator.{RelationOperator}
 use Rattle.aadl_tree.specs.declared.expressions.RelationOperator.TheVariants as compare
 use Rattle.aadl_tree.specs.declared.expressions.MultiplyOperator.TheVariants as multiply
-use Rattle.aadl_tree.specs.Terminals.{Kind}
+use Rattle.aadl_tree.specs.Terminals.{PlainTerminal}
 use Rattle.aadl_tree.specs.SpellingParts.{Spells}
 use Rattle.aadl_tree.specs.Expressions as e
 use Rattle.aadl_grammar.specs.proof.GrammarSymbols as s
 use Rattle.aadl_grammar.specs.proof.ParseTable.{rows}
-use Rattle.aadl_grammar.specs.proof.SymbolTrees.{U, parts}
+use Rattle.aadl_grammar.specs.proof.SymbolTrees.{NoPlace, parts}
 use Rattle.aadl_grammar.proofs.DerivationTrees.TreeBuilders.{respell, InRows, behind_opens, uses, Opens, OpensOr}
 use Rattle.aadl_grammar.proofs.ProductionTrees.Expressions.{primary_builders, fresh_builders, factor_builders}
 use Rattle.aadl_grammar.proofs.ProductionTrees.Expressions.{factor_joins, term_builders, term_joins, factors_builders}
@@ -53,7 +53,7 @@ factors_opens (e.factor multiply.Mod x y) ks rest (more, e, sp) = inl (inr (inr 
 factors_opens (e.factor multiply.Rem x y) ks rest (more, e, sp) =
     inl (inr (inr (inr (inl (uses tt (x, (y, tt)) more e sp)))))
 
-sum_signed : (sign : Sign) (x : e.Term U) (y : e.Terms U) (ks rest : List Kind)
+sum_signed : (sign : Sign) (x : e.Term NoPlace) (y : e.Terms NoPlace) (ks rest : List PlainTerminal)
     → Spells (parts s.sum (e.total (Some (record { at = tt; sign = sign })) x y)) ks rest
     → InRows s.sum (rows s.sum) sum_builders (e.total (Some (record { at = tt; sign = sign })) x y) ks rest
 sum_signed signs.Plus x y ks rest (more, e, sp) = inl (uses tt (x, (y, tt)) more e sp)
@@ -70,7 +70,7 @@ terms_opens e.no_terms ks rest e = inr (refl, e)
 terms_opens (e.add signs.Plus x y) ks rest (more, e, sp) = inl (inl (uses tt (x, (y, tt)) more e sp))
 terms_opens (e.add signs.Minus x y) ks rest (more, e, sp) = inl (inr (inl (uses tt (x, (y, tt)) more e sp)))
 
-compared_by : (o : RelationOperator) (x : e.Sum U) (ks rest : List Kind)
+compared_by : (o : RelationOperator) (x : e.Sum NoPlace) (ks rest : List PlainTerminal)
     → Spells (parts s.compared (Some (o, x))) ks rest
     → InRows s.compared (rows s.compared) compared_builders (Some (o, x)) ks rest
 compared_by compare.Equal x ks rest (more, e, sp) = inl (uses tt (x, tt) more e sp)

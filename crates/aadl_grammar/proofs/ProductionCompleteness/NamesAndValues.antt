@@ -5,13 +5,13 @@ use Rattle.aadl_tree.specs.declared.mark.Mark.TheVariants as k
 use Rattle.aadl_tree.specs.declared.expressions.Sign.{Sign}
 use Rattle.aadl_tree.specs.declared.expressions.Sign.TheVariants as signs
 use Rattle.aadl_tree.specs.declared.values.AssociationOperator.TheVariants as operators
-use Rattle.aadl_tree.specs.Terminals.{Kind}
+use Rattle.aadl_tree.specs.Terminals.{PlainTerminal}
 use Rattle.aadl_tree.specs.SpellingParts.{Spells, plain}
 use Rattle.aadl_tree.specs.Names as n
 use Rattle.aadl_tree.specs.Values as v
 use Rattle.aadl_grammar.specs.proof.GrammarSymbols as s
 use Rattle.aadl_grammar.specs.proof.ParseTable.{rows}
-use Rattle.aadl_grammar.specs.proof.SymbolTrees.{U, parts}
+use Rattle.aadl_grammar.specs.proof.SymbolTrees.{NoPlace, parts}
 use Rattle.aadl_grammar.proofs.DerivationTrees.ReferencesByFirstWord.{chain_of}
 use Rattle.aadl_grammar.proofs.DerivationTrees.TreeBuilders.{respell, InRows, behind_opens, uses, Opens, OpensOr}
 use Rattle.aadl_grammar.proofs.ProductionTrees.NamesAndValues.{identifier_builders, name_builders, names_builders}
@@ -71,7 +71,7 @@ pub unit_opens : OpensOr s.unit unit_builders None
 unit_opens None ks rest e = inr (refl, e)
 unit_opens (Some x) ks rest (more, e, sp) = inl (inl (uses x.spelling tt more e sp))
 
-quantity_by : (sign : Option Sign) (g : v.UnsignedNumber) (u : Option (n.Identifier U)) (ks rest : List Kind)
+quantity_by : (sign : Option Sign) (g : v.UnsignedNumber) (u : Option (n.Identifier NoPlace)) (ks rest : List PlainTerminal)
     → Spells (parts s.quantity (record { number = record { sign = sign; figure = g }; unit = u })) ks rest
     → InRows s.quantity (rows s.quantity) quantity_builders
     (record { number = record { sign = sign; figure = g }; unit = u }) ks rest

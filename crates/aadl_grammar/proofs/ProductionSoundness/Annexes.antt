@@ -3,14 +3,14 @@
 use Rattle.std.proofs.Common.{◌≡◌, ℕ, sym, refl, List, [], ◌∷◌, ◌++◌, Option, Some, None, append_assoc}
 use Rattle.std.proofs.lemmas.List.{append-nil}
 use Rattle.aadl_tree.specs.declared.mark.Mark.TheVariants as k
-use Rattle.aadl_tree.specs.Terminals.{Kind, word}
-use Rattle.aadl_tree.specs.SpellingParts.{Part, Spells, plain, parts_if}
+use Rattle.aadl_tree.specs.Terminals.{PlainTerminal, word}
+use Rattle.aadl_tree.specs.SpellingParts.{SpellingPart, Spells, plain, parts_if}
 use Rattle.aadl_tree.specs.Names as n
 use Rattle.aadl_tree.specs.Actions as a
 use Rattle.aadl_tree.specs.Annexes as x
 use Rattle.aadl_grammar.specs.proof.GrammarSymbols as s
 use Rattle.aadl_grammar.specs.proof.ParseTable.{rows}
-use Rattle.aadl_grammar.specs.proof.SymbolTrees.{U, id, after_word_parts, transition_of, parts}
+use Rattle.aadl_grammar.specs.proof.SymbolTrees.{NoPlace, identifier_of, after_word_parts, transition_of, parts}
 use Rattle.aadl_grammar.proofs.DerivationTrees.TreeBuilders.{respell, AllGive, behind_give}
 use Rattle.aadl_grammar.proofs.ProductionTrees.Expressions.{expression_builders}
 use Rattle.aadl_grammar.proofs.ProductionTrees.Actions.{block_builders}
@@ -25,11 +25,11 @@ use Rattle.aadl_grammar.proofs.ProductionTrees.Annexes.{annex_builders, annexes_
 use Rattle.aadl_grammar.proofs.ProductionSoundness.Expressions.{expression_give}
 use Rattle.aadl_grammar.proofs.ProductionSoundness.Actions.{block_give}
 
-transition_gives : (w : List ℕ) (y : Option (n.Identifier U) × Option (x.Guard U)) (target : n.Identifier U)
-    (effect : Option (a.Block U)) (ks rest : List Kind)
+transition_gives : (w : List ℕ) (y : Option (n.Identifier NoPlace) × Option (x.Guard NoPlace)) (target : n.Identifier NoPlace)
+    (effect : Option (a.Block NoPlace)) (ks rest : List PlainTerminal)
     → Spells (after_word_parts y
     ++ (n.identifier_parts target ++ (parts_if a.block_parts effect ++ plain k.Semicolon ∷ []))) ks rest
-    → Spells (x.transition_parts (transition_of (id w) y target effect)) (word w ∷ ks) rest
+    → Spells (x.transition_parts (transition_of (identifier_of w) y target effect)) (word w ∷ ks) rest
 transition_gives w (None, g) target effect ks rest (m, i, sp) = (
   ks,
   refl,
@@ -61,7 +61,7 @@ transition_gives w (Some y, g) target effect ks rest (l, f, (q, h, (m, i, sp))) 
   ),
 )
 
-pub body_same : (q r t c : List (Part U)) → q ++ (r ++ (t ++ c)) ≡ (q ++ (r ++ t)) ++ c
+pub body_same : (q r t c : List (SpellingPart NoPlace)) → q ++ (r ++ (t ++ c)) ≡ (q ++ (r ++ t)) ++ c
 body_same q r t c = sym (simp append_assoc)
 
 pub variable_give : AllGive s.variable (rows s.variable) variable_builders

@@ -4,12 +4,12 @@ use Rattle.std.proofs.Common.{◌≡◌, Bool, true, false, refl, List, [], ◌�
 use Rattle.std.proofs.lemmas.List.{append-nil}
 use Rattle.aadl_tree.specs.declared.mark.Mark.TheVariants as k
 use Rattle.aadl_tree.specs.declared.expressions.RelationOperator.{RelationOperator}
-use Rattle.aadl_tree.specs.Terminals.{Kind, mark}
+use Rattle.aadl_tree.specs.Terminals.{PlainTerminal, mark}
 use Rattle.aadl_tree.specs.SpellingParts.{Spells}
 use Rattle.aadl_tree.specs.Expressions as e
 use Rattle.aadl_grammar.specs.proof.GrammarSymbols as s
 use Rattle.aadl_grammar.specs.proof.ParseTable.{rows}
-use Rattle.aadl_grammar.specs.proof.SymbolTrees.{U, compared_parts, relation_of, after_parts, and_join}
+use Rattle.aadl_grammar.specs.proof.SymbolTrees.{NoPlace, compared_parts, relation_of, after_parts, and_join}
 use Rattle.aadl_grammar.specs.proof.SymbolTrees.{or_join}
 use Rattle.aadl_grammar.proofs.DerivationTrees.TreeBuilders.{AllGive, behind_give}
 use Rattle.aadl_grammar.proofs.ProductionTrees.Expressions.{primary_builders, fresh_builders, factor_builders}
@@ -19,18 +19,18 @@ use Rattle.aadl_grammar.proofs.ProductionTrees.Expressions.{relation_builders, r
 use Rattle.aadl_grammar.proofs.ProductionTrees.Expressions.{after_and_builders, after_and_joins, after_or_builders}
 use Rattle.aadl_grammar.proofs.ProductionTrees.Expressions.{after_or_joins, expression_builders, expression_joins}
 
-relation_same : (u : e.Sum U) (c : Option (RelationOperator × e.Sum U))
+relation_same : (u : e.Sum NoPlace) (c : Option (RelationOperator × e.Sum NoPlace))
     → e.sum_parts u ++ compared_parts c ≡ e.relation_parts (relation_of u c)
 relation_same u None = append-nil _
 relation_same u (Some c) = refl
 
-and_gives : (y : Bool × e.Relation U) (z : e.Relations U) (ks rest : List Kind)
+and_gives : (y : Bool × e.Relation NoPlace) (z : e.Relations NoPlace) (ks rest : List PlainTerminal)
     → Spells (after_parts k.Then y ++ e.relations_parts z) ks rest
     → Spells (e.relations_parts (and_join y z)) (mark k.And ∷ ks) rest
 and_gives (true, y) z ks rest sp = (ks, refl, sp)
 and_gives (false, y) z ks rest sp = (ks, refl, sp)
 
-or_gives : (y : Bool × e.Relation U) (z : e.Relations U) (ks rest : List Kind)
+or_gives : (y : Bool × e.Relation NoPlace) (z : e.Relations NoPlace) (ks rest : List PlainTerminal)
     → Spells (after_parts k.Else y ++ e.relations_parts z) ks rest
     → Spells (e.relations_parts (or_join y z)) (mark k.Or ∷ ks) rest
 or_gives (true, y) z ks rest sp = (ks, refl, sp)

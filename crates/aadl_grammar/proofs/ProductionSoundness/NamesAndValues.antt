@@ -3,11 +3,11 @@
 use Rattle.std.proofs.Common.{◌≡◌, sym, refl, List, [], ◌∷◌, ◌++◌, append_assoc}
 use Rattle.aadl_tree.specs.declared.mark.Mark.{Mark}
 use Rattle.aadl_tree.specs.declared.mark.Mark.TheVariants as k
-use Rattle.aadl_tree.specs.SpellingParts.{Part, plain}
+use Rattle.aadl_tree.specs.SpellingParts.{SpellingPart, plain}
 use Rattle.aadl_tree.specs.Values as v
 use Rattle.aadl_grammar.specs.proof.GrammarSymbols as s
 use Rattle.aadl_grammar.specs.proof.ParseTable.{rows}
-use Rattle.aadl_grammar.specs.proof.SymbolTrees.{U}
+use Rattle.aadl_grammar.specs.proof.SymbolTrees.{NoPlace}
 use Rattle.aadl_grammar.proofs.DerivationTrees.ReferencesByFirstWord.{reference_spells}
 use Rattle.aadl_grammar.proofs.DerivationTrees.TreeBuilders.{respell, AllGive, behind_give}
 use Rattle.aadl_grammar.proofs.ProductionTrees.NamesAndValues.{only_builders, identifier_builders, name_builders}
@@ -22,7 +22,7 @@ use Rattle.aadl_grammar.proofs.ProductionTrees.NamesAndValues.{constant_builders
 use Rattle.aadl_grammar.proofs.ProductionTrees.NamesAndValues.{association_builders, associations_builders}
 use Rattle.aadl_grammar.proofs.ProductionTrees.NamesAndValues.{associations_joins, properties_builders}
 
-regroup : (ps qs rs : List (Part U)) → ps ++ (qs ++ rs) ≡ (ps ++ qs) ++ rs
+regroup : (ps qs rs : List (SpellingPart NoPlace)) → ps ++ (qs ++ rs) ≡ (ps ++ qs) ++ rs
 regroup ps qs rs = sym (append_assoc ps qs rs)
 
 pub only_give : (m : Mark) → AllGive (s.only m) (rows (s.only m)) (only_builders m)

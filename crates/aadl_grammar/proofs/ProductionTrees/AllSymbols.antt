@@ -6,7 +6,7 @@ use Rattle.aadl_tree.specs.Actions as a
 use Rattle.aadl_grammar.specs.proof.GrammarSymbols.{Symbol}
 use Rattle.aadl_grammar.specs.proof.GrammarSymbols as s
 use Rattle.aadl_grammar.specs.proof.ParseTable.{rows, can_omit}
-use Rattle.aadl_grammar.specs.proof.SymbolTrees.{U, TreeOf}
+use Rattle.aadl_grammar.specs.proof.SymbolTrees.{NoPlace, TreeOf}
 use Rattle.aadl_grammar.proofs.DerivationTrees.TreeBuilders.{Builders}
 use Rattle.aadl_grammar.proofs.ProductionTrees.NamesAndValues.{only_builders, identifier_builders, name_builders}
 use Rattle.aadl_grammar.proofs.ProductionTrees.NamesAndValues.{names_builders, path_builders, paths_builders}
@@ -151,7 +151,7 @@ builders s.a_package = a_package_builders
 
 abbrev pub Empty : Bool → Symbol → Type 0
 Empty true y = TreeOf y
-Empty false y = U
+Empty false y = NoPlace
 
 -- the tree of a symbol that is left out
 abbrev pub empty : (y : Symbol) → Empty (can_omit y) y

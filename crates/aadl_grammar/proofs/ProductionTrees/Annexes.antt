@@ -4,7 +4,7 @@ use Rattle.std.proofs.Common.{true, [], ◌∷◌, Some, None}
 use Rattle.aadl_tree.specs.Annexes as x
 use Rattle.aadl_grammar.specs.proof.GrammarSymbols as s
 use Rattle.aadl_grammar.specs.proof.ParseTable.{rows}
-use Rattle.aadl_grammar.specs.proof.SymbolTrees.{id, transition_of}
+use Rattle.aadl_grammar.specs.proof.SymbolTrees.{identifier_of, transition_of}
 use Rattle.aadl_grammar.proofs.DerivationTrees.TreeBuilders.{Builders, Joins, behind_builders}
 use Rattle.aadl_grammar.proofs.ProductionTrees.Expressions.{expression_builders}
 use Rattle.aadl_grammar.proofs.ProductionTrees.Actions.{block_builders}
@@ -12,7 +12,7 @@ use Rattle.aadl_grammar.proofs.ProductionTrees.Actions.{block_builders}
 abbrev pub variable_builders : Builders s.variable (rows s.variable)
 variable_builders = (
   (λ w ts. record {
-    names = record { first = id w; rest = ts.0 };
+    names = record { first = identifier_of w; rest = ts.0 };
     data_type = ts.1.1.0;
     properties = ts.1.1.1.0;
   }),
@@ -38,7 +38,7 @@ complete_builders = ((λ w ts. true), tt)
 
 abbrev pub state_builders : Builders s.state (rows s.state)
 state_builders =
-    ((λ w ts. record { names = record { first = id w; rest = ts.0 }; initial = ts.1.1.0; complete = ts.1.1.1.0 }), tt)
+    ((λ w ts. record { names = record { first = identifier_of w; rest = ts.0 }; initial = ts.1.1.0; complete = ts.1.1.1.0 }), tt)
 
 abbrev pub state_list_joins : Joins s.state_list s.state (s.state_list ∷ [])
 state_list_joins u ts = u ∷ ts.0
@@ -75,7 +75,7 @@ abbrev pub effect_builders : Builders s.effect (rows s.effect)
 effect_builders = behind_builders s.effect s.block [] (rows s.block) effect_joins block_builders
 
 abbrev pub transition_builders : Builders s.transition (rows s.transition)
-transition_builders = ((λ w ts. transition_of (id w) ts.0 ts.1.0 ts.1.1.0), tt)
+transition_builders = ((λ w ts. transition_of (identifier_of w) ts.0 ts.1.0 ts.1.1.0), tt)
 
 abbrev pub transition_list_joins : Joins s.transition_list s.transition (s.transition_list ∷ [])
 transition_list_joins u ts = u ∷ ts.0

@@ -6,7 +6,7 @@ use Rattle.aadl_tree.specs.declared.declarations.Direction.TheVariants as direct
 use Rattle.aadl_tree.specs.Values as v
 use Rattle.aadl_grammar.specs.proof.GrammarSymbols as s
 use Rattle.aadl_grammar.specs.proof.ParseTable.{rows}
-use Rattle.aadl_grammar.specs.proof.SymbolTrees.{id, type_rest, implementation_rest, declaration_of}
+use Rattle.aadl_grammar.specs.proof.SymbolTrees.{identifier_of, type_rest, implementation_rest, declaration_of}
 use Rattle.aadl_grammar.proofs.DerivationTrees.TreeBuilders.{Builders, Joins, behind_builders}
 use Rattle.aadl_grammar.proofs.ProductionTrees.NamesAndValues.{reference_builders, association_builders}
 
@@ -24,18 +24,18 @@ data_type_builders = behind_builders s.data_type s.reference [] (rows s.referenc
 
 abbrev pub feature_builders : Builders s.feature (rows s.feature)
 feature_builders =
-    ((λ w ts. record { name = id w; direction = ts.1.0; data_type = ts.1.1.1.1.0; properties = ts.1.1.1.1.1.0 }), tt)
+    ((λ w ts. record { name = identifier_of w; direction = ts.1.0; data_type = ts.1.1.1.1.0; properties = ts.1.1.1.1.1.0 }), tt)
 
 abbrev pub subcomponent_builders : Builders s.subcomponent (rows s.subcomponent)
 subcomponent_builders =
-    ((λ w ts. record { name = id w; category = ts.1.0; classifier = ts.1.1.0; properties = ts.1.1.1.0 }), tt)
+    ((λ w ts. record { name = identifier_of w; category = ts.1.0; classifier = ts.1.1.0; properties = ts.1.1.1.0 }), tt)
 
 abbrev pub connection_end_builders : Builders s.connection_end (rows s.connection_end)
-connection_end_builders = ((λ w ts. record { first = id w; second = ts.0 }), tt)
+connection_end_builders = ((λ w ts. record { first = identifier_of w; second = ts.0 }), tt)
 
 abbrev pub connection_builders : Builders s.connection (rows s.connection)
 connection_builders =
-    ((λ w ts. record { name = id w; source = ts.1.1.0; target = ts.1.1.1.1.0; properties = ts.1.1.1.1.1.0 }), tt)
+    ((λ w ts. record { name = identifier_of w; source = ts.1.1.0; target = ts.1.1.1.1.0; properties = ts.1.1.1.1.1.0 }), tt)
 
 abbrev pub feature_list_joins : Joins s.feature_list s.feature (s.feature_list ∷ [])
 feature_list_joins u ts = u ∷ ts.0
@@ -113,7 +113,7 @@ abbrev pub own_properties_builders : Builders s.own_properties (rows s.own_prope
 own_properties_builders = ((λ w ts. ts.0), tt)
 
 abbrev pub implementation_name_builders : Builders s.implementation_name (rows s.implementation_name)
-implementation_name_builders = ((λ w ts. record { component_type = id w; implementation = ts.1.0 }), tt)
+implementation_name_builders = ((λ w ts. record { component_type = identifier_of w; implementation = ts.1.0 }), tt)
 
 abbrev pub type_end_builders : Builders s.type_end (rows s.type_end)
 type_end_builders = ((λ w ts. ts.0), tt)
@@ -126,7 +126,7 @@ package_end_builders = ((λ w ts. ts.0), tt)
 
 abbrev pub after_category_builders : Builders s.after_category (rows s.after_category)
 after_category_builders = (
-  (λ w ts. type_rest (id w) ts.0 ts.1.0 ts.1.1.0 ts.1.1.1.0),
+  (λ w ts. type_rest (identifier_of w) ts.0 ts.1.0 ts.1.1.0 ts.1.1.1.0),
   ((λ w ts. implementation_rest ts.0 ts.1.0 ts.1.1.0 ts.1.1.1.0 ts.1.1.1.1.0 ts.1.1.1.1.1.0), tt),
 )
 

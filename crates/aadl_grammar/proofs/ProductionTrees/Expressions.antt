@@ -8,7 +8,7 @@ use Rattle.aadl_tree.specs.declared.expressions.MultiplyOperator.TheVariants as 
 use Rattle.aadl_tree.specs.Expressions as e
 use Rattle.aadl_grammar.specs.proof.GrammarSymbols as s
 use Rattle.aadl_grammar.specs.proof.ParseTable.{rows}
-use Rattle.aadl_grammar.specs.proof.SymbolTrees.{id, relation_of, and_join, or_join}
+use Rattle.aadl_grammar.specs.proof.SymbolTrees.{identifier_of, relation_of, and_join, or_join}
 use Rattle.aadl_grammar.proofs.DerivationTrees.TreeBuilders.{Builders, Joins, behind_builders}
 
 abbrev pub primary_builders : Builders s.primary (rows s.primary)
@@ -16,7 +16,7 @@ primary_builders = (
   (λ w ts. e.number tt w),
   (
     (λ w ts. e.truth tt true),
-    ((λ w ts. e.truth tt false), ((λ w ts. e.named (id w) ts.0), ((λ w ts. e.group tt ts.0), tt))),
+    ((λ w ts. e.truth tt false), ((λ w ts. e.named (identifier_of w) ts.0), ((λ w ts. e.group tt ts.0), tt))),
   ),
 )
 

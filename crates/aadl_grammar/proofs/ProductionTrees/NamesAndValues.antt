@@ -7,7 +7,7 @@ use Rattle.aadl_tree.specs.declared.values.AssociationOperator.TheVariants as op
 use Rattle.aadl_tree.specs.Values as v
 use Rattle.aadl_grammar.specs.proof.GrammarSymbols as s
 use Rattle.aadl_grammar.specs.proof.ParseTable.{rows}
-use Rattle.aadl_grammar.specs.proof.SymbolTrees.{id}
+use Rattle.aadl_grammar.specs.proof.SymbolTrees.{identifier_of}
 use Rattle.aadl_grammar.proofs.DerivationTrees.ReferencesByFirstWord.{reference_of}
 use Rattle.aadl_grammar.proofs.DerivationTrees.TreeBuilders.{Builders, Joins, behind_builders}
 
@@ -15,16 +15,16 @@ abbrev pub only_builders : (m : Mark) → Builders (s.only m) (rows (s.only m))
 only_builders m = ((λ w ts. tt), tt)
 
 abbrev pub identifier_builders : Builders s.identifier (rows s.identifier)
-identifier_builders = ((λ w ts. id w), tt)
+identifier_builders = ((λ w ts. identifier_of w), tt)
 
 abbrev pub name_builders : Builders s.name (rows s.name)
-name_builders = ((λ w ts. record { first = id w; rest = ts.0 }), tt)
+name_builders = ((λ w ts. record { first = identifier_of w; rest = ts.0 }), tt)
 
 abbrev pub names_builders : Builders s.names (rows s.names)
 names_builders = ((λ w ts. ts.0.first ∷ ts.0.rest), tt)
 
 abbrev pub path_builders : Builders s.path (rows s.path)
-path_builders = ((λ w ts. record { first = id w; rest = ts.0 }), tt)
+path_builders = ((λ w ts. record { first = identifier_of w; rest = ts.0 }), tt)
 
 abbrev pub paths_builders : Builders s.paths (rows s.paths)
 paths_builders = ((λ w ts. ts.0.first ∷ ts.0.rest), tt)
@@ -33,7 +33,7 @@ abbrev pub more_identifiers_builders : Builders s.more_identifiers (rows s.more_
 more_identifiers_builders = ((λ w ts. ts.0 ∷ ts.1.0), tt)
 
 abbrev pub reference_builders : Builders s.reference (rows s.reference)
-reference_builders = ((λ w ts. reference_of (id w) ts.0 ts.1.0), tt)
+reference_builders = ((λ w ts. reference_of (identifier_of w) ts.0 ts.1.0), tt)
 
 abbrev pub dot_identifier_builders : Builders s.dot_identifier (rows s.dot_identifier)
 dot_identifier_builders = ((λ w ts. Some ts.0), tt)
@@ -42,7 +42,7 @@ abbrev pub figure_builders : Builders s.figure (rows s.figure)
 figure_builders = ((λ w ts. v.whole_figure w), ((λ w ts. v.real_figure w), tt))
 
 abbrev pub unit_builders : Builders s.unit (rows s.unit)
-unit_builders = ((λ w ts. Some (id w)), tt)
+unit_builders = ((λ w ts. Some (identifier_of w)), tt)
 
 abbrev pub quantity_builders : Builders s.quantity (rows s.quantity)
 quantity_builders = (
@@ -66,7 +66,7 @@ abbrev pub value_builders : Builders s.value (rows s.value)
 value_builders = (
   (λ w ts. v.text w),
   (
-    (λ w ts. v.named (reference_of (id w) ts.0 ts.1.0)),
+    (λ w ts. v.named (reference_of (identifier_of w) ts.0 ts.1.0)),
     (
       (λ w ts. v.list ts.0),
       (
@@ -113,7 +113,7 @@ more_paths_builders = ((λ w ts. ts.0 ∷ ts.1.0), tt)
 
 abbrev pub association_builders : Builders s.association (rows s.association)
 association_builders =
-    ((λ w ts. v.association (record { first = id w; rest = ts.0 }) ts.1.0 ts.1.1.0 ts.1.1.1.0 ts.1.1.1.1.0), tt)
+    ((λ w ts. v.association (record { first = identifier_of w; rest = ts.0 }) ts.1.0 ts.1.1.0 ts.1.1.1.0 ts.1.1.1.1.0), tt)
 
 abbrev pub associations_joins : Joins s.associations s.association (s.associations ∷ [])
 associations_joins u ts = v.associate u ts.0

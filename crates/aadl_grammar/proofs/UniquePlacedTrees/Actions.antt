@@ -2,7 +2,7 @@
 use Rattle.std.proofs.Common.{◌≡◌, ℕ, ℤ, ◌∙◌, sym, ap, Bool, true, false, List, [], ◌∷◌, ◌++◌, refl}
 use Rattle.aadl_tree.specs.declared.mark.Mark.TheVariants as k
 use Rattle.aadl_tree.specs.declared.actions.Bound.{Bound}
-use Rattle.aadl_tree.specs.SpellingParts.{Part, may, last_semicolon, plain}
+use Rattle.aadl_tree.specs.SpellingParts.{SpellingPart, may, last_semicolon, plain}
 use Rattle.aadl_tree.specs.Names as n
 use Rattle.aadl_tree.specs.Expressions as e
 use Rattle.aadl_tree.specs.Actions as a
@@ -14,9 +14,9 @@ use Rattle.aadl_grammar.proofs.UniquePlacedTrees.Names.{Fixed, identifier_fixed}
 use Rattle.aadl_grammar.proofs.UniquePlacedTrees.Expressions.{expression_fixed}
 use Rattle.aadl_grammar.proofs.UniquePlacedTrees.Values.{reference_fixed}
 
-bound_none : (b : Bound) (ps : List (Part ℕ)) (xs : List ℕ) → placed (a.bound_parts b ++ ps) xs ≡ placed ps xs
+bound_none : (b : Bound) (ps : List (SpellingPart ℕ)) (xs : List ℕ) → placed (a.bound_parts b ++ ps) xs ≡ placed ps xs
 bound_none b ps xs = by_parts b.negative b.value ps xs where
-  by_parts : (c : Bool) (z : ℤ) (qs : List (Part ℕ)) (ys : List ℕ)
+  by_parts : (c : Bool) (z : ℤ) (qs : List (SpellingPart ℕ)) (ys : List ℕ)
       → placed (a.bound_parts (record { negative = c; value = z }) ++ qs) ys ≡ placed qs ys
   by_parts true z qs ys = refl
   by_parts false z qs ys = refl

@@ -5,7 +5,7 @@ use Rattle.aadl_tree.specs.declared.declarations.Category.{Category}
 use Rattle.aadl_tree.specs.declared.declarations.Category.TheVariants as categories
 use Rattle.aadl_tree.specs.declared.declarations.Direction.{Direction}
 use Rattle.aadl_tree.specs.Terminals.{mark}
-use Rattle.aadl_tree.specs.SpellingParts.{Part, Section, token, plain, parts_if, behind}
+use Rattle.aadl_tree.specs.SpellingParts.{SpellingPart, Section, token, plain, parts_if, behind}
 use Rattle.aadl_tree.specs.Names as n
 use Rattle.aadl_tree.specs.Values as v
 use Rattle.aadl_tree.specs.Declarations as d
@@ -15,18 +15,18 @@ use Rattle.aadl_grammar.proofs.UniquePlacedTrees.PlaceOrder.{placed, in_turn}
 use Rattle.aadl_grammar.proofs.UniquePlacedTrees.Names.{Fixed, identifier_fixed, chain_fixed, name_fixed}
 use Rattle.aadl_grammar.proofs.UniquePlacedTrees.Values.{option_fixed, reference_fixed, properties_fixed}
 
-pub category_one : (c : Category) (at : ℕ) (ps : List (Part ℕ)) (xs : List ℕ)
+pub category_one : (c : Category) (at : ℕ) (ps : List (SpellingPart ℕ)) (xs : List ℕ)
     → placed (token (mark (d.category_mark c)) (at ∷ []) ∷ ps) xs ≡ at ∷ placed ps xs
 category_one categories.System at ps xs = refl
 category_one categories.Process at ps xs = refl
 category_one categories.Thread at ps xs = refl
 
-section_none : (section : Section) (ps : List (Part ℕ)) (xs : List ℕ)
+section_none : (section : Section) (ps : List (SpellingPart ℕ)) (xs : List ℕ)
     → placed (d.section_parts section ps) xs ≡ placed ps xs
 section_none section [] xs = refl
 section_none section (p ∷ ps) xs = refl
 
-pub sectioned : {T U : Type 0} (section : Section) (to : T → U) (parts : T → List (Part ℕ)) → Fixed T U to parts
+pub sectioned : {T U : Type 0} (section : Section) (to : T → U) (parts : T → List (SpellingPart ℕ)) → Fixed T U to parts
     → Fixed T U to (λ t. d.section_parts section (parts t))
 sectioned section to parts f t u xs ys s h =
     f t u xs ys s (sym (section_none section (parts t) xs) ∙ h ∙ section_none section (parts u) ys)

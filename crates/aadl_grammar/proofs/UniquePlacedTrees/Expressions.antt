@@ -6,7 +6,7 @@ use Rattle.aadl_tree.specs.declared.expressions.Sign.TheVariants as signs
 use Rattle.aadl_tree.specs.declared.expressions.LogicOperator.{LogicOperator}
 use Rattle.aadl_tree.specs.declared.expressions.LogicOperator.TheVariants as logic
 use Rattle.aadl_tree.specs.declared.mark.Mark.TheVariants as k
-use Rattle.aadl_tree.specs.SpellingParts.{Part, plain, parts_if}
+use Rattle.aadl_tree.specs.SpellingParts.{SpellingPart, plain, parts_if}
 use Rattle.aadl_tree.specs.Names as n
 use Rattle.aadl_tree.specs.Expressions as e
 use Rattle.aadl_tree.specs.proof.PlaceMaps.{no_place, leading_to, primary_to, factor_to, term_to, factors_to, sum_to}
@@ -22,7 +22,7 @@ fresh_none : (b : Bool) (xs : List ℕ) → placed (e.fresh_parts b) xs ≡ xs
 fresh_none true xs = refl
 fresh_none false xs = refl
 
-logic_none : (o : LogicOperator) (ps : List (Part ℕ)) (xs : List ℕ) → placed (e.logic_parts o ++ ps) xs ≡ placed ps xs
+logic_none : (o : LogicOperator) (ps : List (SpellingPart ℕ)) (xs : List ℕ) → placed (e.logic_parts o ++ ps) xs ≡ placed ps xs
 logic_none logic.And ps xs = refl
 logic_none logic.Or ps xs = refl
 logic_none logic.Xor ps xs = refl

@@ -2,13 +2,13 @@
 use Rattle.std.proofs.Common.{◌≡◌, ℕ, ap, ap₂, List, [], ◌∷◌, map, flat_map, refl}
 use Rattle.aadl_tree.specs.declared.mark.Mark.{Mark}
 use Rattle.aadl_tree.specs.declared.mark.Mark.TheVariants as k
-use Rattle.aadl_tree.specs.SpellingParts.{Part, behind}
+use Rattle.aadl_tree.specs.SpellingParts.{SpellingPart, behind}
 use Rattle.aadl_tree.specs.Names as n
 use Rattle.aadl_grammar.proofs.HeadsAndTails.{heads, tails}
 use Rattle.aadl_tree.specs.proof.PlaceMaps.{identifier_to, name_to, no_place}
 use Rattle.aadl_grammar.proofs.UniquePlacedTrees.PlaceOrder.{placed, Both, in_turn}
 
-abbrev pub Fixed : (T U : Type 0) → (T → U) → (T → List (Part ℕ)) → Type 0
+abbrev pub Fixed : (T U : Type 0) → (T → U) → (T → List (SpellingPart ℕ)) → Type 0
 Fixed T U to parts =
     (t u : T) (xs ys : List ℕ) → to t ≡ to u → placed (parts t) xs ≡ placed (parts u) ys → Both T t u xs ys
 
@@ -21,7 +21,7 @@ identifier_fixed t u xs ys s e = record {
 }
 
 -- parts of a list, with a symbol before each
-pub chain_fixed : {T U : Type 0} (m : Mark) (to : T → U) (parts : T → List (Part ℕ)) → Fixed T U to parts
+pub chain_fixed : {T U : Type 0} (m : Mark) (to : T → U) (parts : T → List (SpellingPart ℕ)) → Fixed T U to parts
     → Fixed (List T) (List U) (map to) (flat_map (behind m parts))
 chain_fixed m to parts f [] [] xs ys s e = record { tree = refl; rest = e }
 chain_fixed m to parts f (t ∷ ts) (u ∷ us) xs ys s e =

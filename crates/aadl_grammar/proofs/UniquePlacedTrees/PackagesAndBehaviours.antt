@@ -1,7 +1,7 @@
 -- A package or behaviour with its places is the only one that its tokens spell: the claim `one_tree_with_places`.
 use Rattle.std.proofs.Common.{◌≡◌, ℕ, ◌∙◌, sym, ap, List, []}
-use Rattle.aadl_tree.specs.Terminals.{Spot, kinds_of}
-use Rattle.aadl_tree.specs.SpellingParts.{Part, Written}
+use Rattle.aadl_tree.specs.Terminals.{PlacedTerminal, kinds_of}
+use Rattle.aadl_tree.specs.SpellingParts.{SpellingPart, Written}
 use Rattle.aadl_tree.specs.Annexes.{AnnexTree, annex_tree_parts}
 use Rattle.aadl_tree.specs.Declarations.{PackageTree, package_parts}
 use Rattle.aadl_tree.proofs.ConcatenatedSpellings.{written_spells}
@@ -17,16 +17,16 @@ use Rattle.aadl_grammar.proofs.UniquePlacedTrees.Annexes.{annex_tree_fixed}
 use Rattle.aadl_grammar.proofs.UniquePlacedTrees.Declarations.{package_fixed}
 
 -- two trees of one tree without places
-from_bare : {T U : Type 0} (to : T → U) (parts : T → List (Part ℕ)) (bare : U → List (Part (Unit {0})))
+from_bare : {T U : Type 0} (to : T → U) (parts : T → List (SpellingPart ℕ)) (bare : U → List (SpellingPart (Unit {0})))
     → ((t : T) → Alike no_place (parts t) (bare (to t))) → Fixed T U to parts
-    → (ss : List Spot) (t u : T) → to t ≡ to u → Written (parts t) ss [] → Written (parts u) ss [] → t ≡ u
+    → (ss : List PlacedTerminal) (t u : T) → to t ≡ to u → Written (parts t) ss [] → Written (parts u) ss [] → t ≡ u
 from_bare to parts bare alike f ss t u e w v =
     let r =
     f t u [] [] e (same_places (parts t) (parts u) ss
     (alike_shape (alike t) ∙ ap (λ x. shape (bare x)) e ∙ sym (alike_shape (alike u))) w v) in
     r.tree
 
-pub one_placed_package : (ss : List Spot) (t u : PackageTree ℕ) → Written (package_parts t) ss []
+pub one_placed_package : (ss : List PlacedTerminal) (t u : PackageTree ℕ) → Written (package_parts t) ss []
     → Written (package_parts u) ss [] → t ≡ u
 one_placed_package ss t u w v =
     from_bare (package_to no_place) package_parts package_parts (package_alike no_place) package_fixed ss t u
@@ -34,7 +34,7 @@ one_placed_package ss t u w v =
     (alike_spells (kinds_of ss) [] (package_alike no_place t) (written_spells (package_parts t) ss [] w))
     (alike_spells (kinds_of ss) [] (package_alike no_place u) (written_spells (package_parts u) ss [] v))) w v
 
-pub one_placed_behaviour : (ss : List Spot) (t u : AnnexTree ℕ) → Written (annex_tree_parts t) ss []
+pub one_placed_behaviour : (ss : List PlacedTerminal) (t u : AnnexTree ℕ) → Written (annex_tree_parts t) ss []
     → Written (annex_tree_parts u) ss [] → t ≡ u
 one_placed_behaviour ss t u w v =
     from_bare (annex_tree_to no_place) annex_tree_parts annex_tree_parts (annex_tree_alike no_place)

@@ -1,12 +1,12 @@
 -- How many places a tree keeps of its terminals, part for part, and which terminals keep none.
 use Rattle.std.proofs.Common.{◌≡◌, Bool, true, false, cond, List, [], ◌∷◌, refl}
 use Rattle.aadl_tree.specs.declared.mark.Mark.TheVariants as k
-use Rattle.aadl_tree.specs.Terminals.{Kind, mark}
-use Rattle.aadl_tree.specs.SpellingParts.{Part, token, may, feature_section, subcomponent_section, connection_section}
+use Rattle.aadl_tree.specs.Terminals.{PlainTerminal, mark}
+use Rattle.aadl_tree.specs.SpellingParts.{SpellingPart, token, may, feature_section, subcomponent_section, connection_section}
 use Rattle.aadl_tree.specs.SpellingParts.{property_section, Extra, empty_section, last_semicolon, extra_kinds}
 
 -- Terminals that stand in what a tree does not keep. None of them keeps a place.
-abbrev pub quiet : Kind → Bool
+abbrev pub quiet : PlainTerminal → Bool
 quiet (mark k.Semicolon) = true
 quiet (mark k.Nothing) = true
 quiet (mark k.Features) = true
@@ -20,13 +20,13 @@ abbrev pub none_of : {P : Type 0} → List P → List (Unit {0})
 none_of [] = []
 none_of (p ∷ ps) = tt ∷ none_of ps
 
-abbrev pub shape : {P : Type 0} → List (Part P) → List (List (Unit {0}))
+abbrev pub shape : {P : Type 0} → List (SpellingPart P) → List (List (Unit {0}))
 shape [] = []
 shape (token kind places ∷ ps) = cond (quiet kind) (shape ps) (none_of places ∷ shape ps)
 shape (may extra ∷ ps) = shape ps
 
 -- what a tree does not keep is quiet
-abbrev pub AreQuiet : List Kind → Type 0
+abbrev pub AreQuiet : List PlainTerminal → Type 0
 AreQuiet [] = Unit {0}
 AreQuiet (kind ∷ ks) = (quiet kind ≡ true) × AreQuiet ks
 

@@ -5,7 +5,7 @@ use Rattle.std.proofs.lemmas.Option.{same_Some}
 use Rattle.aadl_tree.specs.declared.mark.Mark.{Mark}
 use Rattle.aadl_tree.specs.declared.mark.Mark.TheVariants as k
 use Rattle.aadl_tree.specs.declared.expressions.Sign.{Sign}
-use Rattle.aadl_tree.specs.SpellingParts.{Part, plain, parts_if, behind, marked_if}
+use Rattle.aadl_tree.specs.SpellingParts.{SpellingPart, plain, parts_if, behind, marked_if}
 use Rattle.aadl_tree.specs.Names as n
 use Rattle.aadl_tree.specs.Values as v
 use Rattle.aadl_grammar.proofs.HeadsAndTails.{heads, tails}
@@ -15,7 +15,7 @@ use Rattle.aadl_grammar.proofs.UniquePlacedTrees.PlaceOrder.{placed, in_turn}
 use Rattle.aadl_grammar.proofs.UniquePlacedTrees.Names.{Fixed, identifier_fixed, chain_fixed, name_fixed}
 
 -- lists, and what may be left out
-pub list_fixed : {T U : Type 0} (to : T → U) (parts : T → List (Part ℕ)) → Fixed T U to parts
+pub list_fixed : {T U : Type 0} (to : T → U) (parts : T → List (SpellingPart ℕ)) → Fixed T U to parts
     → Fixed (List T) (List U) (map to) (flat_map parts)
 list_fixed to parts f [] [] xs ys s h = record { tree = refl; rest = h }
 list_fixed to parts f (t ∷ ts) (u ∷ us) xs ys s h =
@@ -27,7 +27,7 @@ list_fixed to parts f (t ∷ ts) (u ∷ us) xs ys s h =
 list_fixed to parts f [] (u ∷ us) xs ys s h = absurd cc
 list_fixed to parts f (t ∷ ts) [] xs ys s h = absurd cc
 
-pub option_fixed : {T U : Type 0} (to : T → U) (parts : T → List (Part ℕ)) → Fixed T U to parts
+pub option_fixed : {T U : Type 0} (to : T → U) (parts : T → List (SpellingPart ℕ)) → Fixed T U to parts
     → Fixed (Option T) (Option U) (option_map to) (parts_if parts)
 option_fixed to parts f None None xs ys s h = record { tree = refl; rest = h }
 option_fixed to parts f (Some t) (Some u) xs ys s h = let a = f t u xs ys (same_Some (to t) (to u) s) h in
@@ -36,16 +36,16 @@ option_fixed to parts f None (Some u) xs ys s h = absurd cc
 option_fixed to parts f (Some t) None xs ys s h = absurd cc
 
 -- nothing of these keeps a place
-number_none : (x : v.Number) (ps : List (Part ℕ)) (xs : List ℕ) → placed (v.number_parts x ++ ps) xs ≡ placed ps xs
+number_none : (x : v.Number) (ps : List (SpellingPart ℕ)) (xs : List ℕ) → placed (v.number_parts x ++ ps) xs ≡ placed ps xs
 number_none x ps xs = by_parts x.sign x.figure ps xs where
-  by_parts : (o : Option Sign) (f : v.UnsignedNumber) (qs : List (Part ℕ)) (ys : List ℕ)
+  by_parts : (o : Option Sign) (f : v.UnsignedNumber) (qs : List (SpellingPart ℕ)) (ys : List ℕ)
       → placed (v.number_parts (record { sign = o; figure = f }) ++ qs) ys ≡ placed qs ys
   by_parts None (v.whole_figure z) qs ys = refl
   by_parts None (v.real_figure z) qs ys = refl
   by_parts (Some o) (v.whole_figure z) qs ys = refl
   by_parts (Some o) (v.real_figure z) qs ys = refl
 
-pub marked_none : (m : Mark) (b : Bool) (ps : List (Part ℕ)) (xs : List ℕ)
+pub marked_none : (m : Mark) (b : Bool) (ps : List (SpellingPart ℕ)) (xs : List ℕ)
     → placed (marked_if m b ++ ps) xs ≡ placed ps xs
 marked_none m true ps xs = refl
 marked_none m false ps xs = refl

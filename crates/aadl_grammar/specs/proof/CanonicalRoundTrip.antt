@@ -5,7 +5,7 @@ use Rattle.aadl_tree.specs.proof.PlaceMaps.{package_to, no_place}
 use Rattle.aadl_tree.specs.TextTreesAndFaults.{IsTreeOf}
 
 -- The text has a tree, within the greatest nesting, and this is the tree without its places.
-pub record HasTree (text : List ℕ) (meaning : PackageTree (Unit {0})) : Type 0 where
+pub record HasSameTree (text : List ℕ) (meaning : PackageTree (Unit {0})) : Type 0 where
   pub tree : PackageTree ℕ
   pub read : IsTreeOf text tree
   pub same : package_to no_place tree ≡ meaning

@@ -4,8 +4,8 @@ use Rattle.std.specs.Prelude.{ℕ, ◌+◌, ◌≡◌, ◌≤◌, ◌<◌, IfOk,
 use Rattle.std.specs.Prelude.{None, true, false}
 use Rattle.std.specs.Global.{Vec}
 use Rattle.aadl_tree.specs.declared.mark.Mark.{Mark}
-use Rattle.aadl_tree.specs.Terminals.{Spot}
-use Rattle.aadl_tree.specs.SpellingParts.{Part, behind}
+use Rattle.aadl_tree.specs.Terminals.{PlacedTerminal}
+use Rattle.aadl_tree.specs.SpellingParts.{SpellingPart, behind}
 use Rattle.aadl_tree.specs.declared.nesting_limit.TheConstants.{GREATEST_NESTING}
 use Rattle.aadl_grammar.specs.proof.GrammarSymbols.{a_word, the, Symbol}
 use Rattle.aadl_grammar.specs.proof.ParseTable as table
@@ -22,26 +22,26 @@ Allows None = AnyRoom
 Allows (Some room) = Room room
 
 -- Another item follows: behind its mark, or, where items have no mark before them, with a word.
-abbrev pub Follows : Option Mark → List Spot → List Spot → Type 0
+abbrev pub Follows : Option Mark → List PlacedTerminal → List PlacedTerminal → Type 0
 Follows (Some m) ss start = AtMark m ss start
 Follows None ss start = StartsWord ss × (start ≡ ss)
 
 -- no other item follows
-abbrev pub NoneFollows : Option Mark → List Spot → Type 0
+abbrev pub NoneFollows : Option Mark → List PlacedTerminal → Type 0
 NoneFollows (Some m) ss = Misses (the m) ss
 NoneFollows None ss = Misses a_word ss
 
 -- an item's parts, behind its mark if it has one
-abbrev pub with_mark : {X : Type 0} → Option Mark → (X → List (Part ℕ)) → X → List (Part ℕ)
+abbrev pub with_mark : {X : Type 0} → Option Mark → (X → List (SpellingPart ℕ)) → X → List (SpellingPart ℕ)
 with_mark (Some m) parts = behind m parts
 with_mark None parts = parts
 
 -- The machine reads the symbol as a list of items, which close no opener.
-pub record Lists (before : Option Mark) (item list : Symbol) : Type 0 where
-  pub goes_on : (outer end : ℕ) (below : Stack) (ss start : List Spot) → Follows before ss start
+pub record IsList (before : Option Mark) (item list : Symbol) : Type 0 where
+  pub goes_on : (outer end : ℕ) (below : Stack) (ss start : List PlacedTerminal) → Follows before ss start
       → outer + depth (list ∷ below) ≤ GREATEST_NESTING
       → fate outer end (list ∷ below) ss ≡ fate outer end (item ∷ list ∷ below) start
-  pub stops : (outer end : ℕ) (below : Stack) (ss : List Spot) → NoneFollows before ss
+  pub stops : (outer end : ℕ) (below : Stack) (ss : List PlacedTerminal) → NoneFollows before ss
       → fate outer end (list ∷ below) ss ≡ fate outer end below ss
   pub no_closer : closes item ≡ 0
 
@@ -69,14 +69,14 @@ Advances {X} r answers = (at : ℕ) (result : Result (X × ℕ) ParseFault) → 
 pub record ItemsOf {X : Type 0} (r : Reader) (before : Option Mark) (answers : Answers X) : Type 0 where
   pub item : Symbol
   pub list : Symbol
-  pub lists : Lists before item list
-  pub parts : X → List (Part ℕ)
+  pub lists : IsList before item list
+  pub parts : X → List (SpellingPart ℕ)
   pub allowed : Option ℕ
   pub each : (at : ℕ) (result : Result (X × ℕ) ParseFault) → answers at result
       → Parses r (Allows allowed) (item ∷ []) parts at result
 
 -- the new list is the old one, with what is read here behind it
-pub record Grows {X : Type 0} (parts : X → List (Part ℕ)) (old new : List X) (ss rest : List Spot) : Type 0 where
+pub record Grows {X : Type 0} (parts : X → List (SpellingPart ℕ)) (old new : List X) (ss rest : List PlacedTerminal) : Type 0 where
   pub more : List X
   pub whole : new ≡ old ++ more
   pub reads : Reads (flat_map parts more) ss rest

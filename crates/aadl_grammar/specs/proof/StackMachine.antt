@@ -3,7 +3,7 @@ use Rattle.std.specs.Prelude.{ℕ, ◌+◌, ◌==◌, nat_lt, Bool, true, ◌&&�
 use Rattle.std.specs.Prelude.{if◌then◌else◌}
 use Rattle.aadl_tree.specs.declared.mark.Mark.{Mark}
 use Rattle.aadl_tree.specs.proof.MarkNumbers.{mark_number}
-use Rattle.aadl_tree.specs.Terminals.{Kind, word, whole, real, quoted, unread, mark, other, Spot}
+use Rattle.aadl_tree.specs.Terminals.{PlainTerminal, word, whole, real, quoted, unread, mark, other, PlacedTerminal}
 use Rattle.aadl_tree.specs.declared.nesting_limit.TheConstants.{GREATEST_NESTING}
 use Rattle.aadl_grammar.specs.proof.GrammarSymbols.{Class, a_word, a_whole, a_real, a_quoted, an_unread, the, Symbol}
 use Rattle.aadl_grammar.specs.proof.GrammarSymbols.{Row}
@@ -20,7 +20,7 @@ class_number a_quoted = 103
 class_number an_unread = 104
 class_number (the m) = mark_number m
 
-abbrev pub kind_number : Kind → ℕ
+abbrev pub kind_number : PlainTerminal → ℕ
 kind_number (word bytes) = 100
 kind_number (whole n) = 101
 kind_number (real bytes) = 102
@@ -30,7 +30,7 @@ kind_number (other bytes) = 105
 kind_number (mark m) = mark_number m
 
 -- the terminal is of the class
-abbrev pub fits : Class → Kind → Bool
+abbrev pub fits : Class → PlainTerminal → Bool
 fits c kind = kind_number kind == class_number c
 
 abbrev pub Stack : Type 0
@@ -42,11 +42,11 @@ pub data Move : Type 0 where
   omitted : Move
   refuses : Move
 
-abbrev pub move_by : List Row → Bool → Kind → Move
+abbrev pub move_by : List Row → Bool → PlainTerminal → Move
 move_by [] omits kind = if omits then omitted else refuses
 move_by (r ∷ rs) omits kind = if fits r.first kind then takes r.wanted else move_by rs omits kind
 
-unfoldable pub move : Symbol → Kind → Move
+unfoldable pub move : Symbol → PlainTerminal → Move
 move symbol kind = move_by (rows symbol) (can_omit symbol) kind
 
 abbrev pub chosen : Move → Stack → Option Stack → Option Stack
@@ -55,9 +55,9 @@ chosen omitted below later = later
 chosen refuses below later = None
 
 -- what is wanted behind the terminal, if a text may go on with it
-unfoldable pub step : Stack → Kind → Option Stack
-step [] kind = None
-step (x ∷ below) kind = chosen (move x kind) below (step below kind)
+unfoldable pub stack_after : Stack → PlainTerminal → Option Stack
+stack_after [] kind = None
+stack_after (x ∷ below) kind = chosen (move x kind) below (stack_after below kind)
 
 -- all that is wanted may be left out
 unfoldable pub ends : Stack → Bool
@@ -96,9 +96,9 @@ fate_after outer (Some wanted) at more =
 
 -- What comes of the terminals where the stack is wanted. The first number is how many openers are open outside, and
 -- the second is the end of the text.
-unfoldable pub fate : ℕ → ℕ → Stack → List Spot → Fate
+unfoldable pub fate : ℕ → ℕ → Stack → List PlacedTerminal → Fate
 fate outer end wanted [] = if ends wanted then finished else syntax_at end
-fate outer end wanted (x ∷ xs) = fate_after outer (step wanted x.kind) x.at (λ next. fate outer end next xs)
+fate outer end wanted (x ∷ xs) = fate_after outer (stack_after wanted x.kind) x.at (λ next. fate outer end next xs)
 
 -- a text, and the body of a behaviour annex by itself
 abbrev pub whole_package : Stack

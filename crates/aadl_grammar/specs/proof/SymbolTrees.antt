@@ -8,8 +8,8 @@ use Rattle.aadl_tree.specs.declared.values.AssociationOperator.{AssociationOpera
 use Rattle.aadl_tree.specs.declared.declarations.Category.{Category}
 use Rattle.aadl_tree.specs.declared.declarations.Direction.{Direction}
 use Rattle.aadl_tree.specs.declared.actions.Bound.{Bound}
-use Rattle.aadl_tree.specs.Terminals.{Kind, word, whole, real, quoted, unread, mark}
-use Rattle.aadl_tree.specs.SpellingParts.{Part, token, may, plain, marked_if, parts_if}
+use Rattle.aadl_tree.specs.Terminals.{PlainTerminal, word, whole, real, quoted, unread, mark}
+use Rattle.aadl_tree.specs.SpellingParts.{SpellingPart, token, may, plain, marked_if, parts_if}
 use Rattle.aadl_tree.specs.SpellingParts as p
 use Rattle.aadl_tree.specs.Names as n
 use Rattle.aadl_tree.specs.Values as v
@@ -20,8 +20,8 @@ use Rattle.aadl_tree.specs.Declarations as d
 use Rattle.aadl_grammar.specs.proof.GrammarSymbols.{Class, a_word, a_whole, a_real, a_quoted, an_unread, the, Symbol}
 use Rattle.aadl_grammar.specs.proof.GrammarSymbols as s
 
-abbrev pub U : Type 0
-U = Unit {0}
+abbrev pub NoPlace : Type 0
+NoPlace = Unit {0}
 
 -- what a terminal of the class says
 abbrev pub Content : Class → Type 0
@@ -30,9 +30,9 @@ Content a_whole = ℤ
 Content a_real = List ℕ
 Content a_quoted = List ℕ
 Content an_unread = List ℕ
-Content (the m) = U
+Content (the m) = NoPlace
 
-abbrev pub kind_with : (c : Class) → Content c → Kind
+abbrev pub kind_with : (c : Class) → Content c → PlainTerminal
 kind_with a_word w = word w
 kind_with a_whole w = whole w
 kind_with a_real w = real w
@@ -40,23 +40,23 @@ kind_with a_quoted w = quoted w
 kind_with an_unread w = unread w
 kind_with (the m) w = mark m
 
-abbrev pub id : List ℕ → n.Identifier U
-id w = record { at = tt; spelling = w }
+abbrev pub identifier_of : List ℕ → n.Identifier NoPlace
+identifier_of w = record { at = tt; spelling = w }
 
 -- between the parentheses of a loop
-pub record Head : Type 0 where
-  pub counter : n.Identifier U
-  pub data_type : n.Reference U
+pub record LoopHead : Type 0 where
+  pub counter : n.Identifier NoPlace
+  pub data_type : n.Reference NoPlace
   pub low : Bound
   pub high : Bound
 
 -- a declaration without its category
-pub data Rest : Type 0 where
-  type_rest : n.Identifier U → List (d.Feature U) → v.Associations U → List (x.Annex U) → n.Identifier U → Rest
-  implementation_rest : d.ImplementationName U → List (d.Subcomponent U) → List (d.Connection U) → v.Associations U
-      → List (x.Annex U) → d.ImplementationName U → Rest
+pub data DeclarationRest : Type 0 where
+  type_rest : n.Identifier NoPlace → List (d.Feature NoPlace) → v.Associations NoPlace → List (x.Annex NoPlace) → n.Identifier NoPlace → DeclarationRest
+  implementation_rest : d.ImplementationName NoPlace → List (d.Subcomponent NoPlace) → List (d.Connection NoPlace) → v.Associations NoPlace
+      → List (x.Annex NoPlace) → d.ImplementationName NoPlace → DeclarationRest
 
-abbrev pub declaration_of : Category → Rest → d.Declaration U
+abbrev pub declaration_of : Category → DeclarationRest → d.Declaration NoPlace
 declaration_of c (type_rest name features own annexes end_name) =
     d.type (record {
       at = tt;
@@ -79,7 +79,7 @@ declaration_of c (implementation_rest name subs links own annexes end_name) =
       end_name = end_name;
     })
 
-abbrev pub rest_parts : Rest → List (Part U)
+abbrev pub rest_parts : DeclarationRest → List (SpellingPart NoPlace)
 rest_parts (type_rest name features own annexes end_name) =
     n.identifier_parts name ++ (d.section_parts p.feature_section (flat_map d.feature_parts features)
     ++ (d.section_parts p.property_section (v.associations_parts own)
@@ -92,169 +92,169 @@ rest_parts (implementation_rest name subs links own annexes end_name) =
     ++ (flat_map x.annex_parts annexes ++ d.ending_parts (d.implementation_name_parts end_name))))))
 
 -- what a section has, behind its word
-abbrev pub section_rest : List (Part U) → List (Part U)
+abbrev pub section_rest : List (SpellingPart NoPlace) → List (SpellingPart NoPlace)
 section_rest [] = plain k.Nothing ∷ (plain k.Semicolon ∷ [])
 section_rest (q ∷ qs) = q ∷ qs
 
-abbrev pub compared_parts : Option (RelationOperator × e.Sum U) → List (Part U)
+abbrev pub compared_parts : Option (RelationOperator × e.Sum NoPlace) → List (SpellingPart NoPlace)
 compared_parts None = []
 compared_parts (Some c) = plain (e.relation_mark c.0) ∷ e.sum_parts c.1
 
-abbrev pub relation_of : e.Sum U → Option (RelationOperator × e.Sum U) → e.Relation U
+abbrev pub relation_of : e.Sum NoPlace → Option (RelationOperator × e.Sum NoPlace) → e.Relation NoPlace
 relation_of y None = e.single y
 relation_of y (Some c) = e.compared y c.0 c.1
 
 -- a relation behind `and` or `or`, and whether `then` or `else` stands before it
-abbrev pub after_parts : Mark → Bool × e.Relation U → List (Part U)
+abbrev pub after_parts : Mark → Bool × e.Relation NoPlace → List (SpellingPart NoPlace)
 after_parts m (true, y) = plain m ∷ e.relation_parts y
 after_parts m (false, y) = e.relation_parts y
 
-abbrev pub and_join : Bool × e.Relation U → e.Relations U → e.Relations U
+abbrev pub and_join : Bool × e.Relation NoPlace → e.Relations NoPlace → e.Relations NoPlace
 and_join (true, y) z = e.join logic.AndThen y z
 and_join (false, y) z = e.join logic.And y z
 
-abbrev pub or_join : Bool × e.Relation U → e.Relations U → e.Relations U
+abbrev pub or_join : Bool × e.Relation NoPlace → e.Relations NoPlace → e.Relations NoPlace
 or_join (true, y) z = e.join logic.OrElse y z
 or_join (false, y) z = e.join logic.Or y z
 
-abbrev pub target_parts : e.Expression U ⊎ e.Expression U → List (Part U)
-target_parts (inl y) = plain k.Assign ∷ e.expression_parts y
-target_parts (inr y) = plain k.Bang ∷ a.test_parts y
+abbrev pub after_target_parts : e.Expression NoPlace ⊎ e.Expression NoPlace → List (SpellingPart NoPlace)
+after_target_parts (inl y) = plain k.Assign ∷ e.expression_parts y
+after_target_parts (inr y) = plain k.Bang ∷ a.test_parts y
 
-abbrev pub act : List ℕ → e.Expression U ⊎ e.Expression U → a.Action U
-act w (inl y) = a.assign (id w) y
-act w (inr y) = a.send (id w) y
+abbrev pub act : List ℕ → e.Expression NoPlace ⊎ e.Expression NoPlace → a.Action NoPlace
+act w (inl y) = a.assign (identifier_of w) y
+act w (inr y) = a.send (identifier_of w) y
 
-abbrev pub head_parts : Head → List (Part U)
+abbrev pub head_parts : LoopHead → List (SpellingPart NoPlace)
 head_parts t =
     plain k.ParenOpen ∷ (n.identifier_parts t.counter ++ (plain k.Colon ∷ (n.reference_parts t.data_type ++ (plain k.In
     ∷ (a.bound_parts t.low ++ (plain k.Range ∷ (a.bound_parts t.high ++ plain k.ParenClose ∷ [])))))))
 
 -- some actions, or none
-abbrev pub body_parts : a.Block U → List (Part U)
+abbrev pub body_parts : a.Block NoPlace → List (SpellingPart NoPlace)
 body_parts a.no_block = []
 body_parts (a.block y) = a.actions_parts y
 
-abbrev pub more_of : a.Block U → a.Mores U
+abbrev pub more_of : a.Block NoPlace → a.Mores NoPlace
 more_of a.no_block = a.no_mores
 more_of (a.block (a.actions y z)) = a.more y z
 
-abbrev pub guarded_parts : Option (x.Guard U) → List (Part U)
+abbrev pub guarded_parts : Option (x.Guard NoPlace) → List (SpellingPart NoPlace)
 guarded_parts g = plain k.GuardOpen ∷ (parts_if x.guard_parts g ++ plain k.GuardClose ∷ [])
 
 -- from the first word of a transition up to its target: the word is the source, or the label
-abbrev pub after_word_parts : Option (n.Identifier U) × Option (x.Guard U) → List (Part U)
+abbrev pub after_word_parts : Option (n.Identifier NoPlace) × Option (x.Guard NoPlace) → List (SpellingPart NoPlace)
 after_word_parts (None, g) = guarded_parts g
 after_word_parts (Some y, g) = plain k.Colon ∷ (n.identifier_parts y ++ guarded_parts g)
 
-abbrev pub transition_of : n.Identifier U → Option (n.Identifier U) × Option (x.Guard U) → n.Identifier U
-    → Option (a.Block U) → x.Transition U
+abbrev pub transition_of : n.Identifier NoPlace → Option (n.Identifier NoPlace) × Option (x.Guard NoPlace) → n.Identifier NoPlace
+    → Option (a.Block NoPlace) → x.Transition NoPlace
 transition_of first (None, g) target effect =
     record { label = None; source = first; guard = g; target = target; effect = effect }
 transition_of first (Some y, g) target effect =
     record { label = Some first; source = y; guard = g; target = target; effect = effect }
 
 abbrev pub TreeOf : Symbol → Type 0
-TreeOf (s.only m) = U
-TreeOf s.identifier = n.Identifier U
-TreeOf s.name = n.Name U
-TreeOf s.names = List (n.Identifier U)
-TreeOf s.path = n.Path U
-TreeOf s.paths = List (n.Identifier U)
-TreeOf s.more_identifiers = List (n.Identifier U)
-TreeOf s.reference = n.Reference U
-TreeOf s.dot_identifier = Option (n.Identifier U)
+TreeOf (s.only m) = NoPlace
+TreeOf s.identifier = n.Identifier NoPlace
+TreeOf s.name = n.Name NoPlace
+TreeOf s.names = List (n.Identifier NoPlace)
+TreeOf s.path = n.Path NoPlace
+TreeOf s.paths = List (n.Identifier NoPlace)
+TreeOf s.more_identifiers = List (n.Identifier NoPlace)
+TreeOf s.reference = n.Reference NoPlace
+TreeOf s.dot_identifier = Option (n.Identifier NoPlace)
 TreeOf s.figure = v.UnsignedNumber
-TreeOf s.unit = Option (n.Identifier U)
-TreeOf s.quantity = v.Quantity U
-TreeOf s.upper = Option (v.Quantity U)
-TreeOf s.value = v.Value U
-TreeOf s.path_group = n.Path U
-TreeOf s.reference_group = n.Reference U
-TreeOf s.values = v.Values U
-TreeOf s.more_values = v.Values U
+TreeOf s.unit = Option (n.Identifier NoPlace)
+TreeOf s.quantity = v.Quantity NoPlace
+TreeOf s.upper = Option (v.Quantity NoPlace)
+TreeOf s.value = v.Value NoPlace
+TreeOf s.path_group = n.Path NoPlace
+TreeOf s.reference_group = n.Reference NoPlace
+TreeOf s.values = v.Values NoPlace
+TreeOf s.more_values = v.Values NoPlace
 TreeOf s.operator = AssociationOperator
 TreeOf s.constant = Bool
-TreeOf s.applies = List (n.Path U)
-TreeOf s.more_paths = List (n.Path U)
-TreeOf s.association = v.Association U
-TreeOf s.associations = v.Associations U
-TreeOf s.properties = v.Associations U
-TreeOf s.primary = e.Primary U
+TreeOf s.applies = List (n.Path NoPlace)
+TreeOf s.more_paths = List (n.Path NoPlace)
+TreeOf s.association = v.Association NoPlace
+TreeOf s.associations = v.Associations NoPlace
+TreeOf s.properties = v.Associations NoPlace
+TreeOf s.primary = e.Primary NoPlace
 TreeOf s.fresh = Bool
-TreeOf s.factor = e.Factor U
-TreeOf s.term = e.Term U
-TreeOf s.factors = e.Factors U
-TreeOf s.sum = e.Sum U
-TreeOf s.terms = e.Terms U
-TreeOf s.compared = Option (RelationOperator × e.Sum U)
-TreeOf s.relation = e.Relation U
-TreeOf s.relations = e.Relations U
-TreeOf s.after_and = Bool × e.Relation U
-TreeOf s.after_or = Bool × e.Relation U
-TreeOf s.expression = e.Expression U
-TreeOf s.test = e.Expression U
+TreeOf s.factor = e.Factor NoPlace
+TreeOf s.term = e.Term NoPlace
+TreeOf s.factors = e.Factors NoPlace
+TreeOf s.sum = e.Sum NoPlace
+TreeOf s.terms = e.Terms NoPlace
+TreeOf s.compared = Option (RelationOperator × e.Sum NoPlace)
+TreeOf s.relation = e.Relation NoPlace
+TreeOf s.relations = e.Relations NoPlace
+TreeOf s.after_and = Bool × e.Relation NoPlace
+TreeOf s.after_or = Bool × e.Relation NoPlace
+TreeOf s.expression = e.Expression NoPlace
+TreeOf s.test = e.Expression NoPlace
 TreeOf s.whole_number = ℤ
 TreeOf s.bound = Bound
-TreeOf s.after_target = e.Expression U ⊎ e.Expression U
-TreeOf s.loop_head = Head
-TreeOf s.action = a.Action U
-TreeOf s.actions = a.Actions U
-TreeOf s.mores = a.Mores U
-TreeOf s.after_semicolon = a.Block U
-TreeOf s.elsifs = a.Elsifs U
-TreeOf s.otherwise = a.Otherwise U
-TreeOf s.end_if = U
-TreeOf s.closing_if = U
-TreeOf s.block = a.Block U
-TreeOf s.body = a.Block U
-TreeOf s.variable = x.VariableDeclaration U
-TreeOf s.variable_list = List (x.VariableDeclaration U)
-TreeOf s.variables = Option (List (x.VariableDeclaration U))
+TreeOf s.after_target = e.Expression NoPlace ⊎ e.Expression NoPlace
+TreeOf s.loop_head = LoopHead
+TreeOf s.action = a.Action NoPlace
+TreeOf s.actions = a.Actions NoPlace
+TreeOf s.mores = a.Mores NoPlace
+TreeOf s.after_semicolon = a.Block NoPlace
+TreeOf s.elsifs = a.Elsifs NoPlace
+TreeOf s.otherwise = a.Otherwise NoPlace
+TreeOf s.end_if = NoPlace
+TreeOf s.closing_if = NoPlace
+TreeOf s.block = a.Block NoPlace
+TreeOf s.body = a.Block NoPlace
+TreeOf s.variable = x.VariableDeclaration NoPlace
+TreeOf s.variable_list = List (x.VariableDeclaration NoPlace)
+TreeOf s.variables = Option (List (x.VariableDeclaration NoPlace))
 TreeOf s.initial = Bool
 TreeOf s.complete = Bool
-TreeOf s.state = x.StateDeclaration U
-TreeOf s.state_list = List (x.StateDeclaration U)
-TreeOf s.states = Option (List (x.StateDeclaration U))
-TreeOf s.guard = Option (x.Guard U)
-TreeOf s.guarded = Option (x.Guard U)
-TreeOf s.after_word = Option (n.Identifier U) × Option (x.Guard U)
-TreeOf s.effect = Option (a.Block U)
-TreeOf s.transition = x.Transition U
-TreeOf s.transition_list = List (x.Transition U)
-TreeOf s.transitions = Option (List (x.Transition U))
-TreeOf s.content = x.AnnexContent U
-TreeOf s.annex = x.Annex U
-TreeOf s.annexes = List (x.Annex U)
+TreeOf s.state = x.StateDeclaration NoPlace
+TreeOf s.state_list = List (x.StateDeclaration NoPlace)
+TreeOf s.states = Option (List (x.StateDeclaration NoPlace))
+TreeOf s.guard = Option (x.Guard NoPlace)
+TreeOf s.guarded = Option (x.Guard NoPlace)
+TreeOf s.after_word = Option (n.Identifier NoPlace) × Option (x.Guard NoPlace)
+TreeOf s.effect = Option (a.Block NoPlace)
+TreeOf s.transition = x.Transition NoPlace
+TreeOf s.transition_list = List (x.Transition NoPlace)
+TreeOf s.transitions = Option (List (x.Transition NoPlace))
+TreeOf s.content = x.AnnexContent NoPlace
+TreeOf s.annex = x.Annex NoPlace
+TreeOf s.annexes = List (x.Annex NoPlace)
 TreeOf s.direction = Direction
 TreeOf s.category = Category
-TreeOf s.data_type = Option (n.Reference U)
-TreeOf s.feature = d.Feature U
-TreeOf s.subcomponent = d.Subcomponent U
-TreeOf s.connection_end = d.ConnectionEnd U
-TreeOf s.connection = d.Connection U
-TreeOf s.feature_list = List (d.Feature U)
-TreeOf s.feature_section = List (d.Feature U)
-TreeOf s.features = List (d.Feature U)
-TreeOf s.subcomponent_list = List (d.Subcomponent U)
-TreeOf s.subcomponent_section = List (d.Subcomponent U)
-TreeOf s.subcomponents = List (d.Subcomponent U)
-TreeOf s.connection_list = List (d.Connection U)
-TreeOf s.connection_section = List (d.Connection U)
-TreeOf s.connections = List (d.Connection U)
-TreeOf s.property_section = v.Associations U
-TreeOf s.own_properties = v.Associations U
-TreeOf s.implementation_name = d.ImplementationName U
-TreeOf s.type_end = n.Identifier U
-TreeOf s.implementation_end = d.ImplementationName U
-TreeOf s.package_end = n.Name U
-TreeOf s.after_category = Rest
-TreeOf s.declarations = List (d.Declaration U)
-TreeOf s.more_names = List (n.Name U)
-TreeOf s.withs = List (d.With U)
-TreeOf s.a_package = d.PackageTree U
+TreeOf s.data_type = Option (n.Reference NoPlace)
+TreeOf s.feature = d.Feature NoPlace
+TreeOf s.subcomponent = d.Subcomponent NoPlace
+TreeOf s.connection_end = d.ConnectionEnd NoPlace
+TreeOf s.connection = d.Connection NoPlace
+TreeOf s.feature_list = List (d.Feature NoPlace)
+TreeOf s.feature_section = List (d.Feature NoPlace)
+TreeOf s.features = List (d.Feature NoPlace)
+TreeOf s.subcomponent_list = List (d.Subcomponent NoPlace)
+TreeOf s.subcomponent_section = List (d.Subcomponent NoPlace)
+TreeOf s.subcomponents = List (d.Subcomponent NoPlace)
+TreeOf s.connection_list = List (d.Connection NoPlace)
+TreeOf s.connection_section = List (d.Connection NoPlace)
+TreeOf s.connections = List (d.Connection NoPlace)
+TreeOf s.property_section = v.Associations NoPlace
+TreeOf s.own_properties = v.Associations NoPlace
+TreeOf s.implementation_name = d.ImplementationName NoPlace
+TreeOf s.type_end = n.Identifier NoPlace
+TreeOf s.implementation_end = d.ImplementationName NoPlace
+TreeOf s.package_end = n.Name NoPlace
+TreeOf s.after_category = DeclarationRest
+TreeOf s.declarations = List (d.Declaration NoPlace)
+TreeOf s.more_names = List (n.Name NoPlace)
+TreeOf s.withs = List (d.With NoPlace)
+TreeOf s.a_package = d.PackageTree NoPlace
 
-abbrev pub parts : (y : Symbol) → TreeOf y → List (Part U)
+abbrev pub parts : (y : Symbol) → TreeOf y → List (SpellingPart NoPlace)
 parts (s.only m) t = plain m ∷ []
 parts s.identifier t = n.identifier_parts t
 parts s.name t = n.name_parts t
@@ -296,7 +296,7 @@ parts s.expression t = e.expression_parts t
 parts s.test t = a.test_parts t
 parts s.whole_number t = token (whole t) [] ∷ []
 parts s.bound t = a.bound_parts t
-parts s.after_target t = target_parts t
+parts s.after_target t = after_target_parts t
 parts s.loop_head t = head_parts t
 parts s.action t = a.action_parts t
 parts s.actions t = a.actions_parts t
@@ -356,10 +356,10 @@ parts s.a_package t = d.package_parts t
 
 -- trees of symbols that stand one behind another, and what spells them
 abbrev pub Trees : List Symbol → Type 0
-Trees [] = U
+Trees [] = NoPlace
 Trees (y ∷ f) = TreeOf y × Trees f
 
-abbrev pub parts_all : (f : List Symbol) → Trees f → List (Part U)
+abbrev pub parts_all : (f : List Symbol) → Trees f → List (SpellingPart NoPlace)
 parts_all [] ts = []
 parts_all (y ∷ []) ts = parts y ts.0
 parts_all (y ∷ z ∷ f) ts = parts y ts.0 ++ parts_all (z ∷ f) ts.1

@@ -3,12 +3,12 @@
 use Rattle.std.specs.Prelude.{◌≡◌, ℕ, List, Some, reverse, slice_get}
 use Rattle.aadl_tree.specs.Declarations.{PackageTree}
 use Rattle.aadl_tree.specs.proof.PackageViews.{placed}
-use Rattle.aadl_uses.specs.Uses.{standing}
-use Rattle.aadl_chains.specs.LinksFeedsAndTaps.{Ends}
+use Rattle.aadl_uses.specs.Uses.{number_at_path}
+use Rattle.aadl_chains.specs.LinksFeedsAndTaps.{CarriedChain}
 use Rattle.aadl_instance.specs.declared.chain.Chain.{Chain}
 use Rattle.aadl_instance.specs.declared.chain_search.Incoming.{Incoming}
 use Rattle.aadl_instance.specs.declared.chain_map.ChainMap.{ChainMap}
-use Rattle.aadl_instance.specs.declared.chain_map.ThreadNode.{ThreadNode}
+use Rattle.aadl_instance.specs.declared.chain_map.NumberedThread.{NumberedThread}
 use Rattle.aadl_instance.specs.proof.PortNumberTables.{AreNumbers}
 use Rattle.aadl_instance.specs.proof.ChainsSoFar.{paths_of, IsSettled, AreShown, AreInto, AreTapsTo}
 
@@ -30,12 +30,12 @@ abbrev pub IsNumbered : ChainMap → ℕ → List ℕ → Type 0
 IsNumbered network node path = slice_get (paths_in network) node ≡ Some path
 
 -- it is the thread of its number, and its declaration stands at its path
-pub record IsNode (network : ChainMap) (node : ThreadNode) : Type 0 where
+pub record IsNode (network : ChainMap) (node : NumberedThread) : Type 0 where
   pub numbered : IsNumbered network node.number.0 (reverse node.path.now)
-  pub stands : standing (tree_of network) network.root (reverse node.path.now) ≡ Some node.declaration
+  pub stands : number_at_path (tree_of network) network.root (reverse node.path.now) ≡ Some node.declaration
 
 -- all chains of a kind, in an order
-abbrev pub Shows : ChainMap → (PackageTree ℕ → ℕ → Ends → Type 0) → (Ends → Ends → Type 0) → List Chain → Type 0
+abbrev pub Shows : ChainMap → (PackageTree ℕ → ℕ → CarriedChain → Type 0) → (CarriedChain → CarriedChain → Type 0) → List Chain → Type 0
 Shows network Kind Before chains =
     AreShown (tree_of network) network.root (paths_in network) (Kind (tree_of network) network.root) Before chains
 

@@ -12,9 +12,9 @@ use Rattle.aadl_uses.specs.proof.ContainmentOrders.{IsOrder}
 use Rattle.aadl_uses.specs.ThreadLocations.{ThreadWith}
 use Rattle.aadl_chains.specs.proof.PortsJoinedInside.{is_thread_at}
 use Rattle.aadl_chains.specs.Chains.{Port}
-use Rattle.aadl_chains.specs.proof.DeclaredEnds.{AreDeclared}
+use Rattle.aadl_chains.specs.proof.DeclaredEnds.{ArePermitted}
 use Rattle.aadl_chains.specs.proof.Walks.{OneEach}
-use Rattle.aadl_chains.specs.LinksFeedsAndTaps.{Ends, IsLink, IsFeed, IsTap, TargetBefore, PortBefore}
+use Rattle.aadl_chains.specs.LinksFeedsAndTaps.{CarriedChain, IsLink, IsFeed, IsTap, TargetBefore, PortBefore}
 use Rattle.aadl_instance.specs.declared.chain.Chain.{Chain}
 use Rattle.aadl_instance.specs.declared.chain_search.Incoming.{Incoming}
 use Rattle.aadl_instance.specs.declared.chain.ChainEnd.{ChainEnd}
@@ -32,7 +32,7 @@ paths_of threads = map (λ path. reverse path.items) threads
 -- paths of its threads.
 pub record IsSettled (tree : PackageTree ℕ) (keys : List ℕ) (root : ℕ) (paths : List (List ℕ)) : Type 0 where
   pub sequence : IsOrder (containment tree) keys
-  pub declared : AreDeclared tree
+  pub declared : ArePermitted tree
   pub one : OneEach tree root
   pub no_thread : is_thread_at tree root ≡ false
   pub threads : Lists (IsThreadAt tree root) PathBefore paths
@@ -40,10 +40,10 @@ pub record IsSettled (tree : PackageTree ℕ) (keys : List ℕ) (root : ℕ) (pa
   pub few_ports : ThreadWith tree root (λ x path. PORTS < length (ports_of tree x)) → ⊥
 
 -- chains that are shown, each of all that have P, in an order
-pub record AreShown (tree : PackageTree ℕ) (root : ℕ) (paths : List (List ℕ)) (P : Ends → Type 0)
-    (Before : Ends → Ends → Type 0)
+pub record AreShown (tree : PackageTree ℕ) (root : ℕ) (paths : List (List ℕ)) (P : CarriedChain → Type 0)
+    (Before : CarriedChain → CarriedChain → Type 0)
     (chains : List Chain) : Type 0 where
-  pub ends : List Ends
+  pub ends : List CarriedChain
   pub listed : Lists P Before ends
   pub shown : chains ≡ map (chain_in tree root paths) ends
 
@@ -52,9 +52,9 @@ abbrev pub HasPort : PackageTree ℕ → ℕ → Port → Type 0
 HasPort tree root p = p.port < length (ports_at tree (component_at tree root p.path))
 
 -- a port of the root or of a thread
-abbrev pub IsBegin : PackageTree ℕ → ℕ → ChainStart → Type 0
-IsBegin tree root (begins.Root port) = HasPort tree root (record { path = []; port = port })
-IsBegin tree root (begins.Thread path port) =
+abbrev pub IsChainStart : PackageTree ℕ → ℕ → ChainStart → Type 0
+IsChainStart tree root (begins.Root port) = HasPort tree root (record { path = []; port = port })
+IsChainStart tree root (begins.Thread path port) =
     IsThreadAt tree root (reverse path.items) × HasPort tree root (record { path = reverse path.items; port = port })
 
 -- a port of one of the threads before one, or one of its ports before one

@@ -28,16 +28,16 @@ line_of States = 9
 line_of Path = 10
 
 -- there is more than that
-abbrev pub IsPassed : PackageTree ℕ → ℕ → Limit → Type 0
-IsPassed tree root Components = MoreThan COMPONENTS (IsThreadAt tree root) PathBefore
-IsPassed tree root Links = MoreThan LINKS (IsLink tree root) OtherTarget
-IsPassed tree root Ports = ThreadWith tree root (λ x path. PORTS < length (ports_of tree x))
-IsPassed tree root Variables = ThreadWith tree root (λ x path. VARIABLES < variable_count x)
-IsPassed tree root States = ThreadWith tree root (λ x path. STATES < state_count x)
-IsPassed tree root Path = ThreadWith tree root (λ x path. PATH_BYTES < length (spelled_path tree root path))
+abbrev pub IsExceeded : PackageTree ℕ → ℕ → Limit → Type 0
+IsExceeded tree root Components = MoreThan COMPONENTS (IsThreadAt tree root) PathBefore
+IsExceeded tree root Links = MoreThan LINKS (IsLink tree root) OtherTarget
+IsExceeded tree root Ports = ThreadWith tree root (λ x path. PORTS < length (ports_of tree x))
+IsExceeded tree root Variables = ThreadWith tree root (λ x path. VARIABLES < variable_count x)
+IsExceeded tree root States = ThreadWith tree root (λ x path. STATES < state_count x)
+IsExceeded tree root Path = ThreadWith tree root (λ x path. PATH_BYTES < length (spelled_path tree root path))
 
 -- the first limit that is passed, or none where none is
-abbrev pub IsFirstPassed : PackageTree ℕ → ℕ → Option Limit → Type 0
-IsFirstPassed tree root None = (limit : Limit) → IsPassed tree root limit → ⊥
-IsFirstPassed tree root (Some limit) =
-    IsPassed tree root limit × ((other : Limit) → line_of other < line_of limit → IsPassed tree root other → ⊥)
+abbrev pub IsFirstExceeded : PackageTree ℕ → ℕ → Option Limit → Type 0
+IsFirstExceeded tree root None = (limit : Limit) → IsExceeded tree root limit → ⊥
+IsFirstExceeded tree root (Some limit) =
+    IsExceeded tree root limit × ((other : Limit) → line_of other < line_of limit → IsExceeded tree root other → ⊥)

@@ -3,7 +3,7 @@ use Rattle.std.specs.List.{All}
 use Rattle.aadl_lex.specs.declared.token.Token.{Token}
 use Rattle.aadl_lex.specs.proof.TokenSpellings.{IsWordAt}
 use Rattle.aadl_lex.proofs.TokenSpellings.{words_of}
-use Rattle.aadl_tree.specs.Terminals.{spots}
+use Rattle.aadl_tree.specs.Terminals.{placed_terminals}
 use Rattle.aadl_grammar.specs.proof.StackMachine.{depth}
 use Rattle.aadl_grammar.specs.proof.ParserAnswers.{here}
 use Rattle.aadl_grammar.specs.proof.TerminalSpots.{spots_of}
@@ -26,7 +26,7 @@ returns-in_err-parts-clause-fault c =
     (at_fault c.args.text.now c.in-Ok.tokens.items c.in-Ok.ensures.tokens (length c.args.text.now)
     (spots_of c.args.text.now c.as_slice-2.result.now) c.in_err-parts.field-0.0 refl
     (ap (spots_of c.args.text.now) c.as_slice-2.ensures.value ∙ c.in_ok-terminals.ensures.spots
-    ∙ ap (spots c.args.text.now) c.as_slice.ensures.value) (c.in_err-parts.ensures.runs 0 [] refl))
+    ∙ ap (placed_terminals c.args.text.now) c.as_slice.ensures.value) (c.in_err-parts.ensures.runs 0 [] refl))
 
 pub returns-then-next-len-clause-fault : goal.returns-then-next-len-clause-fault
 unfolding here depth
@@ -34,7 +34,7 @@ returns-then-next-len-clause-fault c =
     left_fault c.args.text.now c.in-Ok.tokens.items c.in-Ok.ensures.tokens (length c.args.text.now)
     (spots_of c.args.text.now c.as_slice-2.result.now) _ c.place.result refl
     (ap (spots_of c.args.text.now) c.as_slice-2.ensures.value ∙ c.in_ok-terminals.ensures.spots
-    ∙ ap (spots c.args.text.now) c.as_slice.ensures.value) (c.in_ok-parts.ensures.runs 0 [] refl)
+    ∙ ap (placed_terminals c.args.text.now) c.as_slice.ensures.value) (c.in_ok-parts.ensures.runs 0 [] refl)
     (some_left c.args.text.now c.as_slice-2.result.now c.in_ok-parts.next
     (omega (arith, c.if-next-len.true, c.len.ensures, ap length c.as_slice-2.ensures.value)))
     c.place.ensures
@@ -48,7 +48,7 @@ invariant_of-result c =
         at_tree c.args.text.now c.in-Ok.tokens.items c.in-Ok.ensures.tokens (length c.args.text.now)
             (spots_of c.args.text.now c.as_slice-2.result.now) (package_of c.in_ok-parts.parts) _
             (ap (spots_of c.args.text.now) c.as_slice-2.ensures.value ∙ c.in_ok-terminals.ensures.spots
-            ∙ ap (spots c.args.text.now) c.as_slice.ensures.value) (c.in_ok-parts.ensures.runs 0 [] refl)
+            ∙ ap (placed_terminals c.args.text.now) c.as_slice.ensures.value) (c.in_ok-parts.ensures.runs 0 [] refl)
             c.in_ok-parts.ensures.reads
             (spots_past c.args.text.now c.as_slice-2.result.now c.in_ok-parts.next
             (omega (arith, c.if-next-len.false, c.len.ensures, ap length c.as_slice-2.ensures.value))),
@@ -62,7 +62,7 @@ returns-clause-tree c =
     (at_tree c.args.text.now c.in-Ok.tokens.items c.in-Ok.ensures.tokens (length c.args.text.now)
     (spots_of c.args.text.now c.as_slice-2.result.now) (package_of c.in_ok-parts.parts) _
     (ap (spots_of c.args.text.now) c.as_slice-2.ensures.value ∙ c.in_ok-terminals.ensures.spots
-    ∙ ap (spots c.args.text.now) c.as_slice.ensures.value) (c.in_ok-parts.ensures.runs 0 [] refl)
+    ∙ ap (placed_terminals c.args.text.now) c.as_slice.ensures.value) (c.in_ok-parts.ensures.runs 0 [] refl)
     c.in_ok-parts.ensures.reads
     (spots_past c.args.text.now c.as_slice-2.result.now c.in_ok-parts.next
     (omega (arith, c.if-next-len.false, c.len.ensures, ap length c.as_slice-2.ensures.value))))

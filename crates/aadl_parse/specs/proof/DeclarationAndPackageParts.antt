@@ -1,6 +1,6 @@
 -- Declarations without their category, and the parts of a package.
 use Rattle.std.specs.Prelude.{ℕ, List, ◌∷◌, ◌++◌, flat_map, map}
-use Rattle.aadl_tree.specs.SpellingParts.{Part, plain, feature_section, subcomponent_section, connection_section}
+use Rattle.aadl_tree.specs.SpellingParts.{SpellingPart, plain, feature_section, subcomponent_section, connection_section}
 use Rattle.aadl_tree.specs.SpellingParts.{property_section}
 use Rattle.aadl_tree.specs.Names.{identifier_parts}
 use Rattle.aadl_tree.specs.Values.{associations_parts}
@@ -20,7 +20,7 @@ use Rattle.aadl_parse.specs.declared.declarations.DeclarationRest.{DeclarationRe
 use Rattle.aadl_tree.specs.declared.mark.Mark.TheVariants as k
 use Rattle.aadl_parse.specs.declared.declarations.DeclarationRest.TheVariants as rests
 
-abbrev pub type_rest_parts : TypeRest → List (Part ℕ)
+abbrev pub type_rest_parts : TypeRest → List (SpellingPart ℕ)
 type_rest_parts x =
     identifier_parts (identifier_view kept_place x.name)
     ++ (section_parts feature_section (flat_map feature_parts (map (feature_view kept_place) x.features.items))
@@ -28,7 +28,7 @@ type_rest_parts x =
     ++ (flat_map annex_parts (map (annex_view kept_place) x.annexes.items)
     ++ ending_parts (identifier_parts (identifier_view kept_place x.end_name)))))
 
-abbrev pub implementation_rest_parts : ImplementationRest → List (Part ℕ)
+abbrev pub implementation_rest_parts : ImplementationRest → List (SpellingPart ℕ)
 implementation_rest_parts x =
     plain k.Implementation ∷ (implementation_name_parts (implementation_name_view kept_place x.name)
     ++ (section_parts subcomponent_section
@@ -39,7 +39,7 @@ implementation_rest_parts x =
     ++ (flat_map annex_parts (map (annex_view kept_place) x.annexes.items)
     ++ ending_parts (implementation_name_parts (implementation_name_view kept_place x.end_name)))))))
 
-abbrev pub rest_parts : DeclarationRest → List (Part ℕ)
+abbrev pub rest_parts : DeclarationRest → List (SpellingPart ℕ)
 rest_parts (rests.Type x) = type_rest_parts x
 rest_parts (rests.Implementation x) = implementation_rest_parts x
 

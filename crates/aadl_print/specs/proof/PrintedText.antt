@@ -1,8 +1,8 @@
 -- What has been written, and what one more terminal adds.
 use Rattle.std.specs.Prelude.{ℕ, codes, List, [], ◌∷◌, ◌++◌, if◌then◌else◌}
-use Rattle.aadl_tree.specs.Terminals.{Kind}
+use Rattle.aadl_tree.specs.Terminals.{PlainTerminal}
 use Rattle.aadl_tree.specs.declared.mark.Mark.{Mark}
-use Rattle.aadl_tree.specs.SpellingParts.{Part, token, may, plain}
+use Rattle.aadl_tree.specs.SpellingParts.{SpellingPart, token, may, plain}
 use Rattle.aadl_tree.specs.CanonicalText.{kind_text, holds_left, holds_right, ends_line, line_end}
 use Rattle.aadl_print.specs.declared.spacing.Spacing.{Spacing}
 use Rattle.aadl_print.specs.declared.spacing.Spacing.TheVariants.{Nothing, Space, LineEnd}
@@ -17,7 +17,7 @@ gap_text Nothing = []
 gap_text Space = codes " "
 gap_text LineEnd = line_end
 
-abbrev pub gap_behind : Kind → Spacing
+abbrev pub gap_behind : PlainTerminal → Spacing
 gap_behind kind = if holds_right kind then Nothing else if ends_line kind then LineEnd else Space
 
 -- before the first terminal
@@ -25,7 +25,7 @@ abbrev pub blank : Printed
 blank = record { text = []; gap = Nothing }
 
 -- one more terminal
-unfoldable pub put : Printed → Kind → Printed
+unfoldable pub put : Printed → PlainTerminal → Printed
 put before kind =
     record {
       text = before.text ++ ((if holds_left kind then [] else gap_text before.gap) ++ kind_text kind);
@@ -33,12 +33,12 @@ put before kind =
     }
 
 -- the terminals that parts keep, one behind the other
-abbrev pub printed : {P : Type 0} → Printed → List (Part P) → Printed
+abbrev pub printed : {P : Type 0} → Printed → List (SpellingPart P) → Printed
 printed before [] = before
 printed before (token kind places ∷ ps) = printed (put before kind) ps
 printed before (may extra ∷ ps) = printed before ps
 
 -- what stands in a section, behind its word; nothing where there is nothing
-abbrev pub under : {P : Type 0} → Mark → List (Part P) → List (Part P)
+abbrev pub under : {P : Type 0} → Mark → List (SpellingPart P) → List (SpellingPart P)
 under word [] = []
 under word (p ∷ ps) = plain word ∷ (p ∷ ps)

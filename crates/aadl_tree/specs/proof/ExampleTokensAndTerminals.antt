@@ -2,7 +2,7 @@
 use Rattle.std.specs.Prelude.{ℕ, pos, codes, List, [], ◌∷◌}
 use Rattle.aadl_lex.specs.declared.token.Token.{Token}
 use Rattle.aadl_lex.specs.Tokens.{token}
-use Rattle.aadl_tree.specs.Terminals.{Kind, word, whole, mark}
+use Rattle.aadl_tree.specs.Terminals.{PlainTerminal, word, whole, mark}
 use Rattle.aadl_lex.specs.declared.token.TokenKind.TheVariants as class
 use Rattle.aadl_tree.specs.declared.mark.Mark.TheVariants as k
 
@@ -18,7 +18,7 @@ annex_tokens =
 
 
 -- if (true) x := 1 end
-abbrev pub choice_kinds : List Kind
+abbrev pub choice_kinds : List PlainTerminal
 choice_kinds =
     mark k.If ∷ mark k.ParenOpen ∷ mark k.True ∷ mark k.ParenClose ∷ word (codes "x") ∷ mark k.Assign ∷ whole (pos 1)
     ∷ mark k.End ∷ []

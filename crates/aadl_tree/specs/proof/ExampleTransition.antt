@@ -1,6 +1,6 @@
 -- A transition, what it is spelled by, and its canonical text; and terminals of other texts.
 use Rattle.std.specs.Prelude.{ℕ, ℤ, pos, false, codes, List, [], ◌∷◌, ◌++◌, Some, None}
-use Rattle.aadl_tree.specs.Terminals.{Kind, word, whole, mark}
+use Rattle.aadl_tree.specs.Terminals.{PlainTerminal, word, whole, mark}
 use Rattle.aadl_tree.specs.Names.{Identifier}
 use Rattle.aadl_tree.specs.Expressions.{Expression, Term, number, named, bare, term, no_factors, total, Terms, no_terms}
 use Rattle.aadl_tree.specs.Expressions.{add, single, expression, no_relations}
@@ -37,7 +37,7 @@ counting =
     }
 
 -- with a `;` behind the last action, or without one
-abbrev pub counting_kinds : List Kind → List Kind
+abbrev pub counting_kinds : List PlainTerminal → List PlainTerminal
 counting_kinds last =
     word (codes "s") ∷ mark k.GuardOpen ∷ mark k.On ∷ mark k.Dispatch ∷ mark k.GuardClose ∷ word (codes "s")
     ∷ mark k.BraceOpen

@@ -1,20 +1,20 @@
 -- Tables that give a number to each port, and when two ports that ends of connections name are the same.
 use Rattle.std.specs.Prelude.{ℕ, Bool, false, ◌&&◌, nat_eq, List, Option, Some, None}
 use Rattle.std.specs.Map.{lookup}
-use Rattle.aadl_names.specs.declared.port_place.PortPlace.{PortPlace}
-use Rattle.aadl_names.specs.declared.port_place.PortPlace.TheVariants.{Own, Inner}
+use Rattle.aadl_names.specs.declared.port_place.NumberedPort.{NumberedPort}
+use Rattle.aadl_names.specs.declared.port_place.NumberedPort.TheVariants.{Own, Inner}
 
-abbrev pub same_site : PortPlace → PortPlace → Bool
-same_site (Own p) (Own q) = nat_eq p q
-same_site (Own p) (Inner t q) = false
-same_site (Inner s p) (Own q) = false
-same_site (Inner s p) (Inner t q) = nat_eq s t && nat_eq p q
+abbrev pub same_port : NumberedPort → NumberedPort → Bool
+same_port (Own p) (Own q) = nat_eq p q
+same_port (Own p) (Inner t q) = false
+same_port (Inner s p) (Own q) = false
+same_port (Inner s p) (Inner t q) = nat_eq s t && nat_eq p q
 
 -- an end is declared, and is this port
-abbrev pub is_site : PortPlace → Option PortPlace → Bool
-is_site port None = false
-is_site port (Some site) = same_site port site
+abbrev pub is_port : NumberedPort → Option NumberedPort → Bool
+is_port port None = false
+is_port port (Some site) = same_port port site
 
 -- the number of a port in a table
-abbrev pub number_of : List (PortPlace × ℕ) → PortPlace → Option ℕ
-number_of table port = lookup (same_site port) table
+abbrev pub number_of : List (NumberedPort × ℕ) → NumberedPort → Option ℕ
+number_of table port = lookup (same_port port) table

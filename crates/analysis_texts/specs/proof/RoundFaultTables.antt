@@ -4,5 +4,5 @@ use Rattle.pals_runs.specs.declared.vote_faults.VoteFault.{VoteFault}
 use Rattle.analysis_fields.specs.declared.replica_faults.RoundFault.{RoundFault}
 
 -- one more fault, behind those of its round, if a table of the first rounds has it
-abbrev pub filed : List (List VoteFault) → RoundFault → List (List VoteFault)
-filed table f = slice_set table f.round (slice_index_or table f.round [] ++ f.fault ∷ [])
+abbrev pub with_round_fault : List (List VoteFault) → RoundFault → List (List VoteFault)
+with_round_fault table f = slice_set table f.round (slice_index_or table f.round [] ++ f.fault ∷ [])

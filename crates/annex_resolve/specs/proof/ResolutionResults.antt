@@ -10,35 +10,35 @@ use Rattle.annex_resolve.specs.declared.violation.Violation.{Violation}
 use Rattle.pals_base.specs.PlainTrees as plain
 
 -- an expression
-pub record Reads (tree : plain.Expression) (kind : Option Kind) (findings : List Violation) (typed : Typed)
+pub record Resolves (tree : plain.Expression) (kind : Option Kind) (findings : List Violation) (typed : Typed)
     (before after : List Violation) : Type 0 where
   pub tree_is : tree_of typed.expr ≡ tree
   pub kind_is : typed.kind ≡ kind
   pub found : after ≡ before ++ findings
 
 -- later operands of a chain
-pub record ReadsOperands (tree : plain.Operands) (findings : List Violation) (operands : List Operand)
+pub record ResolvesOperands (tree : plain.Operands) (findings : List Violation) (operands : List Operand)
     (before after : List Violation) : Type 0 where
   pub tree_is : operands_along operands ≡ tree
   pub found : after ≡ before ++ findings
 
-pub record ReadsAction (tree : plain.Action) (findings : List Violation) (act : Act)
+pub record ResolvesAction (tree : plain.Action) (findings : List Violation) (act : Act)
     (before after : List Violation) : Type 0 where
   pub tree_is : action_of act ≡ tree
   pub found : after ≡ before ++ findings
 
-pub record ReadsActions (tree : plain.Actions) (findings : List Violation) (acts : List Act)
+pub record ResolvesActions (tree : plain.Actions) (findings : List Violation) (acts : List Act)
     (before after : List Violation) : Type 0 where
   pub tree_is : actions_along acts ≡ tree
   pub found : after ≡ before ++ findings
 
-pub record ReadsBranch (guard : plain.Expression) (actions : plain.Actions) (findings : List Violation)
+pub record ResolvesBranch (guard : plain.Expression) (actions : plain.Actions) (findings : List Violation)
     (branch : Branch) (before after : List Violation) : Type 0 where
   pub guard_is : tree_of branch.guard ≡ guard
   pub actions_are : actions_along branch.acts.items ≡ actions
   pub found : after ≡ before ++ findings
 
-pub record ReadsBranches (tree : plain.Branches) (findings : List Violation) (branches : List Branch)
+pub record ResolvesBranches (tree : plain.Branches) (findings : List Violation) (branches : List Branch)
     (before after : List Violation) : Type 0 where
   pub tree_is : branches_along branches ≡ tree
   pub found : after ≡ before ++ findings

@@ -12,7 +12,7 @@ use Rattle.pals_model.specs.proof.CompositionLaws.Kinds.{PartFits}
 use Rattle.pals_runs.specs.declared.commands.Command.{Command}
 use Rattle.scenario_json.specs.declared.scenario.Scenario.{Scenario}
 use Rattle.analysis_texts.specs.ReplicasAndRoundFaults.{replicated_in, faults_of}
-use Rattle.triple_vote.specs.Replicas.{voted_composition, vshown}
+use Rattle.triple_vote.specs.Replicas.{voted_composition, voted_tap}
 use Rattle.plant_fuse.specs.FusedComposition.{Inputs, IsFused}
 use Rattle.bus_machine.specs.States.{BusState}
 use Rattle.bus_machine.specs.Agreement.{Agrees}
@@ -62,7 +62,7 @@ VotesOfScenariosFit = OfScenarios (λ design scenario. (rounds : ℕ)
 abbrev pub ShownOfScenariosFit : Type 0
 ShownOfScenariosFit = OfScenarios (λ design scenario. (tap : Tap) (round : ℕ)
     → TupleFits (out_kind (slice_get design.components tap.source.0) tap.out_port)
-    (vshown design scenario.env (replicated_in design scenario.replicas) (faults_of scenario.faults) tap round))
+    (voted_tap design scenario.env (replicated_in design scenario.replicas) (faults_of scenario.faults) tap round))
 
 -- ---- where its plants are fused with their controllers
 abbrev pub FusedOfScenariosFit : Type 0

@@ -5,7 +5,7 @@ use Rattle.aadl_tree.specs.proof.GivenTrees.{IsGiven}
 use Rattle.aadl_names.specs.declared.fault.PackageFault.{PackageFault}
 use Rattle.aadl_names.specs.declared.fault.PackageFault.TheVariants.{Memory}
 use Rattle.aadl_instance.specs.Faults.{IsFault}
-use Rattle.aadl_instance.specs.FlattenedDesign.{Parts, IsFlat}
+use Rattle.aadl_instance.specs.FlattenedDesign.{InstanceParts, IsFlat}
 use Rattle.model_violations.specs.Violations.{shown_by, AreViolations}
 use Rattle.pals_model.specs.declared.design.DesignParts.{DesignParts}
 use Rattle.pals_model.specs.DesignRules.{IsDesign}
@@ -28,9 +28,9 @@ pub record ExistenceLaws : Type 0 where
   -- a package has an instance, with a list of all that is wrong with it, or a first fault
   pub instance_or_fault : (tree : PackageTree ℕ) (root : List ℕ) → HasFirstFault tree root ⊎ HasInstance tree root
   pub named : (tree : PackageTree ℕ) (root : List ℕ) (fault : PackageFault) → IsFault tree root fault → fault ≢ Memory
-  pub list : (tree : PackageTree ℕ) (root : List ℕ) (parts : Parts) → IsFlat tree root parts → HasList tree parts
+  pub list : (tree : PackageTree ℕ) (root : List ℕ) (parts : InstanceParts) → IsFlat tree root parts → HasList tree parts
   -- where nothing is wrong there is a design, which keeps the rules of designs
-  pub there : (tree : PackageTree ℕ) (root : List ℕ) (parts : Parts) → IsGiven tree → IsFlat tree root parts
+  pub there : (tree : PackageTree ℕ) (root : List ℕ) (parts : InstanceParts) → IsGiven tree → IsFlat tree root parts
       → AreViolations tree (shown_by tree parts) [] → (design : DesignParts) × IsDesignIn tree root design
   pub rules : (tree : PackageTree ℕ) (root : List ℕ) (design : DesignParts) → IsGiven tree → IsDesignIn tree root design
       → IsDesign design

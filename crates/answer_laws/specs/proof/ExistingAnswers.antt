@@ -2,7 +2,7 @@
 use Rattle.std.specs.Prelude.{◌≡◌, ℕ, false, List}
 use Rattle.pals_runs.specs.declared.commands.Command.{Command}
 use Rattle.pals_runs.specs.declared.commands.Command.TheVariants.{Ring}
-use Rattle.pals_top.specs.CommandWords.{HasForm}
+use Rattle.pals_top.specs.CommandWords.{IsWithinRingLimits}
 use Rattle.pals_top.specs.SelfRingAnswer.{IsRingAnswer}
 use Rattle.pals_top.specs.Answers.{IsCommandAnswer}
 use Rattle.pals_top.specs.proof.PrivateFunctions.{is_run}
@@ -25,9 +25,9 @@ pub record HasOneAnswer (command : Command) (bundle : List ℕ) : Type 0 where
 
 -- each command that has a form, whatever its root, has an answer to each bundle
 abbrev pub EachBundleHasAnAnswer : Type 0
-EachBundleHasAnAnswer = (command : Command) (bundle : List ℕ) → HasForm command → HasAnswer command bundle
+EachBundleHasAnAnswer = (command : Command) (bundle : List ℕ) → IsWithinRingLimits command → HasAnswer command bundle
 
 -- and just one, if it is no run
 abbrev pub EachBundleHasOneAnswer : Type 0
 EachBundleHasOneAnswer =
-    (command : Command) (bundle : List ℕ) → is_run command ≡ false → HasForm command → HasOneAnswer command bundle
+    (command : Command) (bundle : List ℕ) → is_run command ≡ false → IsWithinRingLimits command → HasOneAnswer command bundle

@@ -9,7 +9,7 @@ use Rattle.pals_base.specs.PlainTrees.{Actions, Branches}
 use Rattle.pals_base.specs.Actions.{Effect, acts, act_first, with_vars, without_loop}
 use Rattle.behaviour_sem.specs.declared.step_inputs.StepInputs.{StepInputs}
 use Rattle.behaviour_sem.specs.declared.early_end.EarlyEnd.{EarlyEnd}
-use Rattle.behaviour_sem.specs.proof.StepOutcomes.{Left, Chose}
+use Rattle.behaviour_sem.specs.proof.StepOutcomes.{IsStepResult, IsBranchResult}
 use Rattle.behaviour_sem.specs.proof.ReadableFrames.{seen, fresh}
 
 -- what actions change: the variables, and the outputs so far
@@ -26,14 +26,14 @@ effect_of values = effect values.0.items values.1
 abbrev pub Runs : Result (Unit {0}) EarlyEnd → (Frame → List Bool → List PortValue → Result Effect Trap) → StepInputs
     → Values → Values → Type 0
 Runs result meant inputs before after =
-    Left result (effect_of after) (meant (seen before.0.items inputs) (fresh inputs) before.1)
+    IsStepResult result (effect_of after) (meant (seen before.0.items inputs) (fresh inputs) before.1)
 
 -- a run with this answer of the first branch whose guard is true, if there is one, goes from these values to those as
 -- is meant
 abbrev pub RunsFirst : Result Bool EarlyEnd → Branches → StepInputs → Values → Values → Type 0
 RunsFirst result branches inputs before after =
     (otherwise : Result Effect Trap)
-    → Chose result (effect_of after) (effect_of before) otherwise
+    → IsBranchResult result (effect_of after) (effect_of before) otherwise
     (act_first branches (seen before.0.items inputs) (fresh inputs) before.1 otherwise)
 
 -- one turn of a loop: its number stands behind the variables

@@ -8,15 +8,15 @@ use Rattle.pals_base.specs.SingleStep.{Fired, along, dispatched, settled}
 use Rattle.behaviour_sem.specs.declared.step_inputs.StepInputs.{StepInputs}
 use Rattle.behaviour_sem.specs.declared.early_end.EarlyEnd.{EarlyEnd}
 use Rattle.behaviour_sem.specs.declared.transitions.StepState.{StepState}
-use Rattle.behaviour_sem.specs.proof.StepOutcomes.{Left}
+use Rattle.behaviour_sem.specs.proof.StepOutcomes.{IsStepResult}
 use Rattle.behaviour_sem.specs.proof.ReadableFrames.{fresh}
 
 -- where a step stands, and the outputs so far
-abbrev pub Standing : Type 0
-Standing = StepState × List PortValue
+abbrev pub StateAndOutputs : Type 0
+StateAndOutputs = StepState × List PortValue
 
 -- where a step stands, as a frame that no trap halted, and its outputs
-abbrev pub fired : Standing → StepInputs → Fired
+abbrev pub fired : StateAndOutputs → StepInputs → Fired
 fired at inputs =
     record {
       frame = record { state = at.0.state; vars = at.0.vars.items; held = inputs.held.now; halt = None };
@@ -24,9 +24,9 @@ fired at inputs =
     }
 
 -- a part of a step with this answer leads from here to there as is meant
-abbrev pub Leads : Result (Unit {0}) EarlyEnd → (List Bool → Fired → Result Fired Trap) → StepInputs → Standing
-    → Standing → Type 0
-Leads result meant inputs before after = Left result (fired after inputs) (meant (fresh inputs) (fired before inputs))
+abbrev pub Leads : Result (Unit {0}) EarlyEnd → (List Bool → Fired → Result Fired Trap) → StepInputs → StateAndOutputs
+    → StateAndOutputs → Type 0
+Leads result meant inputs before after = IsStepResult result (fired after inputs) (meant (fresh inputs) (fired before inputs))
 
 -- the whole step from a state: its dispatch transition, and on to a complete state
 abbrev pub reacted : BehaviourParts → ℕ → List Bool → Fired → Result Fired Trap

@@ -4,13 +4,13 @@ use Rattle.std.specs.Int.{◌∣◌}
 
 -- d divides a and b, and what divides the same multiple of both divides that multiple of d; with n = 1: each common
 -- divisor divides d
-pub record IsGreatestDivisor (a b d : ℕ) : Type 0 where
+pub record IsGreatestCommonDivisor (a b d : ℕ) : Type 0 where
   pub left : d ∣ a
   pub right : d ∣ b
   pub greatest : (n m : ℕ) → m ∣ n * a → m ∣ n * b → m ∣ n * d
 
 -- m is a multiple of a and b, and each multiple of both is a multiple of m
-pub record IsLeastCommon (a b m : ℕ) : Type 0 where
+pub record IsLeastCommonMultiple (a b m : ℕ) : Type 0 where
   pub left : a ∣ m
   pub right : b ∣ m
   pub least : (t : ℕ) → a ∣ t → b ∣ t → m ∣ t

@@ -47,7 +47,7 @@ abbrev pub told_components : List Component → List CodeParts → List ToldComp
 told_components components programs = map (λ p. told_component p.0 p.1) (zip components programs)
 
 -- a design: its period and bounds, its components with their codes, its links, feeds and taps
-pub record Told : Type 0 where
+pub record ToldDesign : Type 0 where
   pub period : ℕ
   pub gamma : Gamma
   pub components : List ToldComponent
@@ -55,8 +55,8 @@ pub record Told : Type 0 where
   pub feeds : List Feed
   pub taps : List Tap
 
-abbrev pub told : DesignParts → List CodeParts → Told
-told design programs = record {
+abbrev pub told_design : DesignParts → List CodeParts → ToldDesign
+told_design design programs = record {
   period = design.period;
   gamma = design.gamma;
   components = told_components design.components programs;
@@ -85,4 +85,4 @@ pub record AreListed (design : DesignParts) (programs : List CodeParts) : Type 0
 abbrev pub ListingTells : Type 0
 ListingTells =
     (design other : DesignParts) (programs others : List CodeParts) → AreListed design programs → AreListed other others
-    → listing design programs ≡ listing other others → told design programs ≡ told other others
+    → listing design programs ≡ listing other others → told_design design programs ≡ told_design other others

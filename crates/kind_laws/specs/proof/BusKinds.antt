@@ -8,7 +8,7 @@ use Rattle.pals_model.specs.DesignRules.{IsDesign}
 use Rattle.pals_model.specs.proof.FittingValues.{FrameFits, PortsFit, TupleFits, link_kind, EnvFits}
 use Rattle.pals_model.specs.proof.CompositionLaws.Kinds.{PartFits}
 use Rattle.bus_machine.specs.Plans.{plan_of}
-use Rattle.bus_machine.specs.Nodes.{Work, job_out}
+use Rattle.bus_machine.specs.Nodes.{StepWork, job_out}
 use Rattle.bus_machine.specs.NodeEvents.{slot_at}
 use Rattle.bus_machine.specs.States.{BusState, node_at, flight_at}
 use Rattle.bus_machine.specs.Runs.{Run}
@@ -19,7 +19,7 @@ pub record BusFits (run : Run) (s : BusState) : Type 0 where
   pub frames : (node : ℕ) (c : Component) → slice_get run.design.components node ≡ Some c
       → FrameFits c.behaviour (node_at s node).frame
   -- the inputs of its job that is out
-  pub jobs : (node : ℕ) (c : Component) (job : Work) → slice_get run.design.components node ≡ Some c
+  pub jobs : (node : ℕ) (c : Component) (job : StepWork) → slice_get run.design.components node ≡ Some c
       → job_out (plan_of run.design node) (node_at s node) ≡ Some job → PortsFit c.behaviour.ins job.inputs
   -- what each round that it finished left
   pub parts : (node : ℕ) (c : Component) → slice_get run.design.components node ≡ Some c

@@ -9,7 +9,7 @@ use Rattle.pals_model.specs.PortKinds.{out_kind}
 use Rattle.pals_model.specs.DesignRules.{IsDesign}
 use Rattle.pals_model.specs.proof.FittingValues.{FrameFits, TupleFits, link_kind, EnvFits}
 use Rattle.pals_runs.specs.declared.vote_faults.VoteFault.{VoteFault}
-use Rattle.triple_vote.specs.Replicas.{Voted, voted_composition, vshown}
+use Rattle.triple_vote.specs.Replicas.{VotedConfiguration, voted_composition, voted_tap}
 
 -- ---- faults
 -- what a fault sends in place of its replica's own message fits the kind of the link
@@ -21,7 +21,7 @@ abbrev pub FaultsFit : DesignParts → (ℕ → List VoteFault) → Type 0
 FaultsFit design faults = (round : ℕ) → All (FaultFits design) (faults round)
 
 -- ---- after some rounds
-pub record VotedFits (design : DesignParts) (voted : Voted) : Type 0 where
+pub record VotedFits (design : DesignParts) (voted : VotedConfiguration) : Type 0 where
   -- the frame of each replica of a component
   pub frames : (node : ℕ) (c : Component) → slice_get design.components node ≡ Some c
       → All (FrameFits c.behaviour) (slice_index_or voted.frames node [])
@@ -42,4 +42,4 @@ ShownFit =
     (design : DesignParts) (env : Env) (replicated : List Bool) (faults : ℕ → List VoteFault) (tap : Tap) (round : ℕ)
     → IsDesign design → EnvFits design env → FaultsFit design faults
     → TupleFits (out_kind (slice_get design.components tap.source.0) tap.out_port)
-    (vshown design env replicated faults tap round)
+    (voted_tap design env replicated faults tap round)

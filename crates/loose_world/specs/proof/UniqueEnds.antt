@@ -9,16 +9,16 @@ use Rattle.loose_world.specs.proof.EventsAsSteps.{StepsTo}
 use Rattle.loose_world.specs.declared.loose_run.LooseEnd.TheVariants as end
 
 -- what is left at an end is one state and one journal; where an event is not allowed, nothing is said of these
-abbrev pub IsOneLeft : LooseEnd → BusState → BusState → List JournalEntry → List JournalEntry → Type 0
-IsOneLeft end.All s t journal more = (s ≡ t) × (journal ≡ more)
-IsOneLeft (end.Stopped why) s t journal more = (s ≡ t) × (journal ≡ more)
-IsOneLeft (end.Refused index fault) s t journal more = ⊤
+abbrev pub LeaveTheSame : LooseEnd → BusState → BusState → List JournalEntry → List JournalEntry → Type 0
+LeaveTheSame end.All s t journal more = (s ≡ t) × (journal ≡ more)
+LeaveTheSame (end.Stopped why) s t journal more = (s ≡ t) × (journal ≡ more)
+LeaveTheSame (end.Refused index fault) s t journal more = ⊤
 
 -- two ends are one: in both all events are steps, or the same stop is given, or the same event is not allowed, for
 -- the same fault; and what they leave is one
 pub record AreSameEnd (how other : LooseEnd) (s t : BusState) (journal more : List JournalEntry) : Type 0 where
   pub end : how ≡ other
-  pub left : IsOneLeft how s t journal more
+  pub left : LeaveTheSame how s t journal more
 
 -- a list of loose events ends in one way from the opening of a run on
 abbrev pub OneEnd : Type 0

@@ -4,19 +4,19 @@ use Rattle.aadl_tree.specs.Declarations.{PackageTree}
 use Rattle.aadl_instance.specs.declared.instance.Instance.{Instance}
 use Rattle.annex_resolve.specs.declared.violation.Violation.{Violation}
 use Rattle.model_violations.specs.UsedDeclarations.{IsUse}
-use Rattle.model_violations.specs.Violations.{Shown, used_findings, findings}
+use Rattle.model_violations.specs.Violations.{ShownInstance, used_findings, findings}
 
-abbrev pub shown : Instance → Shown
+abbrev pub shown : Instance → ShownInstance
 shown x = record { root = x.root; threads = x.threads; links = x.links; feeds = x.feeds; taps = x.taps }
 
 -- the list with the findings of the declarations in use behind it
-pub record AddUsed (tree : PackageTree ℕ) (s : Shown) (old new : List Violation) : Type 0 where
+pub record AddUsed (tree : PackageTree ℕ) (s : ShownInstance) (old new : List Violation) : Type 0 where
   pub used : ℕ → Bool
   pub is_use : IsUse tree s.root used
   pub added : new ≡ old ++ used_findings tree s used
 
 -- all findings
-pub record AreFindings (tree : PackageTree ℕ) (s : Shown) (list : List Violation) : Type 0 where
+pub record AreFindings (tree : PackageTree ℕ) (s : ShownInstance) (list : List Violation) : Type 0 where
   pub used : ℕ → Bool
   pub is_use : IsUse tree s.root used
   pub all : list ≡ findings tree s used

@@ -4,20 +4,20 @@ use Rattle.aadl_tree.specs.Names.{same_name}
 use Rattle.std.specs.List.{list_any}
 use Rattle.aadl_names.specs.declared.name_roles.Role.{Role}
 use Rattle.aadl_names.specs.declared.name_roles.Role.TheVariants.{Turns}
-use Rattle.aadl_names.specs.NameUsesInAnnexes.{Known, either}
+use Rattle.aadl_names.specs.NameUsesInAnnexes.{NameRoles, either}
 use Rattle.aadl_names.specs.proof.NameTables.{value_of}
 use Rattle.name_faults.specs.proof.ConditionalValues.{is_marked}
 
 -- ports and variables, in the order in which they count, and the variables of loops, the outermost first
-pub record Scoped : Type 0 where
+pub record ScopeTables : Type 0 where
   pub first : List (List ℕ × Role)
   pub second : List (List ℕ × Role)
   pub loops : List (List ℕ)
 
-abbrev pub loop_roles : List (List ℕ) → Known
+abbrev pub loop_roles : List (List ℕ) → NameRoles
 loop_roles loops = λ name. if list_any (λ variable. same_name name variable) loops then Some Turns else None
 
-abbrev pub known_by : Scoped → Known
+abbrev pub known_by : ScopeTables → NameRoles
 known_by scope = either (either (value_of scope.first) (value_of scope.second)) (loop_roles scope.loops)
 
 -- what names a state, by a table of states

@@ -7,7 +7,7 @@ use Rattle.pals_runs.specs.declared.journal.Stop.{Stop}
 use Rattle.bus_machine.specs.LinkEvents.{is_in_flight}
 use Rattle.bus_machine.specs.States.{node_at, flight_at}
 use Rattle.bus_machine.specs.Machine.{Start, Step, Finish, Send}
-use Rattle.bus_machine.specs.EarliestReadings.{release_alarm}
+use Rattle.bus_machine.specs.EarliestReadings.{release_reading}
 use Rattle.pals_node.specs.declared.answers.StartEnd.{StartEnd}
 use Rattle.pals_node.specs.declared.answers.StepEnd.{StepEnd}
 use Rattle.pals_node.specs.declared.answers.FinishEnd.{FinishEnd}
@@ -88,7 +88,7 @@ BusFinishEnds b node = Faults b (λ _. NoneRuns (node_value b node.0))
 -- ---- Send
 pub record SendsRound (old : BusValue) (node : NodeNo) (reading : Option ℕ) (new : BusValue) : Type 0 where
   pub happens : Happens old (Send node reading) new
-  pub due : is_early reading (release_alarm (node_value old node.0).program.plan (node_at old.state node.0)) ≡ false
+  pub due : is_early reading (release_reading (node_value old node.0).program.plan (node_at old.state node.0)) ≡ false
 
 abbrev pub BusSendEnds : BusValue → NodeNo → Option ℕ → BusError SendEnd → Type 0
 BusSendEnds b node reading = Faults b (SendEnds (node_value b node.0) reading)

@@ -75,7 +75,7 @@ abbrev pub owed : NodeValue → ℕ
 owed n = (if is_some (running_step n.state.phase) then 1 else 0) + (if n.state.sent then 0 else 1)
 
 -- ---- the whole
-pub record Keeps (f : BusFields) : Type 0 where
+pub record IsBusInvariant (f : BusFields) : Type 0 where
   pub design : IsDesign (arc_value f.design)
   pub outgoing : AreOutgoing (length (arc_value f.design).components) (arc_value f.design).links f.outgoing
   pub rounds : (1 ≤ f.rounds) × (f.rounds ≤ ROUNDS)

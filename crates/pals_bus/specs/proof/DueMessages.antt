@@ -12,7 +12,7 @@ use Rattle.bus_machine.specs.Machine.{Arrive}
 use Rattle.std.specs.declared.alloc.AllocError.{AllocError}
 use Rattle.pals_bus.specs.declared.bus_error.BusError.{BusError}
 use Rattle.pals_bus.specs.BusValues.{BusValue, Happens}
-use Rattle.pals_bus.specs.proof.DueQueues.{comes_first, flying}
+use Rattle.pals_bus.specs.proof.DueQueues.{comes_first, copies_in_flight}
 use Rattle.pals_bus.specs.declared.bus_error.BusError.TheVariants as fault
 
 -- a message of this round of this link is due to a node at a reading
@@ -53,7 +53,7 @@ pub record TakesAllDue (old : BusValue) (node reading : ℕ) (new : BusValue) : 
 
 -- the entries of all messages that are due to a node at a reading, in link order and then in order of rounds
 pub record AreLeft (b : BusValue) (node reading : ℕ) (left : List DueEntry) : Type 0 where
-  pub counts : (e : DueEntry) → count_by (is_entry e) left ≡ (if is_due_at reading e then flying b node e else 0)
+  pub counts : (e : DueEntry) → count_by (is_entry e) left ≡ (if is_due_at reading e then copies_in_flight b node e else 0)
   pub order : AllPairs (λ earlier later. comes_first later earlier ≡ false) left
 
 -- the stop stood before, or the last of them that arrived gave it

@@ -92,7 +92,7 @@ pub record AreDueEntries (queue : QueueState) (reading : ℕ) (due : List DueEnt
   pub order : AllPairs (λ earlier later. comes_first later earlier ≡ false) due
 
 -- how often an entry's copy is in flight to a node
-abbrev pub flying : BusValue → ℕ → DueEntry → ℕ
-flying b node e =
+abbrev pub copies_in_flight : BusValue → ℕ → DueEntry → ℕ
+copies_in_flight b node e =
     if nat_eq (link_at b.run.design e.link.0).target.0 node then count_by (is_copy_of e)
     (flight_at b.state e.link.0) else 0

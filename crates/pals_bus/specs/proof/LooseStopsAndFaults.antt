@@ -12,7 +12,7 @@ use Rattle.pals_bus.specs.declared.bus_error.BusError.{BusError}
 use Rattle.pals_bus.specs.declared.bus_error.MessageError.{MessageError}
 use Rattle.pals_bus.specs.declared.loose_faults.LooseFault.{LooseFault}
 use Rattle.pals_bus.specs.BusValues.{BusValue}
-use Rattle.pals_bus.specs.LooseEvents.{HappensLoose, IsRefused, loose_event, message_of, node_of}
+use Rattle.pals_bus.specs.LooseEvents.{HappensLoose, IsRefused, loose_event, event_message, event_node}
 use Rattle.pals_node.specs.declared.answers.StartEnd.TheVariants as start
 use Rattle.pals_node.specs.declared.answers.StepEnd.TheVariants as step
 use Rattle.pals_bus.specs.declared.bus_error.BusError.TheVariants as bus_fault
@@ -26,8 +26,8 @@ StopsLoose old e new why =
 
 abbrev pub LooseEnds : BusValue → Event → BusValue → LooseFault → Type 0
 LooseEnds old e new (fault.Stopped why) = StopsLoose old e new why
-LooseEnds old e new (fault.WrongPhase node) = IsRefused old e new × (node_of e ≡ Some node)
-LooseEnds old e new (fault.NoSuchMessage link round) = IsRefused old e new × (message_of e ≡ Some (link, round))
+LooseEnds old e new (fault.WrongPhase node) = IsRefused old e new × (event_node e ≡ Some node)
+LooseEnds old e new (fault.NoSuchMessage link round) = IsRefused old e new × (event_message e ≡ Some (link, round))
 LooseEnds old e new fault.Timed = (new ≡ old) × (old.state.stop ≡ None) × (loose_event e ≡ None)
 LooseEnds old e new fault.Memory = new ≡ old
 

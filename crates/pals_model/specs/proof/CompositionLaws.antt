@@ -17,13 +17,13 @@ use Rattle.pals_model.specs.declared.design.Component.{Component}
 use Rattle.pals_model.specs.declared.design.Link.{Link}
 use Rattle.pals_model.specs.declared.design.DesignParts.{DesignParts}
 use Rattle.pals_model.specs.declared.environment.Env.{Env}
-use Rattle.pals_model.specs.ComponentInputs.{values_at, feed}
+use Rattle.pals_model.specs.ComponentInputs.{values_at, input_vectors}
 use Rattle.pals_model.specs.Composition.{comp, state, msg, part, taps_of}
 
 -- the steps that one component makes in a round, from its own frame and its own feed
 abbrev pub own_steps : DesignParts → Env → ℕ → ℕ → Component → Stepped
 own_steps design env node round c =
-    steps c.behaviour (state design env node round) (feed design env (comp design env round).messages node round)
+    steps c.behaviour (state design env node round) (input_vectors design env (comp design env round).messages node round)
 
 -- there is a frame for each component, and a message for each link
 abbrev pub OneFrameEach : Type 0
@@ -75,7 +75,7 @@ RunsAlone = (design : DesignParts) (env : Env) (node rounds : ℕ) (c : Componen
     slice_get design.components node ≡ Some c → All (λ link. link.target.0 ≢ node) design.links →
     state design env node rounds
     ≡ frame_after c.behaviour (initial c.behaviour)
-    (flat_map (λ round. feed design env [] node round) (upwards 0 rounds))
+    (flat_map (λ round. input_vectors design env [] node round) (upwards 0 rounds))
 
 -- what stands after some rounds depends on these rounds of the environment alone
 abbrev pub DependsOnPast : Type 0

@@ -1,11 +1,11 @@
 //! Laws of the shapes of frames, inputs, messages and parts.
-ghost use Rattle.pals_model.specs.proof.CompositionLaws.Shapes.{FeedHasVectors, StateHasShape, StepsGiveTuples};
+ghost use Rattle.pals_model.specs.proof.CompositionLaws.Shapes.{InputsAreVectors, StateHasShape, StepsGiveTuples};
 ghost use Rattle.pals_model.specs.proof.CompositionLaws.Shapes.{MessageHasRate, WaitingMessageHasRate, PartHasShape};
 
 /// In each round a component has an input vector for each of its steps, with a place for each in
 /// port, and its steps give a tuple for each out port.
 pub fn rounds_have_shapes()
-    ensures inputs { FeedHasVectors }
+    ensures inputs { InputsAreVectors }
     ensures outputs { StepsGiveTuples }
 {}
 

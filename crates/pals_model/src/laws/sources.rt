@@ -13,7 +13,7 @@ pub fn sources_of_ports()
 
 /// A link brings its message by its adaptor, a feed the value of its root in port, as a source of
 /// rate 1 gives it, and nothing brings absent places.
-pub fn sources_bring_readings()
+pub fn sources_bring_tuples()
     ensures link { LinkBringsMessage }
     ensures feed { FeedBringsValue }
     ensures nothing { NothingBringsAbsent }

@@ -5,7 +5,7 @@ use Rattle.pals_base.specs.declared.values.PortValue.{PortValue}
 use Rattle.pals_runs.specs.declared.phase.Phase.{Phase}
 use Rattle.pals_runs.specs.declared.phase.Phase.TheVariants.{Waiting, Running, Between, Holding, Done}
 use Rattle.bus_machine.specs.NodeEvents.{missing, started, stepped, finished, may_send, sent_from, messages_from}
-use Rattle.bus_machine.specs.EarliestReadings.{start_alarm, step_alarm, release_alarm}
+use Rattle.bus_machine.specs.EarliestReadings.{start_alarm, step_alarm, release_reading}
 use Rattle.pals_node.specs.declared.answers.StartEnd.{StartEnd}
 use Rattle.pals_node.specs.declared.answers.StepEnd.{StepEnd}
 use Rattle.pals_node.specs.declared.answers.SendEnd.{SendEnd}
@@ -90,12 +90,12 @@ NoneRuns n = (i : ℕ) → n.state.phase ≢ Running i
 pub record Sends (old : NodeValue) (reading : Option ℕ) (new : NodeValue)
     (messages : List (List PortValue)) : Type 0 where
   pub may : may_send old.program.plan old.state ≡ true
-  pub due : is_early reading (release_alarm old.program.plan old.state) ≡ false
+  pub due : is_early reading (release_reading old.program.plan old.state) ≡ false
   pub state : new ≡ with_state old (sent_from old.rounds old.state)
   pub messages_are : messages ≡ messages_from old.program.plan old.state
 
 abbrev pub SendEnds : NodeValue → Option ℕ → SendEnd → Type 0
 SendEnds n reading send.NotFinished = may_send n.program.plan n.state ≡ false
 SendEnds n reading (send.NotYet release) =
-    (may_send n.program.plan n.state ≡ true) × (release ≡ release_alarm n.program.plan n.state)
+    (may_send n.program.plan n.state ≡ true) × (release ≡ release_reading n.program.plan n.state)
     × (is_early reading release ≡ true)

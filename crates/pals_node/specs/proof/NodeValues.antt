@@ -8,7 +8,7 @@ use Rattle.step_code.specs.declared.instr.CodeParts.{CodeParts}
 use Rattle.step_code.specs.proof.CodeRuns.{Leaves, exec}
 use Rattle.bus_machine.specs.declared.plan.Plan.{Plan}
 use Rattle.bus_machine.specs.Plans.{plan_of}
-use Rattle.bus_machine.specs.Nodes.{NodeState, Work, job_of, opening_node}
+use Rattle.bus_machine.specs.Nodes.{NodeState, StepWork, job_of, opening_node}
 
 -- what a node is told: its plan, and the code of its steps
 pub record Program : Type 0 where
@@ -21,7 +21,7 @@ program_of design node code = record { plan = plan_of design node; code = code }
 -- a job: a step of a round, and the code that makes it
 pub record JobValue : Type 0 where
   pub code : CodeParts
-  pub work : Work
+  pub work : StepWork
 
 abbrev pub job_value : Program → ℕ → ℕ → Frame → List PortValue → JobValue
 job_value program round step frame inputs =

@@ -5,8 +5,8 @@ use Rattle.pals_runs.specs.declared.commands.Command.TheVariants.{Run}
 use Rattle.pals_top.specs.CommandWords.{is_plain, command_by}
 
 -- a word with a root and one flag
-abbrev pub flagged_form : List ℕ → List ℕ → List ℕ → Option Command
-flagged_form flag word root = if is_plain word && is_plain root then command_by (word ∷ root ∷ []) (flag ∷ []) else None
+abbrev pub flagged_command : List ℕ → List ℕ → List ℕ → Option Command
+flagged_command flag word root = if is_plain word && is_plain root then command_by (word ∷ root ∷ []) (flag ∷ []) else None
 
 -- the one command that is given the program's host
 abbrev pub is_run : Command → Bool

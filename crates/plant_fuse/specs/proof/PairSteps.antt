@@ -21,17 +21,17 @@ use Rattle.plant_fuse.specs.declared.pair_steps.PairedComponent.{PairedComponent
 use Rattle.pals_model.specs.declared.port_sources.PortSource.TheVariants as source
 
 -- a component of a pair: the number of its partner, and where its in ports read from
-pub record Seat : Type 0 where
+pub record PairMember : Type 0 where
   pub partner : ℕ
   pub component : Component
   pub sources : List PortSource
 
-abbrev pub seat_of : PairedComponent → Seat
-seat_of side = record { partner = side.partner; component = side.wired.component.now; sources = side.wired.sources.now }
+abbrev pub member_of_pair : PairedComponent → PairMember
+member_of_pair side = record { partner = side.partner; component = side.wired.component.now; sources = side.wired.sources.now }
 
 -- ---- what is read
-abbrev pub brought_at : RoundInputs → Seat → ℕ → PortSource → PortValue
-brought_at round seat step source = slice_index_or (brought round seat.component.rate source) step Absent
+abbrev pub brought_at : RoundInputs → PairMember → ℕ → PortSource → PortValue
+brought_at round pair_member step source = slice_index_or (brought round pair_member.component.rate source) step Absent
 
 -- on a link from the partner the value in the row that it left last, and before its first row the last place of the
 -- link's message
@@ -40,21 +40,21 @@ from_partner round rate number link None =
     slice_index_or (slice_index_or round.messages.now number []) (rate - 1) Absent
 from_partner round rate number link (Some row) = slice_index_or row link.out_port Absent
 
-abbrev pub from_link : RoundInputs → Seat → ℕ → Option (List PortValue) → ℕ → Option Link → PortValue
-from_link round seat step last number None = brought_at round seat step (source.Link number)
-from_link round seat step last number (Some link) =
-    if nat_eq link.source.0 seat.partner then from_partner round seat.component.rate number link last
-    else brought_at round seat step (source.Link number)
+abbrev pub from_link : RoundInputs → PairMember → ℕ → Option (List PortValue) → ℕ → Option Link → PortValue
+from_link round pair_member step last number None = brought_at round pair_member step (source.Link number)
+from_link round pair_member step last number (Some link) =
+    if nat_eq link.source.0 pair_member.partner then from_partner round pair_member.component.rate number link last
+    else brought_at round pair_member step (source.Link number)
 
-abbrev pub side_value : RoundInputs → Seat → ℕ → Option (List PortValue) → PortSource → PortValue
-side_value round seat step last source.Nothing = brought_at round seat step source.Nothing
-side_value round seat step last (source.Feed feed root) = brought_at round seat step (source.Feed feed root)
-side_value round seat step last (source.Link number) =
-    from_link round seat step last number (slice_get round.design.now.links number)
+abbrev pub side_value : RoundInputs → PairMember → ℕ → Option (List PortValue) → PortSource → PortValue
+side_value round pair_member step last source.Nothing = brought_at round pair_member step source.Nothing
+side_value round pair_member step last (source.Feed feed root) = brought_at round pair_member step (source.Feed feed root)
+side_value round pair_member step last (source.Link number) =
+    from_link round pair_member step last number (slice_get round.design.now.links number)
 
 -- the input vector of a step, where the partner left this row last
-abbrev pub side_vector : RoundInputs → Seat → ℕ → Option (List PortValue) → List PortValue
-side_vector round seat step last = map (side_value round seat step last) seat.sources
+abbrev pub side_vector : RoundInputs → PairMember → ℕ → Option (List PortValue) → List PortValue
+side_vector round pair_member step last = map (side_value round pair_member step last) pair_member.sources
 
 -- ---- the rows of the partner
 abbrev pub row_at : List (List PortValue) → ℕ → List PortValue
@@ -66,11 +66,11 @@ row_before rows zero = None
 row_before rows (suc step) = Some (row_at rows step)
 
 -- a plant reads what its controller left in the step before, and a controller what its plant left in this step
-abbrev pub plant_vector : RoundInputs → Seat → List (List PortValue) → ℕ → List PortValue
-plant_vector round seat rows step = side_vector round seat step (row_before rows step)
+abbrev pub plant_vector : RoundInputs → PairMember → List (List PortValue) → ℕ → List PortValue
+plant_vector round pair_member rows step = side_vector round pair_member step (row_before rows step)
 
-abbrev pub controller_vector : RoundInputs → Seat → List (List PortValue) → ℕ → List PortValue
-controller_vector round seat rows step = side_vector round seat step (Some (row_at rows step))
+abbrev pub controller_vector : RoundInputs → PairMember → List (List PortValue) → ℕ → List PortValue
+controller_vector round pair_member rows step = side_vector round pair_member step (Some (row_at rows step))
 
 -- ---- what is left
 -- the rows and the frame that steps at these vectors leave
@@ -89,7 +89,7 @@ abbrev pub work : Frame → List (List PortValue) → Frame → Work
 work from rows to = record { from = from; rows = rows; to = to }
 
 -- the first steps of both, each side reading what the other leaves
-pub record AreMade (round : RoundInputs) (plant controller : Seat) (steps : ℕ) (p c : Work) : Type 0 where
+pub record AreMade (round : RoundInputs) (plant controller : PairMember) (steps : ℕ) (p c : Work) : Type 0 where
   pub plant_is : IsMade plant.component.behaviour p.from
       (map (plant_vector round plant c.rows) (upwards 0 steps)) p.rows p.to
   pub controller_is : IsMade controller.component.behaviour c.from
@@ -109,7 +109,7 @@ side_work side stage part = work side.from.now stage.rows part.frame
 pub record AreSidesRun (round : RoundInputs) (plant controller : PairedComponent) (plant_stage controller_stage : Stage)
     (plant_part controller_part : Part) : Type 0 where
   pub made :
-      AreMade round (seat_of plant) (seat_of controller) plant.wired.component.now.rate
+      AreMade round (member_of_pair plant) (member_of_pair controller) plant.wired.component.now.rate
       (side_work plant plant_stage plant_part) (side_work controller controller_stage controller_part)
   pub plant_shows : plant_part.outs ≡ map (λ port. column port plant_stage.rows) plant.wired.taps.now
   pub controller_shows : controller_part.outs

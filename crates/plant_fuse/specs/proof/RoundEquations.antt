@@ -14,17 +14,17 @@ use Rattle.pals_model.specs.declared.design.Link.{Link}
 use Rattle.pals_model.specs.declared.design.DesignParts.{DesignParts}
 use Rattle.pals_model.specs.declared.environment.Env.{Env}
 use Rattle.pals_model.specs.declared.port_sources.PortSource.{PortSource}
-use Rattle.pals_model.specs.ComponentInputs.{sources_of, reading, values_at}
+use Rattle.pals_model.specs.ComponentInputs.{sources_of, brought_tuple, values_at}
 use Rattle.pals_model.specs.PortKinds.{rate_of}
 use Rattle.pals_model.specs.Composition.{Configuration, opening, no_frame}
 use Rattle.pals_runs.specs.declared.plant_pairs.Pair.{Pair}
-use Rattle.plant_fuse.specs.FusedComposition.{is_back, is_forth, Inputs, inputs_to}
+use Rattle.plant_fuse.specs.FusedComposition.{is_to_plant, is_to_controller, Inputs, inputs_to}
 use Rattle.pals_model.specs.declared.port_sources.PortSource.TheVariants as source
 
 -- ---- what components leave in the round
 -- a value for each component, each out port of it and each step
-abbrev pub Left : Type 0
-Left = ℕ → ℕ → ℕ → PortValue
+abbrev pub LeftValues : Type 0
+LeftValues = ℕ → ℕ → ℕ → PortValue
 
 abbrev pub frame_at : Configuration → ℕ → Frame
 frame_at before node = slice_index_or before.frames node no_frame
@@ -41,38 +41,38 @@ rows_in design before vectors node =
 abbrev pub place_at : List (List PortValue) → ℕ → ℕ → PortValue
 place_at rows port step = slice_index_or (slice_index_or rows step []) port Absent
 
-abbrev pub left_in : DesignParts → Configuration → Inputs → Left
+abbrev pub left_in : DesignParts → Configuration → Inputs → LeftValues
 left_in design before vectors node port step = place_at (rows_in design before vectors node) port step
 
 -- ---- what a step of the round reads, where components leave such values
 -- what the source of a link left in the step before; that of the first step is the last place of the link's message
 -- before
-abbrev pub left_before_by : DesignParts → Configuration → Left → ℕ → Link → ℕ → PortValue
+abbrev pub left_before_by : DesignParts → Configuration → LeftValues → ℕ → Link → ℕ → PortValue
 left_before_by design before left number link zero =
     slice_index_or (slice_index_or before.messages number []) (rate_of design link.source.0 - 1) Absent
 left_before_by design before left number link (suc step) = left link.source.0 link.out_port step
 
 abbrev pub brought : DesignParts → List PortValue → Configuration → ℕ → ℕ → PortSource → PortValue
 brought design values before rate step source =
-    slice_index_or (reading design values before.messages rate source) step Absent
+    slice_index_or (brought_tuple design values before.messages rate source) step Absent
 
-abbrev pub link_by : DesignParts → List Pair → List PortValue → Configuration → Left → ℕ → ℕ → ℕ
+abbrev pub link_by : DesignParts → List Pair → List PortValue → Configuration → LeftValues → ℕ → ℕ → ℕ
     → Option Link → PortValue
 link_by design pairs values before left rate step number None =
     brought design values before rate step (source.Link number)
 link_by design pairs values before left rate step number (Some link) =
-    if is_back pairs link then left_before_by design before left number link step
-    else if is_forth pairs link then left link.source.0 link.out_port step
+    if is_to_plant pairs link then left_before_by design before left number link step
+    else if is_to_controller pairs link then left link.source.0 link.out_port step
     else brought design values before rate step (source.Link number)
 
-abbrev pub read_by : DesignParts → List Pair → List PortValue → Configuration → Left → ℕ → ℕ → PortSource → PortValue
+abbrev pub read_by : DesignParts → List Pair → List PortValue → Configuration → LeftValues → ℕ → ℕ → PortSource → PortValue
 read_by design pairs values before left rate step source.Nothing = brought design values before rate step source.Nothing
 read_by design pairs values before left rate step (source.Feed feed root) =
     brought design values before rate step (source.Feed feed root)
 read_by design pairs values before left rate step (source.Link number) =
     link_by design pairs values before left rate step number (slice_get design.links number)
 
-abbrev pub vector_by : DesignParts → List Pair → List PortValue → Configuration → Left → ℕ → Component → ℕ
+abbrev pub vector_by : DesignParts → List Pair → List PortValue → Configuration → LeftValues → ℕ → Component → ℕ
     → List PortValue
 vector_by design pairs values before left node c step =
     map (read_by design pairs values before left c.rate step) (sources_of design node c)
@@ -100,8 +100,8 @@ tuple_in design before vectors link = tuple_from design before vectors link.sour
 
 abbrev pub message_in : DesignParts → List Pair → Configuration → Inputs → Link → List PortValue
 message_in design pairs before vectors link =
-    if is_back pairs link then tuple_in design before vectors link
-    else if is_forth pairs link then tuple_in design before vectors link
+    if is_to_plant pairs link then tuple_in design before vectors link
+    else if is_to_controller pairs link then tuple_in design before vectors link
     else cut (sent_steps design.gamma design.period (rate_of design link.source.0))
     (tuple_in design before vectors link)
 

@@ -15,11 +15,11 @@ use Rattle.sync_product.specs.proof.ComponentWiring.{tap_ports, IsWired}
 use Rattle.sync_product.specs.proof.Rounds.{IsStepped, frames_of}
 use Rattle.plant_fuse.specs.declared.pair_steps.PairedComponent.{PairedComponent}
 use Rattle.plant_fuse.specs.proof.Partners.{partner_of}
-use Rattle.plant_fuse.specs.proof.PairSteps.{Seat, Work, AreMade}
+use Rattle.plant_fuse.specs.proof.PairSteps.{PairMember, Work, AreMade}
 
 -- ---- a component, and its seat in a pair
-abbrev pub seat : DesignParts → ℕ → ℕ → Component → Seat
-seat design node partner c = record { partner = partner; component = c; sources = sources_of design node c }
+abbrev pub pair_member : DesignParts → ℕ → ℕ → Component → PairMember
+pair_member design node partner c = record { partner = partner; component = c; sources = sources_of design node c }
 
 -- in a pair, with its frame in these parts
 pub record IsPaired (design : DesignParts) (parts : List Part) (node partner : ℕ) (side : PairedComponent) : Type 0 where
@@ -54,8 +54,8 @@ pub record IsRun (round : RoundInputs) (frames : List Frame) (parts : List Part)
   pub p_has : HasWork round.design.now frames parts stages pair.plant.0 p_work
   pub c_has : HasWork round.design.now frames parts stages pair.controller.0 c_work
   pub made :
-      AreMade round (seat round.design.now pair.plant.0 pair.controller.0 p)
-      (seat round.design.now pair.controller.0 pair.plant.0 c)
+      AreMade round (pair_member round.design.now pair.plant.0 pair.controller.0 p)
+      (pair_member round.design.now pair.controller.0 pair.plant.0 c)
       p.rate p_work c_work
 
 -- the components that stand in no pair, each by itself

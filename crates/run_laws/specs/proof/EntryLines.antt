@@ -7,18 +7,18 @@ use Rattle.pals_runs.specs.declared.journal.Stop.{Stop}
 use Rattle.pals_runs.specs.declared.journal.JournalEntry.{JournalEntry}
 use Rattle.pals_runs.specs.JournalLines.{node_word, link_word, entry_line}
 use Rattle.run_laws.specs.EntriesOfDesigns.{IsEntryIn}
-use Rattle.run_laws.specs.LineForms.{Form, ArriveLine, StartLine, StepLine, FinishLine, SendLine, DropLine, RepeatLine}
+use Rattle.run_laws.specs.LineForms.{LineForm, ArriveLine, StartLine, StepLine, FinishLine, SendLine, DropLine, RepeatLine}
 use Rattle.run_laws.specs.LineForms.{EarlyLine, MissedLine, form_of}
-use Rattle.run_laws.specs.EntriesInLines.{told}
+use Rattle.run_laws.specs.EntriesInLines.{entry_of_line}
 use Rattle.pals_runs.specs.declared.journal.Stop.TheVariants as stop
 use Rattle.pals_runs.specs.declared.journal.JournalEntry.TheVariants as entry
 
 -- ---- the form of an entry, with the name that its line has
-abbrev pub stop_form : DesignParts → Stop → Form
+abbrev pub stop_form : DesignParts → Stop → LineForm
 stop_form design (stop.Missed link round reading cause) = MissedLine (link_word design link.0) round reading cause
 stop_form design (stop.Early link round reading) = EarlyLine (link_word design link.0) round reading
 
-abbrev pub entry_form : DesignParts → JournalEntry → Form
+abbrev pub entry_form : DesignParts → JournalEntry → LineForm
 entry_form design (entry.Arrive link round reading result) = ArriveLine (link_word design link.0) round reading result
 entry_form design (entry.Start node round reading) = StartLine (node_word design node.0) round reading
 entry_form design (entry.Step node round step reading) = StepLine (node_word design node.0) round step reading
@@ -43,7 +43,7 @@ LinesHaveForms = OfEntries (λ design e. form_of (entry_line design e) ≡ Some 
 
 -- so its line tells it
 abbrev pub LinesTellEntries : Type 0
-LinesTellEntries = OfEntries (λ design e. told design (entry_line design e) ≡ Some e)
+LinesTellEntries = OfEntries (λ design e. entry_of_line design (entry_line design e) ≡ Some e)
 
 -- and no other entry has that line
 abbrev pub LinesDiffer : Type 0
@@ -52,9 +52,9 @@ LinesDiffer = OfEntries (λ design e.
 
 -- and each line that tells an entry tells one of the design
 abbrev pub ToldAreIn : Type 0
-ToldAreIn = (design : DesignParts) (line : List ℕ) (e : JournalEntry) → told design line ≡ Some e → IsEntryIn design e
+ToldAreIn = (design : DesignParts) (line : List ℕ) (e : JournalEntry) → entry_of_line design line ≡ Some e → IsEntryIn design e
 
 -- a line that tells an entry of a design is that entry's line, letter by letter
 abbrev pub ToldAreLines : Type 0
 ToldAreLines =
-    (design : DesignParts) (line : List ℕ) (e : JournalEntry) → told design line ≡ Some e → line ≡ entry_line design e
+    (design : DesignParts) (line : List ℕ) (e : JournalEntry) → entry_of_line design line ≡ Some e → line ≡ entry_line design e

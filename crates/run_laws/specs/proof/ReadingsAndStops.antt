@@ -39,7 +39,7 @@ AllTimesFit =
 
 -- ---- stops
 -- the reading of a stop is that of the start of this round of the link's target
-pub record StopsAt (run : Run) (clocks : Clocks) (s : BusState) (number : ℕ) (reading : Option ℕ) : Type 0 where
+pub record StopsAtStart (run : Run) (clocks : Clocks) (s : BusState) (number : ℕ) (reading : Option ℕ) : Type 0 where
   pub link : Link
   pub is_link : slice_get run.design.links number ≡ Some link
   pub at : ℕ
@@ -61,11 +61,11 @@ CauseFits run clocks s node due at Lost = ⊥
 abbrev pub StopFits : Run → Clocks → List JournalEntry → BusState → Option Stop → Type 0
 StopFits run clocks journal s None = Unit {0}
 StopFits run clocks journal s (Some (stop.Missed link round reading cause)) =
-    (x : StopsAt run clocks s link.0 reading) × ((node_at s x.link.target.0).count ≡ round + 1)
+    (x : StopsAtStart run clocks s link.0 reading) × ((node_at s x.link.target.0).count ≡ round + 1)
     × CauseFits run clocks s x.link.source.0
     (due_of (delay_of run.delays link.0) (sends x.link.source.0 journal) round) x.at cause
 StopFits run clocks journal s (Some (stop.Early link round reading)) =
-    (x : StopsAt run clocks s link.0 reading) × ((node_at s x.link.target.0).count ≤ round)
+    (x : StopsAtStart run clocks s link.0 reading) × ((node_at s x.link.target.0).count ≤ round)
     × ((d : ℕ) × (due_of (delay_of run.delays link.0) (sends x.link.source.0 journal) round ≡ Some d) × (d ≤ x.at))
 
 abbrev pub StopsFit : Type 0

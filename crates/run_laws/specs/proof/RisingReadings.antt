@@ -20,6 +20,6 @@ abbrev pub ReadingsRise : Type 0
 ReadingsRise = InRuns (λ run clocks journal s. LinesRise run [] journal)
 
 -- where nodes meet, no reading so far is greater than the target of a node that is not done
-abbrev pub HourIsLeast : Type 0
-HourIsLeast = InMeetings (λ run journal s. EachNode run (λ node. (other least : ℕ)
+abbrev pub ReadingsAreBelowTargets : Type 0
+ReadingsAreBelowTargets = InMeetings (λ run journal s. EachNode run (λ node. (other least : ℕ)
     → target_of run s node ≡ Some least → latest run.design other journal ≤ least))

@@ -9,7 +9,7 @@ use Rattle.pals_runs.specs.declared.journal.JournalEntry.{JournalEntry}
 use Rattle.bus_machine.specs.States.{BusState, node_at}
 use Rattle.bus_machine.specs.Runs.{Run}
 use Rattle.bus_machine.specs.proof.AgreementLaws.{IsRunOf}
-use Rattle.run_laws.specs.Runs.{lists_in, HasEnded, Begin, Runs}
+use Rattle.run_laws.specs.Runs.{lists_in, HasEnded, HaveFreshClocks, Runs}
 use Rattle.run_laws.specs.proof.RunQuantifiers.{InRuns, InListRuns}
 use Rattle.run_laws.specs.Meetings.{AllDone}
 use Rattle.run_laws.specs.ListRunEndsAndStops.{AllOver, AllAtEnd}
@@ -30,7 +30,7 @@ pub record IsEnding (run : Run) (clocks : Clocks) (journal : List JournalEntry) 
 
 -- each design has a run, with these clocks, that comes to its end
 abbrev pub EachRunEnds : Type 0
-EachRunEnds = (run : Run) (clocks : Clocks) → IsRunOf run → Begin run clocks → IsEnding run clocks []
+EachRunEnds = (run : Run) (clocks : Clocks) → IsRunOf run → HaveFreshClocks run clocks → IsEnding run clocks []
 
 -- and wherever a run has come, it can go on to an end
 abbrev pub EachGoesOn : Type 0

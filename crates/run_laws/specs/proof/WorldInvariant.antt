@@ -25,9 +25,9 @@ use Rattle.run_laws.specs.Deadlines.{node_deadline, message_deadline}
 
 -- ---- times
 -- the time is at most this last allowed time, where there is one
-abbrev pub IsInTime : ℕ → Option ℕ → Type 0
-IsInTime time None = Unit {0}
-IsInTime time (Some last) = time ≤ last
+abbrev pub KeepsDeadline : ℕ → Option ℕ → Type 0
+KeepsDeadline time None = Unit {0}
+KeepsDeadline time (Some last) = time ≤ last
 
 -- ---- a node
 -- its step is out since a moment that is less than the skew before or after the step's alarm, and not to come
@@ -132,7 +132,7 @@ pub record KeepsTime (run : Run) (w : World) : Type 0 where
   -- each reading differs from the time by less than the skew
   pub clocks : (node : ℕ) → node < length run.design.components → IsNear run.design.gamma w.time (reading_at w node)
   -- the time is at most every last allowed time
-  pub in_time : (node : ℕ) → node < length run.design.components → IsInTime w.time (node_deadline run w node)
+  pub in_time : (node : ℕ) → node < length run.design.components → KeepsDeadline w.time (node_deadline run w node)
   pub nodes : (node : ℕ) → node < length run.design.components
       → KeepsNode run.design.gamma (plan_of run.design node) (node_at w.bus node) w.time (since_at w node)
       (ready_at w node)

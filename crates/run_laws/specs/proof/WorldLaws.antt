@@ -59,7 +59,7 @@ MessagesStandOnce =
     (slot_at (node_at w.bus (link_at run.design number).target.0) (link_at run.design number).in_port) round
 
 -- no last allowed time, and no reading of a node that is not done, is above what a reading may be
-pub record AreReadings (run : Run) (w : World) : Type 0 where
+pub record TimesInRange (run : Run) (w : World) : Type 0 where
   pub nodes : (node last : ℕ) → node < length run.design.components → node_deadline run w node ≡ Some last
       → last ≤ READING
   pub messages : (number round : ℕ) → number < length run.design.links → round < rounds_sent_on run w.bus number
@@ -68,7 +68,7 @@ pub record AreReadings (run : Run) (w : World) : Type 0 where
       → reading_at w node ≤ READING
 
 abbrev pub TimesAreReadings : Type 0
-TimesAreReadings = (run : Run) (w : World) → IsRunOf run → run.rounds ≤ ROUNDS → KeepsTime run w → AreReadings run w
+TimesAreReadings = (run : Run) (w : World) → IsRunOf run → run.rounds ≤ ROUNDS → KeepsTime run w → TimesInRange run w
 
 -- ---- a list of events
 abbrev pub ListsAreInStep : Type 0

@@ -11,16 +11,16 @@ bit_of first None f = first
 bit_of first (Some bits) f = bits f
 
 -- what a formula says at one more round of these frames
-abbrev pub further : Option (Formula → Bool) → List Frame → Formula → Bool
-further bits row (Var node variable op number) = compares op (variable_in (frame_in row node) variable) number
-further bits row (Halted node) = is_some (frame_in row node).halt
-further bits row (Not f) = not (further bits row f)
-further bits row (And f g) = further bits row f && further bits row g
-further bits row (Or f g) = further bits row f || further bits row g
-further bits row (Previous f) = bit_of false bits f
-further bits row (Once f) = bit_of false bits (Once f) || further bits row f
-further bits row (Historically f) = bit_of true bits (Historically f) && further bits row f
-further bits row (Since f g) = (bit_of false bits (Since f g) && further bits row f) || further bits row g
+abbrev pub next_value : Option (Formula → Bool) → List Frame → Formula → Bool
+next_value bits row (Var node variable op number) = compares op (variable_in (frame_in row node) variable) number
+next_value bits row (Halted node) = is_some (frame_in row node).halt
+next_value bits row (Not f) = not (next_value bits row f)
+next_value bits row (And f g) = next_value bits row f && next_value bits row g
+next_value bits row (Or f g) = next_value bits row f || next_value bits row g
+next_value bits row (Previous f) = bit_of false bits f
+next_value bits row (Once f) = bit_of false bits (Once f) || next_value bits row f
+next_value bits row (Historically f) = bit_of true bits (Historically f) && next_value bits row f
+next_value bits row (Since f g) = (bit_of false bits (Since f g) && next_value bits row f) || next_value bits row g
 
 -- the bits after a history: what each formula says at its last round, and none before the first
 abbrev pub bits_after : List (List Frame) → Option (Formula → Bool)

@@ -6,13 +6,13 @@ use Rattle.pals_model.specs.ComponentInputs.{no_env}
 use Rattle.pals_model.specs.RoundTexts.{line_end}
 use Rattle.pals_runs.specs.declared.forms.Compare.TheVariants.{Eq, Lt, Gt}
 use Rattle.pals_runs.specs.Formula.{Formula, Var, Not, Or, Previous, Historically, Since}
-use Rattle.run_monitor.specs.FormulaSemantics.{holds, history}
-use Rattle.run_monitor.specs.FalseProperties.{is_violated}
+use Rattle.run_monitor.specs.FormulaSemantics.{holds, frame_rows}
+use Rattle.run_monitor.specs.FalseProperties.{is_some_false}
 use Rattle.run_monitor.specs.WatchText.{formulas_of, watch_text}
 
 -- what a formula says at each of the rounds
 abbrev pub watched : Formula → List Bool
-watched f = map (holds f (history two_counters no_env 3)) (upwards 0 3)
+watched f = map (holds f (frame_rows two_counters no_env 3)) (upwards 0 3)
 
 -- x of p.b was always below 5
 abbrev pub small : Formula
@@ -60,5 +60,5 @@ OneText = watch_text two_counters no_env 3 one ≡
 
 abbrev pub AreViolated : Type 0
 AreViolated =
-    (is_violated two_counters no_env 3 (formulas_of two) ≡ true)
-    × (is_violated two_counters no_env 3 (formulas_of one) ≡ false)
+    (is_some_false two_counters no_env 3 (formulas_of two) ≡ true)
+    × (is_some_false two_counters no_env 3 (formulas_of one) ≡ false)

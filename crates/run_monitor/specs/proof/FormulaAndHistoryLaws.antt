@@ -3,7 +3,7 @@ use Rattle.std.specs.Prelude.{◌≡◌, ◌↔◌, IsTrue, ℕ, suc, ◌<◌, �
 use Rattle.pals_base.specs.declared.frames.Frame.{Frame}
 use Rattle.pals_runs.specs.Formula.{Formula, Previous, Once, Historically, Since}
 use Rattle.run_monitor.specs.FormulaSemantics.{holds}
-use Rattle.run_monitor.specs.proof.BitPerFormula.{further, bits_after}
+use Rattle.run_monitor.specs.proof.BitPerFormula.{next_value, bits_after}
 
 abbrev pub Holds : Formula → List (List Frame) → ℕ → Type 0
 Holds f h n = IsTrue (holds f h n)
@@ -32,4 +32,4 @@ PastStays = (f : Formula) (h more : List (List Frame)) (n : ℕ) → n < length 
 -- the bits after a history are enough to say what each formula says at one more round
 abbrev pub OneBitEach : Type 0
 OneBitEach = (f : Formula) (h : List (List Frame)) (row : List Frame) →
-    further (bits_after h) row f ≡ holds f (h ++ row ∷ []) (length h)
+    next_value (bits_after h) row f ≡ holds f (h ++ row ∷ []) (length h)

@@ -6,7 +6,7 @@ use Rattle.pals_base.specs.declared.frames.Frame.{Frame}
 use Rattle.pals_runs.specs.Formula.{Formula}
 use Rattle.pals_runs.specs.proof.FormulaEncoding.{coded_formula}
 use Rattle.run_monitor.specs.FormulaSemantics.{frame_in, holds}
-use Rattle.run_monitor.specs.proof.BitPerFormula.{further}
+use Rattle.run_monitor.specs.proof.BitPerFormula.{next_value}
 use Rattle.run_monitor.specs.declared.flat_form.FlatForm.{FlatForm}
 use Rattle.pals_runs.specs.proof.FormulaComponents.{reads, names}
 use Rattle.run_monitor.specs.proof.FlatForms.{formula_at, forms_of, IsFlat}
@@ -53,7 +53,7 @@ pub record StandsFor (m : MonitorState) (h : List (List Frame)) : Type 0 where
 -- of it
 pub record HasSeen (m : MonitorState) (row : List Frame) (node : ℕ) : Type 0 where
   pub each : (k : ℕ) (f : Formula) → slice_get m.forms k ≡ Some f → reads f node ≡ true
-      → bit_at m.seen k ≡ further None row f
+      → bit_at m.seen k ≡ next_value None row f
 
 -- ---- the calls
 pub record IsNew (f : Formula) (m : MonitorState) : Type 0 where

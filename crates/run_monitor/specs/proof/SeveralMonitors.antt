@@ -8,19 +8,19 @@ use Rattle.pals_model.specs.declared.environment.Env.{Env}
 use Rattle.pals_runs.specs.Formula.{Formula}
 use Rattle.run_monitor.specs.declared.false_property.FalseProperty.{FalseProperty}
 use Rattle.run_monitor.specs.contracts.false_property.FalseProperty.{the_row as violations}
-use Rattle.run_monitor.specs.FalseProperties.{verdicts, violation}
-use Rattle.run_monitor.specs.FormulaSemantics.{history}
+use Rattle.run_monitor.specs.FalseProperties.{formula_values, first_false}
+use Rattle.run_monitor.specs.FormulaSemantics.{frame_rows}
 use Rattle.run_monitor.specs.proof.MonitorState.{MonitorState, state_code, whole, said, StandsFor, GoesOn}
 
 pub record MonitorsState : Type 0 where
   pub monitors : List MonitorState
   -- the least round at which a formula was false, and the first that was false there
-  pub violation : Option FalseProperty
+  pub first_false : Option FalseProperty
 
 abbrev pub monitors_code : Coded MonitorsState
 monitors_code =
     code_by (List MonitorState × Option FalseProperty) (coded× (coded_list state_code) (coded_option violations.coded))
-    (λ m. (m.monitors, m.violation)) (λ p. record { monitors = p.0; violation = p.1 }) (λ _. refl)
+    (λ m. (m.monitors, m.violation)) (λ p. record { monitors = p.0; first_false = p.1 }) (λ _. refl)
 
 -- what each formula said at the last round
 abbrev pub said_by : MonitorsState → List Bool
@@ -30,19 +30,19 @@ said_by m = map said m.monitors
 pub record HasWatched (m : MonitorsState) (fs : List Formula) (h : List (List Frame)) : Type 0 where
   pub formulas : map whole m.monitors ≡ fs
   pub stand : All (λ n. StandsFor n h) m.monitors
-  pub first : m.violation ≡ violation fs h (length h)
+  pub first : m.violation ≡ first_false fs h (length h)
 
 -- ---- one round further
 -- with these frames
 pub record WatchesOn (m : MonitorsState) (fs : List Formula) (h : List (List Frame)) (row : List Frame) : Type 0 where
   pub watched : HasWatched m fs (h ++ row ∷ [])
-  pub says : said_by m ≡ verdicts fs (h ++ row ∷ []) (length h)
+  pub says : said_by m ≡ formula_values fs (h ++ row ∷ []) (length h)
 
 -- with the frames of a round of a design
 pub record WatchesRound (m : MonitorsState) (design : DesignParts) (env : Env) (fs : List Formula)
     (round : ℕ) : Type 0 where
-  pub watched : HasWatched m fs (history design env (round + 1))
-  pub says : said_by m ≡ verdicts fs (history design env (round + 1)) round
+  pub watched : HasWatched m fs (frame_rows design env (round + 1))
+  pub says : said_by m ≡ formula_values fs (frame_rows design env (round + 1)) round
 
 -- each monitor
 pub record EachGoesOn (old new : List MonitorState) (row : List Frame) : Type 0 where

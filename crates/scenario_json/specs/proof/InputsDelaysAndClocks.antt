@@ -24,7 +24,7 @@ pub record AreDelaysOf (design : DesignParts) (lists : List (List ℕ)) : Type 0
   pub each : All IsDelayList lists
 
 -- a clock without a pick, whose readings are in their range and don't fall
-pub record IsOpening (clock : ClockState) : Type 0 where
+pub record IsUnpickedClock (clock : ClockState) : Type 0 where
   pub unpicked_yet : clock ≡ unpicked clock.readings
   pub within : All (λ n. n ≤ READING) clock.readings
   pub order : IsNonDecreasing clock.readings
@@ -32,7 +32,7 @@ pub record IsOpening (clock : ClockState) : Type 0 where
 -- such a clock for each component, where nodes have clocks of their own
 pub record AreClocksOf (design : DesignParts) (clocks : List ClockState) : Type 0 where
   pub components : length clocks ≡ length design.components
-  pub each : All IsOpening clocks
+  pub each : All IsUnpickedClock clocks
 
 abbrev pub AreClocksFor : DesignParts → Clocks → Type 0
 AreClocksFor design Meet = Unit {0}

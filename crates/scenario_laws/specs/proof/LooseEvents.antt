@@ -10,8 +10,8 @@ use Rattle.scenario_json.specs.Scenarios.{Means}
 use Rattle.loose_world.specs.LooseRuns.{IsLooseIn}
 
 -- the command `world --loose`
-abbrev pub loosely : List ℕ → Command
-loosely root = World root true
+abbrev pub loose_world_command : List ℕ → Command
+loose_world_command root = World root true
 
 
 -- events of a loose world of a design, and no more than a list may have
@@ -22,5 +22,5 @@ pub record AreLooseEvents (design : DesignParts) (events : List Event) : Type 0 
 
 abbrev pub EventsAreLoose : Type 0
 EventsAreLoose =
-    (bytes root : List ℕ) (design : DesignParts) (scenario : Scenario) → Means bytes design (loosely root) (Ok scenario)
+    (bytes root : List ℕ) (design : DesignParts) (scenario : Scenario) → Means bytes design (loose_world_command root) (Ok scenario)
     → AreLooseEvents design scenario.events

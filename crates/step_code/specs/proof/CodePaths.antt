@@ -1,13 +1,13 @@
 -- Paths through code as lists of places, and their weights.
 use Rattle.std.specs.Prelude.{ℕ, ◌+◌, List, [], ◌∷◌}
 use Rattle.step_code.specs.declared.instr.Instr.{Instr}
-use Rattle.step_code.specs.PathWeights.{leads, weight_at}
+use Rattle.step_code.specs.PathWeights.{forward_successors_at, weight_at}
 use Rattle.step_code.specs.proof.StackHeights.{Member}
 
 -- a place and those behind it are a path: each leads to the next
 abbrev pub IsPath : List Instr → ℕ → List ℕ → Type 0
 IsPath code place [] = Unit {0}
-IsPath code place (next ∷ rest) = Member (leads code place) next × IsPath code next rest
+IsPath code place (next ∷ rest) = Member (forward_successors_at code place) next × IsPath code next rest
 
 abbrev pub path_weight : List Instr → ℕ → List ℕ → ℕ
 path_weight code place [] = weight_at code place

@@ -4,7 +4,7 @@ use Rattle.std.specs.Prelude.{option_to_list, slice_get}
 use Rattle.step_code.specs.declared.instr.Instr.{Instr}
 use Rattle.step_code.specs.declared.instr.Instr.TheVariants.{Push, Load, Store, Port, Fresh, Neg, Abs, Not, Jump}
 use Rattle.step_code.specs.declared.instr.Instr.TheVariants.{JumpZero, LoopStart, LoopNext, Emit, End}
-use Rattle.step_code.specs.PathWeights.{onward}
+use Rattle.step_code.specs.PathWeights.{forward_successors}
 
 -- how many operands an instruction takes
 abbrev pub takes : Instr → ℕ
@@ -49,7 +49,7 @@ abbrev pub Reaches : List Instr → List (Option ℕ) → ℕ → ℕ → ℕ �
 Reaches code entries zero p h = Member entries (Some p) × (h ≡ 0)
 Reaches code entries (suc n) p h =
     (q : ℕ) × (k : ℕ) × (i : Instr) × Reaches code entries n q k × (slice_get code q ≡ Some i) × (takes i ≤ k)
-    × Member (onward q (Some i)) p × (q < p) × (h ≡ after k i)
+    × Member (forward_successors q (Some i)) p × (q < p) × (h ≡ after k i)
 
 -- the path is an entry, or its last instruction stands below a place
 abbrev pub ComesFromBelow : (code : List Instr) (entries : List (Option ℕ)) (below n p h : ℕ)
@@ -69,5 +69,5 @@ back_of (LoopNext slot high to) = Some to
 back_of other = None
 
 -- all places to which an instruction leads
-abbrev pub ways : ℕ → Instr → List ℕ
-ways p i = option_to_list (back_of i) ++ onward p (Some i)
+abbrev pub all_successors : ℕ → Instr → List ℕ
+all_successors p i = option_to_list (back_of i) ++ forward_successors p (Some i)

@@ -3,8 +3,8 @@ use Rattle.std.specs.Prelude.{◌≡◌, ◌≢◌, ℕ, ◌<◌, ◌≤◌, nat
 use Rattle.std.specs.Prelude.{None, Result, Ok, Err, slice_get}
 use Rattle.step_code.specs.declared.instr.Instr.{Instr}
 use Rattle.step_code.specs.declared.fault.CodeFault.{CodeFault}
-use Rattle.step_code.specs.PathWeights.{onward}
-use Rattle.step_code.specs.proof.StackHeights.{takes, after, Member, Given, ways}
+use Rattle.step_code.specs.PathWeights.{forward_successors}
+use Rattle.step_code.specs.proof.StackHeights.{takes, after, Member, Given, all_successors}
 use Rattle.step_code.specs.proof.VerifierRules.{enters_badly}
 use Rattle.step_code.specs.declared.fault.CodeFault.TheVariants as fault
 
@@ -50,13 +50,13 @@ pub record AreSet (old new : List (Option ℕ)) (places : List ℕ) (h : ℕ) : 
 -- from now on
 pub record PassesOn (old new : List (Option ℕ)) (p : ℕ) (i : Instr) (h : ℕ) : Type 0 where
   pub enough : takes i ≤ h
-  pub same : ¬ Clashes old (ways p i) (after h i)
-  pub sets : AreSet old new (onward p (Some i)) (after h i)
+  pub same : ¬ Clashes old (all_successors p i) (after h i)
+  pub sets : AreSet old new (forward_successors p (Some i)) (after h i)
 
 -- an instruction finds its operands, and a place to which it leads has another height
 pub record Disagrees (heights : List (Option ℕ)) (p : ℕ) (i : Instr) (h : ℕ) : Type 0 where
   pub enough : takes i ≤ h
-  pub clash : Clashes heights (ways p i) (after h i)
+  pub clash : Clashes heights (all_successors p i) (after h i)
 
 abbrev pub Passed : List (Option ℕ) → List (Option ℕ) → ℕ → Instr → ℕ → Result (Unit {0}) CodeFault → Type 0
 Passed old new p i h (Ok done) = PassesOn old new p i h

@@ -11,7 +11,7 @@ use Rattle.step_code.specs.declared.loops.LoopSpan.{LoopSpan}
 use Rattle.step_code.specs.Loops.{loop_at, loops_below, around}
 use Rattle.step_code.specs.PathWeights.{jump_of, next_of}
 use Rattle.step_code.specs.proof.CodeRuns.{has_entry}
-use Rattle.step_code.specs.proof.StackHeights.{takes, after, Member, Reaches, Given, ways}
+use Rattle.step_code.specs.proof.StackHeights.{takes, after, Member, Reaches, Given, all_successors}
 use Rattle.step_code.specs.declared.fault.CodeFault.TheVariants as fault
 
 -- whether a test holds of what is there
@@ -110,7 +110,7 @@ pub record Differs (c : CodeParts) (p : ℕ) : Type 0 where
   pub reached : Reaches c.instrs c.entries steps p height
   pub enough : takes instr ≤ height
   pub to : ℕ
-  pub leads : Member (ways p instr) to
+  pub leads : Member (all_successors p instr) to
   pub place : to < length c.instrs
   pub other : ℕ
   pub given : Given c.instrs c.entries p to other

@@ -6,8 +6,8 @@ use Rattle.pals_base.specs.declared.values.PortValue.TheVariants.{Absent}
 use Rattle.step_code.specs.InstructionEffects.{Next, Goes, Ends, Traps, step, on_result, on_two}
 use Rattle.step_vm.specs.declared.instruction_effects.Continuation.{Continuation}
 use Rattle.step_vm.specs.declared.steps.RunResult.{RunResult}
-use Rattle.step_code.specs.proof.CodeRuns.{Outcome, run}
-use Rattle.step_code.specs.InstructionsPerStep.{senses}
+use Rattle.step_code.specs.proof.CodeRuns.{CodeOutcome, run}
+use Rattle.step_code.specs.InstructionsPerStep.{step_inputs}
 use Rattle.step_code.specs.declared.instr.Instr.{Instr}
 use Rattle.step_code.specs.declared.instr.CodeParts.{CodeParts}
 use Rattle.step_code.specs.PathWeights.{weight_of}
@@ -27,7 +27,7 @@ Met (onward.Traps trap) stack slots outs next = next ≡ Traps trap
 -- what one instruction does at these inputs
 abbrev pub done_by : Instr → ℕ → List ℤ → List ℤ → List PortValue → CodeInputs → Next
 done_by i place stack slots outs inputs =
-    step (Some i) (senses inputs.held.now inputs.present.now) place stack slots outs
+    step (Some i) (step_inputs inputs.held.now inputs.present.now) place stack slots outs
 
 -- an answer, and the stack that it leaves, is where a result leads
 abbrev pub GivesResult : Continuation → List ℤ → Result ℤ Trap → ℕ → List ℤ → Type 0
@@ -42,12 +42,12 @@ GivesBoth answer left op place stack =
 
 -- ---- runs
 -- what a run from an entry comes to
-abbrev pub ran : CodeParts → ℕ → List ℤ → List PortValue → CodeInputs → Outcome
+abbrev pub ran : CodeParts → ℕ → List ℤ → List PortValue → CodeInputs → CodeOutcome
 ran c entry slots outs inputs =
-    run c.instrs (senses inputs.held.now inputs.present.now) (weight_of c) entry [] slots outs
+    run c.instrs (step_inputs inputs.held.now inputs.present.now) (weight_of c) entry [] slots outs
 
 -- how a run has come to its end, and what it left
-abbrev pub HasEnded : RunResult → List ℤ → List PortValue → Outcome → Type 0
+abbrev pub HasEnded : RunResult → List ℤ → List PortValue → CodeOutcome → Type 0
 HasEnded (ended.In state) slots outs o = o ≡ outcome.Ended state slots outs
 HasEnded (ended.Trapped trap) slots outs o = o ≡ outcome.Trapped trap
 

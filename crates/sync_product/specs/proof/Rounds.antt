@@ -9,19 +9,19 @@ use Rattle.pals_model.specs.declared.design.Component.{Component}
 use Rattle.pals_model.specs.declared.design.Link.{Link}
 use Rattle.pals_model.specs.declared.part.Part.{Part}
 use Rattle.pals_model.specs.declared.port_sources.PortSource.{PortSource}
-use Rattle.pals_model.specs.ComponentInputs.{reading, sources_of}
+use Rattle.pals_model.specs.ComponentInputs.{brought_tuple, sources_of}
 use Rattle.pals_model.specs.Composition.{no_frame}
 use Rattle.sync_product.specs.declared.round_inputs.RoundInputs.{RoundInputs}
 use Rattle.sync_product.specs.declared.component_stage.Stage.{Stage}
 use Rattle.sync_product.specs.proof.ComponentWiring.{tap_ports}
 
 -- a place of a row where it counts, else an absent one
-abbrev pub place_before : Bool → ℕ → List PortValue → PortValue
-place_before counts port row = if counts then slice_index_or row port Absent else Absent
+abbrev pub value_if_before : Bool → ℕ → List PortValue → PortValue
+value_if_before counts port row = if counts then slice_index_or row port Absent else Absent
 
 -- the tuple that a source brings to a component of this rate
 abbrev pub brought : RoundInputs → ℕ → PortSource → List PortValue
-brought round rate source = reading round.design.now round.values.now round.messages.now rate source
+brought round rate source = brought_tuple round.design.now round.values.now round.messages.now rate source
 
 -- the input vectors of a component whose in ports have these sources
 abbrev pub vectors : RoundInputs → Component → List PortSource → List (List PortValue)

@@ -7,11 +7,11 @@ use Rattle.bus_machine.specs.Runs.{Run}
 use Rattle.run_laws.specs.Worlds.{World}
 use Rattle.run_laws.specs.Deadlines.{message_deadline}
 use Rattle.run_laws.specs.EventFaults.{past}
-use Rattle.pals_runs.specs.declared.events_and_faults.EventSubject.TheVariants as which
+use Rattle.pals_runs.specs.declared.events_and_faults.EventSubject.TheVariants as subject
 
 -- it is in flight beyond its last allowed time
 abbrev pub flying_past : Run → World → ℕ → ℕ → ℕ → Option EventFault
 flying_past run w time link round =
     if is_in_flight round (flight_at w.bus link)
-    then past time (which.Message (record { 0 = link }) round) (Some (message_deadline run w link round))
+    then past time (subject.Message (record { 0 = link }) round) (Some (message_deadline run w link round))
     else None

@@ -18,7 +18,7 @@ use Rattle.run_laws.specs.Deadlines.{last_before, lesser}
 use Rattle.run_laws.specs.EventFaults.{found_if, or_else}
 use Rattle.timed_world.specs.declared.standing.NodeStanding.{NodeStanding}
 use Rattle.pals_runs.specs.declared.events_and_faults.EventFault.TheVariants as fault
-use Rattle.pals_runs.specs.declared.events_and_faults.EventSubject.TheVariants as which
+use Rattle.pals_runs.specs.declared.events_and_faults.EventSubject.TheVariants as subject
 
 -- ---- a node of a world
 abbrev pub standing_of : World → ℕ → NodeStanding
@@ -49,8 +49,8 @@ alarm_of_step plan s step = alarm plan.period (s.count - 1) + step * plan.step_p
 abbrev pub release_of : Plan → NodeStanding → ℕ
 release_of plan s = alarm plan.period (s.count - 1) + plan.release_offset
 
-abbrev pub may_go : Plan → NodeStanding → Bool
-may_go plan s = not s.sent && option_map_or (nat_le plan.sent_steps) (finished_steps plan.rate s.phase) false
+abbrev pub may_send_round : Plan → NodeStanding → Bool
+may_send_round plan s = not s.sent && option_map_or (nat_le plan.sent_steps) (finished_steps plan.rate s.phase) false
 
 -- ---- faults
 -- its reading is below this alarm
@@ -71,10 +71,10 @@ step_fault plan s =
 abbrev pub finish_fault : Plan → NodeStanding → ℕ → ℕ → Option EventFault
 finish_fault plan s time alpha_min =
     or_else (wrong_unless plan (is_some (running_step s.phase)))
-    (found_if (nat_lt time (s.since + alpha_min)) (fault.TooSoon (which.Node plan.node) (s.since + alpha_min)))
+    (found_if (nat_lt time (s.since + alpha_min)) (fault.TooSoon (subject.Node plan.node) (s.since + alpha_min)))
 
 abbrev pub send_fault : Plan → NodeStanding → Option EventFault
-send_fault plan s = or_else (wrong_unless plan (may_go plan s)) (below plan s (release_of plan s))
+send_fault plan s = or_else (wrong_unless plan (may_send_round plan s)) (below plan s (release_of plan s))
 
 -- ---- the last time
 abbrev pub phase_last : Plan → NodeStanding → Gamma → Phase → Option ℕ
@@ -85,7 +85,7 @@ phase_last plan s g Holding = None
 phase_last plan s g Done = None
 
 abbrev pub send_last : Plan → NodeStanding → Gamma → Option ℕ
-send_last plan s g = if may_go plan s then Some (max s.ready (last_before (release_of plan s) g.eps)) else None
+send_last plan s g = if may_send_round plan s then Some (max s.ready (last_before (release_of plan s) g.eps)) else None
 
 abbrev pub last_time : Plan → NodeStanding → Gamma → Option ℕ
 last_time plan s g = lesser (phase_last plan s g s.phase) (send_last plan s g)

@@ -25,7 +25,7 @@ pub record SaysStart (b : BusValue) (readings : List ℕ) (e : JournalEntry) (no
   pub waits : waits b.run b.state e ≡ has_due b.run b.state node.0 (Some reading)
 
 -- the event of an entry has happened
-pub record IsRedone (old : BusValue) (e : JournalEntry) (new : BusValue) : Type 0 where
+pub record IsReplayed (old : BusValue) (e : JournalEntry) (new : BusValue) : Type 0 where
   pub event : BusEvent
   pub is : event_of old.run.design e ≡ Some event
   pub happens : Happens old event new

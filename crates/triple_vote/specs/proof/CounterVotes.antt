@@ -8,7 +8,7 @@ use Rattle.pals_model.specs.proof.TwoCounters.{two_counters}
 use Rattle.pals_model.specs.ComponentInputs.{no_env}
 use Rattle.pals_runs.specs.declared.vote_faults.VoteFault.{VoteFault}
 use Rattle.pals_model.specs.RoundTexts.{line_end}
-use Rattle.triple_vote.specs.Replicas.{Voted, voted_composition}
+use Rattle.triple_vote.specs.Replicas.{VotedConfiguration, voted_composition}
 use Rattle.triple_vote.specs.VotedText.{voted_report}
 use Rattle.triple_vote.specs.OutvotedFaults.{AreOutvoted}
 use Rattle.triple_vote.specs.proof.VoteLaws.{AreFaults, NameOneEach}
@@ -30,7 +30,7 @@ first_round faults zero = faults
 first_round faults (suc round) = []
 
 -- x of each replica, p.a's three before p.b
-abbrev pub xs_in : Voted → List ℤ
+abbrev pub xs_in : VotedConfiguration → List ℤ
 xs_in v = flat_map (λ frames. map (λ (frame : Frame). slice_index_or frame.vars 0 (pos 0)) frames) v.frames
 
 abbrev pub counted : List VoteFault → List (List ℤ)

@@ -8,7 +8,7 @@ use Rattle.sync_product.specs.declared.component_stage.Stage.{Stage}
 use Rattle.sync_product.specs.proof.ProductSizes.{stage_size, stage_sizes}
 use Rattle.triple_vote.specs.declared.replica_layer.Layer.{Layer}
 use Rattle.triple_vote.specs.proof.ReplicaLayers.{lengths, tap_sizes}
-use Rattle.triple_vote.specs.proof.ThreeLayers.{AreHeard, AreThree, HaveReplicas, there_in}
+use Rattle.triple_vote.specs.proof.ThreeLayers.{HasReceivedSizes, AreThree, HaveReplicas, there_in}
 
 -- the tables are the design's
 pub record HasTables (design : DesignParts) (replicated : List Bool) (sources : List (List PortSource))
@@ -19,8 +19,8 @@ pub record HasTables (design : DesignParts) (replicated : List Bool) (sources : 
 
 
 pub record HasReplicas (design : DesignParts) (replicated : List Bool) (layers : List Layer)
-    (heard : List (List (List PortValue))) (shown : List (List PortValue)) : Type 0 where
+    (received_messages : List (List (List PortValue))) (shown : List (List PortValue)) : Type 0 where
   pub layers_fit : AreThree design layers
   pub layers_are : HaveReplicas design replicated (there_in layers)
-  pub heard_fit : AreHeard design heard
+  pub heard_fit : HasReceivedSizes design received_messages
   pub shown_fit : lengths shown ≡ tap_sizes design

@@ -42,8 +42,8 @@ pub record HasRoom (design : DesignParts) (layer : Layer) : Type 0 where
 abbrev pub opening_part : Component → Part
 opening_part c = record { frame = initial c.behaviour; outs = [] }
 
-abbrev pub is_there : List Bool → ℕ → Bool
-is_there there node = slice_index_or there node false
+abbrev pub has_replica : List Bool → ℕ → Bool
+has_replica there node = slice_index_or there node false
 
 -- before the first round
 pub record IsOpened (design : DesignParts) (there : List Bool) (layer : Layer) : Type 0 where
@@ -53,33 +53,33 @@ pub record IsOpened (design : DesignParts) (there : List Bool) (layer : Layer) :
 
 -- ---- what a component's steps leave, from these frames and from what was received
 abbrev pub frame_made : DesignParts → List PortValue → List (List PortValue) → List Frame → ℕ → Component → Frame
-frame_made design values heard frames node c =
-    frame_after c.behaviour (slice_index_or frames node no_frame) (inputs_of design values heard node c)
+frame_made design values received_messages frames node c =
+    frame_after c.behaviour (slice_index_or frames node no_frame) (inputs_of design values received_messages node c)
 
 abbrev pub rows_made : DesignParts → List PortValue → List (List PortValue) → List Frame → ℕ → Component
     → List (List PortValue)
-rows_made design values heard frames node c =
-    outputs c.behaviour (slice_index_or frames node no_frame) (inputs_of design values heard node c)
+rows_made design values received_messages frames node c =
+    outputs c.behaviour (slice_index_or frames node no_frame) (inputs_of design values received_messages node c)
 
 -- its frame, and the rows of its stage
-pub record IsRun (design : DesignParts) (values : List PortValue) (heard : List (List PortValue)) (frames : List Frame)
+pub record IsRun (design : DesignParts) (values : List PortValue) (received_messages : List (List PortValue)) (frames : List Frame)
     (next : List Part) (stages : List Stage)
     (node : ℕ) (c : Component) : Type 0 where
-  pub frame : slice_get (frames_of next) node ≡ Some (frame_made design values heard frames node c)
-  pub rows : slice_get (map (λ (s : Stage). s.rows) stages) node ≡ Some (rows_made design values heard frames node c)
+  pub frame : slice_get (frames_of next) node ≡ Some (frame_made design values received_messages frames node c)
+  pub rows : slice_get (map (λ (s : Stage). s.rows) stages) node ≡ Some (rows_made design values received_messages frames node c)
 
 -- those of all components that are there
 abbrev pub AreRun : DesignParts → List PortValue → List (List PortValue) → List Bool → List Frame → List Part
     → List Stage → Type 0
-AreRun design values heard there frames next stages =
-    (node : ℕ) (c : Component) → slice_get design.components node ≡ Some c → is_there there node ≡ true
-    → IsRun design values heard frames next stages node c
+AreRun design values received_messages there frames next stages =
+    (node : ℕ) (c : Component) → slice_get design.components node ≡ Some c → has_replica there node ≡ true
+    → IsRun design values received_messages frames next stages node c
 
 -- ---- what is read off the stages
 -- each link of a component that is there has its message
 abbrev pub AreSent : DesignParts → List Bool → List Stage → List (List PortValue) → Type 0
 AreSent design there stages sent =
-    (l : ℕ) (link : Link) → slice_get design.links l ≡ Some link → is_there there link.source.0 ≡ true
+    (l : ℕ) (link : Link) → slice_get design.links l ≡ Some link → has_replica there link.source.0 ≡ true
     → slice_get sent l ≡ Some (sent_by stages link)
 
 abbrev pub whole_from : Option Stage → ℕ → List PortValue
@@ -89,7 +89,7 @@ whole_from (Some stage) port = column port stage.rows
 -- each root out port of a component that is there has its whole tuple
 abbrev pub AreWhole : DesignParts → List Bool → List Stage → List (List PortValue) → Type 0
 AreWhole design there stages shown =
-    (n : ℕ) (tap : Tap) → slice_get design.taps n ≡ Some tap → is_there there tap.source.0 ≡ true
+    (n : ℕ) (tap : Tap) → slice_get design.taps n ≡ Some tap → has_replica there tap.source.0 ≡ true
     → slice_get shown n ≡ Some (whole_from (slice_get stages tap.source.0) tap.out_port)
 
 -- ---- a round of a layer
@@ -100,26 +100,26 @@ pub record StaysPut (old new : Layer) : Type 0 where
 
 abbrev pub own_rows_of : DesignParts → List PortValue → List (List PortValue) → Layer → ℕ → Component
     → List (List PortValue)
-own_rows_of design values heard layer node c = rows_made design values heard (frames_of layer.parts) node c
+own_rows_of design values received_messages layer node c = rows_made design values received_messages (frames_of layer.parts) node c
 
 -- it has the next frame, the messages and the whole tuples of each component that is there
-pub record IsMade (design : DesignParts) (values : List PortValue) (heard : List (List PortValue))
+pub record IsMade (design : DesignParts) (values : List PortValue) (received_messages : List (List PortValue))
     (layer : Layer) : Type 0 where
-  pub frames : (node : ℕ) (c : Component) → slice_get design.components node ≡ Some c → is_there layer.there node ≡ true
-      → slice_get (frames_of layer.next) node ≡ Some (frame_made design values heard (frames_of layer.parts) node c)
+  pub frames : (node : ℕ) (c : Component) → slice_get design.components node ≡ Some c → has_replica layer.there node ≡ true
+      → slice_get (frames_of layer.next) node ≡ Some (frame_made design values received_messages (frames_of layer.parts) node c)
   pub sent : (l : ℕ) (link : Link) (c : Component) → slice_get design.links l ≡ Some link
       → slice_get design.components link.source.0 ≡ Some c
-      → is_there layer.there link.source.0 ≡ true
+      → has_replica layer.there link.source.0 ≡ true
       → slice_get layer.sent l
       ≡ Some (cut (sent_steps design.gamma design.period c.rate)
-      (column link.out_port (own_rows_of design values heard layer link.source.0 c)))
+      (column link.out_port (own_rows_of design values received_messages layer link.source.0 c)))
   pub shown : (n : ℕ) (tap : Tap) (c : Component) → slice_get design.taps n ≡ Some tap
       → slice_get design.components tap.source.0 ≡ Some c
-      → is_there layer.there tap.source.0 ≡ true
-      → slice_get layer.shown n ≡ Some (column tap.out_port (own_rows_of design values heard layer tap.source.0 c))
+      → has_replica layer.there tap.source.0 ≡ true
+      → slice_get layer.shown n ≡ Some (column tap.out_port (own_rows_of design values received_messages layer tap.source.0 c))
 
 -- over to the frames that were made
-pub record IsTurned (old new : Layer) : Type 0 where
+pub record IsSwapped (old new : Layer) : Type 0 where
   pub there : new.there ≡ old.there
   pub parts : new.parts ≡ old.next
   pub next : new.next ≡ old.parts

@@ -12,9 +12,9 @@ use Rattle.pals_runs.specs.declared.vote_faults.VoteFault.{VoteFault}
 use Rattle.sync_product.specs.proof.ProductSizes.{message_sizes}
 use Rattle.sync_product.specs.proof.Rounds.{frames_of}
 use Rattle.triple_vote.specs.declared.replica_layer.Layer.{Layer}
-use Rattle.triple_vote.specs.Replicas.{is_replicated, copies_of, Voted, for_replicas, for_receivers, is_fault, fault_or}
+use Rattle.triple_vote.specs.Replicas.{is_replicated, copies_of, VotedConfiguration, for_replicas, for_receivers, is_fault, fault_or}
 use Rattle.triple_vote.specs.Replicas.{vote_of}
-use Rattle.triple_vote.specs.proof.ReplicaLayers.{lengths, HasRoom, is_there, IsMade}
+use Rattle.triple_vote.specs.proof.ReplicaLayers.{lengths, HasRoom, has_replica, IsMade}
 
 -- ---- by the number of the replica
 abbrev pub there_in : List Layer → List (List Bool)
@@ -38,10 +38,10 @@ frame_of parts replica node = slice_index_or (frames_of (slice_index_or parts re
 abbrev pub tuple_of : List (List (List PortValue)) → ℕ → ℕ → List PortValue
 tuple_of tuples replica at = slice_index_or (slice_index_or tuples replica []) at []
 
-abbrev pub voted_of : DesignParts → List Bool → List (List Part) → List (List (List PortValue)) → Voted
-voted_of design replicated parts heard = record {
+abbrev pub voted_of : DesignParts → List Bool → List (List Part) → List (List (List PortValue)) → VotedConfiguration
+voted_of design replicated parts received_messages = record {
   frames = for_replicas design replicated (λ node replica. frame_of parts replica node);
-  received = for_receivers design replicated (λ l target. tuple_of heard target l);
+  received = for_receivers design replicated (λ l target. tuple_of received_messages target l);
 }
 
 -- ---- what is voted
@@ -54,10 +54,10 @@ received_of three faults sent l target =
 
 -- those of all links whose target has this replica
 abbrev pub AreReceived : DesignParts → List Bool → List VoteFault → List Layer → ℕ → List (List PortValue) → Type 0
-AreReceived design replicated faults layers target heard =
+AreReceived design replicated faults layers target received_messages =
     (l : ℕ) (link : Link) → slice_get design.links l ≡ Some link
-    → is_there (slice_index_or (there_in layers) target []) link.target.0 ≡ true
-    → slice_get heard l ≡ Some (received_of (is_replicated replicated link.source.0) faults (sent_in layers) l target)
+    → has_replica (slice_index_or (there_in layers) target []) link.target.0 ≡ true
+    → slice_get received_messages l ≡ Some (received_of (is_replicated replicated link.source.0) faults (sent_in layers) l target)
 
 -- what a root out port shows of it
 abbrev pub shown_of : Bool → List (List (List PortValue)) → ℕ → List PortValue
@@ -89,17 +89,17 @@ pub record StayPut (old new : List Layer) : Type 0 where
 
 -- each layer is made from what its replicas received
 abbrev pub AreMade : DesignParts → List PortValue → List (List (List PortValue)) → List Layer → Type 0
-AreMade design values heard layers =
+AreMade design values received_messages layers =
     (replica : ℕ) (layer : Layer) → slice_get layers replica ≡ Some layer
-    → IsMade design values (slice_index_or heard replica []) layer
+    → IsMade design values (slice_index_or received_messages replica []) layer
 
 -- each layer's replicas receive
 abbrev pub AllReceived : DesignParts → List Bool → List VoteFault → List Layer → List (List (List PortValue)) → Type 0
-AllReceived design replicated faults layers heard =
-    (target : ℕ) → target < 3 → AreReceived design replicated faults layers target (slice_index_or heard target [])
+AllReceived design replicated faults layers received_messages =
+    (target : ℕ) → target < 3 → AreReceived design replicated faults layers target (slice_index_or received_messages target [])
 
 -- over to the frames that were made
-pub record AreTurned (old new : List Layer) : Type 0 where
+pub record AreSwapped (old new : List Layer) : Type 0 where
   pub there : there_in new ≡ there_in old
   pub parts : parts_in new ≡ next_in old
   pub rooms : (design : DesignParts) → AreThree design old → AreThree design new
@@ -109,12 +109,12 @@ pub record AreTurned (old new : List Layer) : Type 0 where
 abbrev pub HaveReplicas : DesignParts → List Bool → List (List Bool) → Type 0
 HaveReplicas design replicated there =
     (replica node : ℕ) → replica < 3 → node < length design.components
-    → is_there (slice_index_or there replica []) node ≡ nat_lt replica (copies_of replicated node)
+    → has_replica (slice_index_or there replica []) node ≡ nat_lt replica (copies_of replicated node)
 
 -- room for what three replicas receive
-pub record AreHeard (design : DesignParts) (heard : List (List (List PortValue))) : Type 0 where
-  pub three : length heard ≡ 3
-  pub sizes : All (λ tuples. lengths tuples ≡ message_sizes design) heard
+pub record HasReceivedSizes (design : DesignParts) (received_messages : List (List (List PortValue))) : Type 0 where
+  pub three : length received_messages ≡ 3
+  pub sizes : All (λ tuples. lengths tuples ≡ message_sizes design) received_messages
 
 -- before the first round
 pub record AreOpened (design : DesignParts) (replicated : List Bool) (layers : List Layer) : Type 0 where

@@ -14,9 +14,9 @@ use Rattle.pals_model.specs.DesignRules.{IsDesign}
 use Rattle.pals_runs.specs.declared.vote_faults.VoteFault.{VoteFault}
 use Rattle.pals_model.specs.RoundTexts.{report}
 use Rattle.triple_vote.specs.Votes.{vote}
-use Rattle.triple_vote.specs.Replicas.{source_in, is_replicated, copies_of, Voted, frame_at, received_at}
-use Rattle.triple_vote.specs.Replicas.{voted_composition, vshown}
-use Rattle.triple_vote.specs.VotedText.{voted_report, thrice}
+use Rattle.triple_vote.specs.Replicas.{source_in, is_replicated, copies_of, VotedConfiguration, frame_at, received_at}
+use Rattle.triple_vote.specs.Replicas.{voted_composition, voted_tap}
+use Rattle.triple_vote.specs.VotedText.{voted_report, tripled_report}
 use Rattle.triple_vote.specs.OutvotedFaults.{AreOutvoted}
 use Rattle.triple_vote.specs.proof.VotedStates.{voted_state_after}
 
@@ -72,7 +72,7 @@ TapsShowTuples =
     (design : DesignParts) (env : Env) (replicated : List Bool) (faults : ℕ → List VoteFault) → IsDesign design
     → AreFaults design faults → AreOutvoted faults
     → (n round : ℕ) (tap : Tap) → slice_get design.taps n ≡ Some tap
-    → vshown design env replicated faults tap round
+    → voted_tap design env replicated faults tap round
     ≡ tuple_of (steps_of_round design env round) tap.source.0 tap.out_port
 
 -- so the report is that of the composition, with each line of a replicated component three times
@@ -80,18 +80,18 @@ abbrev pub ReportIsThrice : Type 0
 ReportIsThrice =
     (design : DesignParts) (env : Env) (replicated : List Bool) (faults : ℕ → List VoteFault) (n : ℕ) → IsDesign design
     → AreFaults design faults → AreOutvoted faults
-    → voted_report design env replicated faults n ≡ thrice design env replicated n
+    → voted_report design env replicated faults n ≡ tripled_report design env replicated n
 
 -- which without replicas is the report of the composition
 abbrev pub ThriceWithoutReplicas : Type 0
 ThriceWithoutReplicas =
     (design : DesignParts) (env : Env) (replicated : List Bool) (n : ℕ)
     → ((node : ℕ) → is_replicated replicated node ≡ false)
-    → thrice design env replicated n ≡ report design env n
+    → tripled_report design env replicated n ≡ report design env n
 
 -- ---- without replicas it is the composition, whatever the faults
-abbrev pub alone : Configuration → Voted
-alone c =
+abbrev pub unreplicated : Configuration → VotedConfiguration
+unreplicated c =
     record {
       frames = map (λ (frame : Frame). frame ∷ []) c.frames;
       received = map (λ (message : List PortValue). message ∷ []) c.messages;
@@ -102,7 +102,7 @@ NoReplicasAreComposition =
     (design : DesignParts) (env : Env) (replicated : List Bool) (faults : ℕ → List VoteFault) (rounds : ℕ)
     → IsDesign design
     → ((node : ℕ) → is_replicated replicated node ≡ false)
-    → voted_composition design env replicated faults rounds ≡ alone (comp design env rounds)
+    → voted_composition design env replicated faults rounds ≡ unreplicated (comp design env rounds)
 
 -- ---- what contracts see after a number of rounds
 pub record StandsAt (design : DesignParts) (env : Env) (replicated : List Bool) (faults : ℕ → List VoteFault)
@@ -121,4 +121,4 @@ abbrev pub ShowsVotes : Type 0
 ShowsVotes =
     (design : DesignParts) (env : Env) (replicated : List Bool) (faults : ℕ → List VoteFault) (round : ℕ)
     → (voted_state_after design env replicated faults (suc round)).shown
-    ≡ map (λ tap. vshown design env replicated faults tap round) design.taps
+    ≡ map (λ tap. voted_tap design env replicated faults tap round) design.taps

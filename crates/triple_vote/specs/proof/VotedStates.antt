@@ -13,14 +13,14 @@ use Rattle.pals_model.specs.declared.environment.Env.{Env}
 use Rattle.pals_model.specs.ComponentInputs.{values_at}
 use Rattle.pals_model.specs.PortKinds.{rate_of}
 use Rattle.pals_runs.specs.declared.vote_faults.VoteFault.{VoteFault}
-use Rattle.triple_vote.specs.Replicas.{Voted, voted_opening, vnext, vshown_by}
+use Rattle.triple_vote.specs.Replicas.{VotedConfiguration, voted_opening, next_voted, voted_tap_by}
 
 -- a design, which of its components have replicas, what stands after some rounds, and what the root out ports showed
 -- in the last
 pub record VotedState : Type 0 where
   pub design : DesignParts
   pub replicated : List Bool
-  pub voted : Voted
+  pub voted : VotedConfiguration
   pub shown : List (List PortValue)
 
 -- a state is stored as its parts
@@ -54,8 +54,8 @@ abbrev pub voted_advanced : VotedState → List PortValue → List VoteFault →
 voted_advanced s values faults = record {
   design = s.design;
   replicated = s.replicated;
-  voted = vnext s.design s.replicated values faults s.voted;
-  shown = map (vshown_by s.design s.replicated values s.voted) s.design.taps;
+  voted = next_voted s.design s.replicated values faults s.voted;
+  shown = map (voted_tap_by s.design s.replicated values s.voted) s.design.taps;
 }
 
 -- after a number of rounds of an environment, with the faults of each round

@@ -13,7 +13,7 @@ use Rattle.bus_machine.specs.proof.StoppedCounterRuns.{a, b, to_a, to_b}
 use Rattle.run_laws.specs.proof.TwoCounterWorlds.{counters_world, refused}
 use Rattle.world_gen.specs.proof.Schedules.{schedule_at}
 use Rattle.pals_runs.specs.declared.events_and_faults.EventFault.TheVariants as fault
-use Rattle.pals_runs.specs.declared.events_and_faults.EventSubject.TheVariants as which
+use Rattle.pals_runs.specs.declared.events_and_faults.EventSubject.TheVariants as subject
 
 abbrev both : ℕ → Event
 both at = Pass at (at ∷ at ∷ [])
@@ -71,19 +71,19 @@ pub record FastFaults : Type 0 where
       ≡ Some (7, fault.NotDue a 25000000 24999999)
   -- a step that is late, and one that takes too little or too much
   pub late : refused fast_world (first_steps ++ both 26000000 ∷ [])
-      ≡ Some (6, fault.PastDeadline (which.Node a) 25999999)
+      ≡ Some (6, fault.PastDeadline (subject.Node a) 25999999)
   pub short : refused fast_world (both 20000000 ∷ Start a ∷ both 20499999 ∷ Finish a ∷ [])
-      ≡ Some (3, fault.TooSoon (which.Node a) 20500000)
+      ≡ Some (3, fault.TooSoon (subject.Node a) 20500000)
   pub long : refused fast_world (both 20000000 ∷ Start a ∷ both 23000001 ∷ [])
-      ≡ Some (2, fault.PastDeadline (which.Node a) 23000000)
+      ≡ Some (2, fault.PastDeadline (subject.Node a) 23000000)
   -- two steps are too few to be sent; what is sent late, though before its next step is due
   pub few : refused fast_world (first_steps ++ Send a ∷ []) ≡ Some (6, fault.WrongPhase a)
   pub unsent : refused fast_world (third_steps ++ both 33000001 ∷ [])
-      ≡ Some (18, fault.PastDeadline (which.Node a) 33000000)
+      ≡ Some (18, fault.PastDeadline (subject.Node a) 33000000)
   -- a message that arrives too soon, and one that does not arrive
   pub soon : refused fast_world (third_steps ++ Send a ∷ Send b ∷ both 33999999 ∷ Arrive to_b 0 ∷ [])
-      ≡ Some (21, fault.TooSoon (which.Message to_b 0) 34000000)
+      ≡ Some (21, fault.TooSoon (subject.Message to_b 0) 34000000)
   pub lost : refused fast_world (third_steps ++ Send a ∷ Send b ∷ both 35000000 ∷ Step a ∷ Step b ∷ both 37000001 ∷ [])
-      ≡ Some (23, fault.PastDeadline (which.Message to_a 0) 37000000)
+      ≡ Some (23, fault.PastDeadline (subject.Message to_a 0) 37000000)
   -- the schedule
   pub within : refused fast_world (schedule_at fast_counters 1 fast_moments) ≡ None

@@ -31,12 +31,12 @@ arrive_time design link round = send_time design (link_at design link).source.0 
 
 -- ---- what comes at a moment
 -- the number, below a count, of the first time that is this moment
-abbrev pub which : (ℕ → ℕ) → ℕ → ℕ → Option ℕ
-which time count moment = position (λ number. nat_eq (time number) moment) (upwards 0 count)
+abbrev pub number_at_moment : (ℕ → ℕ) → ℕ → ℕ → Option ℕ
+number_at_moment time count moment = position (λ number. nat_eq (time number) moment) (upwards 0 count)
 
-abbrev pub event_of : Option ℕ → (ℕ → Event) → List Event
-event_of None e = []
-event_of (Some number) e = e number ∷ []
+abbrev pub event_list : Option ℕ → (ℕ → Event) → List Event
+event_list None e = []
+event_list (Some number) e = e number ∷ []
 
 -- in order of their numbers
 abbrev pub all_of : ℕ → (ℕ → List Event) → List Event
@@ -52,21 +52,21 @@ begins rate node number =
 
 abbrev pub starts_at : DesignParts → ℕ → ℕ → ℕ → List Event
 starts_at design rounds moment node =
-    event_of (which (step_time design node) (step_count design rounds node) moment)
+    event_list (number_at_moment (step_time design node) (step_count design rounds node) moment)
     (begins (plan_of design node).rate node)
 
 abbrev pub finishes_at : DesignParts → ℕ → ℕ → ℕ → List Event
 finishes_at design rounds moment node =
-    event_of (which (finish_time design node) (step_count design rounds node) moment)
+    event_list (number_at_moment (finish_time design node) (step_count design rounds node) moment)
     (λ number. event.Finish (record { 0 = node }))
 
 abbrev pub sends_at : DesignParts → ℕ → ℕ → ℕ → List Event
 sends_at design rounds moment node =
-    event_of (which (send_time design node) rounds moment) (λ round. event.Send (record { 0 = node }))
+    event_list (number_at_moment (send_time design node) rounds moment) (λ round. event.Send (record { 0 = node }))
 
 abbrev pub arrivals_at : DesignParts → ℕ → ℕ → ℕ → List Event
 arrivals_at design rounds moment link =
-    event_of (which (arrive_time design link) rounds moment) (λ round. event.Arrive (record { 0 = link }) round)
+    event_list (number_at_moment (arrive_time design link) rounds moment) (λ round. event.Arrive (record { 0 = link }) round)
 
 abbrev pub finishes : DesignParts → ℕ → ℕ → List Event
 finishes design rounds moment = all_of (length design.components) (finishes_at design rounds moment)

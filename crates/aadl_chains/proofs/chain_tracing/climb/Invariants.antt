@@ -6,8 +6,8 @@ use Rattle.aadl_chains.proofs.chain_tracing.climb.Given as goal
 -- the rest of the walk
 abbrev pub invariant-up : goal.invariant-up
 invariant-up l =
-    (walks.climb (placed l.wires.uses.names.tree.now) l.root l.last (reverse (take l.depth l.path)) l.here
-    ≡ walks.climb (placed l.wires.uses.names.tree.now) l.root None (reverse l.path) l.fn.port)
+    (walks.walk_back (placed l.wires.uses.names.tree.now) l.root l.last (reverse (take l.depth l.path)) l.here
+    ≡ walks.walk_back (placed l.wires.uses.names.tree.now) l.root None (reverse l.path) l.fn.port)
     × (l.depth ≤ length l.path)
 
 abbrev pub decreases-up : goal.decreases-up

@@ -1,14 +1,14 @@
 use Rattle.std.proofs.Common.{◌∙◌, ap, arith, length, slice_get, sym, None, List}
 use Rattle.std.proofs.lemmas.Option.{slice_get-get_or}
 use Rattle.aadl_tree.specs.proof.PackageViews.{placed}
-use Rattle.aadl_uses.specs.declared.connections_by_target.Wire.{Wire}
+use Rattle.aadl_uses.specs.declared.connections_by_target.ConnectionPorts.{ConnectionPorts}
 use Rattle.aadl_chains.proofs.EndFaults.{found_none, found_more, found_all}
 use Rattle.aadl_chains.proofs.connection_faults.check_all.Goals as goal
 
 pub check-requires-clause-wire : goal.check-requires-clause-wire
 check-requires-clause-wire c =
     let items = c.wires-wire-items.result.now in
-    ap (λ (l : List Wire). slice_get l c.loop-at.at) (sym c.wires-wire-items.ensures)
+    ap (λ (l : List ConnectionPorts). slice_get l c.loop-at.at) (sym c.wires-wire-items.ensures)
     ∙ slice_get-get_or items c.loop-at.at (record { source = None; target = None }) (omega arith)
 
 pub loop-at-init : goal.loop-at-init
@@ -25,6 +25,6 @@ loop-at-preserved c =
 pub returns : goal.returns
 returns c =
     let tree = placed c.args.wires.now.uses.names.tree.now in
-    let same = ap (λ (l : List Wire). length l) c.wires-wire-items.ensures in
+    let same = ap (λ (l : List ConnectionPorts). length l) c.wires-wire-items.ensures in
     found_all tree c.args.ways.now.root c.args.number c.loop-at.at c.args.finder.now c.loop-at.finder (omega arith)
     c.loop-at.invariant

@@ -1,7 +1,7 @@
 use Rattle.std.proofs.Common.{◌∙◌, subst}
 use Rattle.aadl_tree.specs.proof.PackageViews.{placed}
 use Rattle.aadl_chains.proofs.PermittedConnections.{declared}
-use Rattle.aadl_instance.specs.proof.Limits.{IsFirstPassed}
+use Rattle.aadl_instance.specs.proof.Limits.{IsFirstExceeded}
 use Rattle.aadl_instance.proofs.FaultPrecedence.{silent_five, all_silent, limit_fault}
 use Rattle.aadl_instance.proofs.Roots.{root_no_thread, root_declared}
 use Rattle.aadl_instance.proofs.checked_package.limit_fault.Goals as goal
@@ -33,7 +33,7 @@ pub returns-in_ok-what-in-Some : goal.returns-in_ok-what-in-Some
 returns-in_ok-what-in-Some c =
     let tree = placed c.args.checked.now.wires.uses.names.tree.now in
     let o = c.requires.ordered in
-    let first = subst (IsFirstPassed tree c.args.checked.now.root) c.in-Some.is c.in_ok-limit.ensures in
+    let first = subst (IsFirstExceeded tree c.args.checked.now.root) c.in-Some.is c.in_ok-limit.ensures in
     limit_fault tree c.args.checked.now.root c.in-Some.limit _
     (silent_five tree c.args.checked.now.root o.names o.recursion c.requires.ends)
     (c.in_ok-what-in-Some.ensures ∙ c.name.ensures) first.0 first.1
@@ -47,5 +47,5 @@ returns-in-None c =
       silent =
           all_silent tree c.args.checked.now.root
           (silent_five tree c.args.checked.now.root o.names o.recursion c.requires.ends)
-          (subst (IsFirstPassed tree c.args.checked.now.root) c.in-None.is c.in_ok-limit.ensures);
+          (subst (IsFirstExceeded tree c.args.checked.now.root) c.in-None.is c.in_ok-limit.ensures);
     }

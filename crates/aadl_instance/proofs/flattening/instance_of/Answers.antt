@@ -1,6 +1,6 @@
 use Rattle.std.proofs.Common.{◌∙◌, subst, sym}
 use Rattle.aadl_tree.specs.proof.PackageViews.{placed}
-use Rattle.aadl_uses.specs.declared.package_wires.Wires.{Wires}
+use Rattle.aadl_uses.specs.declared.package_wires.PackageConnections.{PackageConnections}
 use Rattle.aadl_instance.specs.Instances.{IsInstance}
 use Rattle.aadl_instance.specs.proof.ChainsSoFar.{paths_of}
 use Rattle.aadl_instance.proofs.InstanceThreadsAndChains.{all_listed, all_stand, settled, instance_is, threads_same}
@@ -57,7 +57,7 @@ invariant_of-result c =
     c.in_ok-taps.ensures in
     record {
       flat = subst
-          (λ (w : Wires). ∥ IsInstance (placed w.uses.names.tree.now) checked.root c.in_ok-threads.threads
+          (λ (w : PackageConnections). ∥ IsInstance (placed w.uses.names.tree.now) checked.root c.in_ok-threads.threads
           c.in_ok-incoming.incoming.links
           c.in_ok-incoming.incoming.feeds c.in_ok-taps.taps ∥₁)
           (sym c.into_wires.ensures) ∣ whole.0 ∣₁;

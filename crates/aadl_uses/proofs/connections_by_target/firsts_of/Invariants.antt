@@ -1,12 +1,12 @@
 use Rattle.std.proofs.Common.{◌≡◌, drop}
 use Rattle.std.specs.List.{position_from}
 use Rattle.std.specs.Option.{option_or}
-use Rattle.aadl_names.specs.declared.port_place.PortPlace.{PortPlace}
-use Rattle.aadl_uses.specs.proof.NumbersByPort.{is_site, number_of}
+use Rattle.aadl_names.specs.declared.port_place.NumberedPort.{NumberedPort}
+use Rattle.aadl_uses.specs.proof.NumbersByPort.{is_port, number_of}
 use Rattle.aadl_uses.specs.proof.FirstConnections.{first_into}
 use Rattle.aadl_uses.proofs.connections_by_target.firsts_of.Given as goal
 
 -- what is left may have the first one
 abbrev pub invariant-loop-number : goal.invariant-loop-number
-invariant-loop-number l = (target : PortPlace) → option_or (number_of l.firsts.entries target)
-    (position_from (λ w. is_site target w.target) l.number (drop l.number l.wires)) ≡ first_into l.wires target
+invariant-loop-number l = (target : NumberedPort) → option_or (number_of l.firsts.entries target)
+    (position_from (λ w. is_port target w.target) l.number (drop l.number l.wires)) ≡ first_into l.wires target

@@ -4,11 +4,11 @@ use Rattle.aadl_tree.specs.proof.PlaceMaps.{kept_place}
 use Rattle.aadl_tree.specs.proof.DeclarationViews.{connection_view}
 use Rattle.aadl_names.specs.ReferenceResolution.{implementation_at}
 use Rattle.aadl_tree.specs.proof.PackageViews.{placed}
-use Rattle.aadl_uses.specs.Wiring.{wire_of}
+use Rattle.aadl_uses.specs.Wiring.{ports_of_connection}
 use Rattle.aadl_uses.proofs.resolved_connections.wires_of_each.Given as goal
 
 abbrev pub invariant-loop-connection : goal.invariant-loop-connection
 invariant-loop-connection l =
     (x : Implementation ℕ) → implementation_at (placed l.uses.names.tree.now) l.number ≡ Some x
-    → l.wires ≡ map (wire_of (placed l.uses.names.tree.now) x)
+    → l.wires ≡ map (ports_of_connection (placed l.uses.names.tree.now) x)
     (map (connection_view kept_place) (take l.connection-index l.connections))

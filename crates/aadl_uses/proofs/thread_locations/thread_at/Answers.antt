@@ -3,7 +3,7 @@ use Rattle.std.specs.String.{string_bytes}
 use Rattle.aadl_tree.specs.proof.PackageViews.{placed}
 use Rattle.aadl_tree.specs.proof.DeclarationViews.{subcomponent_view}
 use Rattle.aadl_tree.specs.proof.PlaceMaps.{kept_place}
-use Rattle.aadl_uses.specs.Uses.{standing}
+use Rattle.aadl_uses.specs.Uses.{number_at_path}
 use Rattle.aadl_uses.proofs.SubcomponentsAlongPaths.{leads, next_none, none_below, along_more, first_name, later_name}
 use Rattle.aadl_uses.proofs.thread_locations.thread_at.Goals.{then-at-gt0+in_ok-push_str, else-at-gt0}
 use Rattle.aadl_uses.proofs.thread_locations.thread_at.Goals as goal
@@ -12,7 +12,7 @@ pub unreachable-requires : goal.unreachable-requires
 unreachable-requires c =
     let tree = placed c.args.uses.now.names.tree.now in
     let s = get_or c.args.path.now c.loop-at.at 0 in
-    leads (standing tree c.args.root (reverse c.args.path.now)) c.requires
+    leads (number_at_path tree c.args.root (reverse c.args.path.now)) c.requires
     (next_none tree c.args.root c.args.path.now c.loop-at.at s c.loop-at.here c.loop-at-test.true refl
     c.loop-at.invariant.stands (sym (none_below tree c.loop-at.here s (sym c.in_default.ensures))))
 
@@ -20,7 +20,7 @@ pub unreachable-requires-in_default-below : goal.unreachable-requires-in_default
 unreachable-requires-in_default-below c =
     let tree = placed c.args.uses.now.names.tree.now in
     let s = get_or c.args.path.now c.loop-at.at 0 in
-    leads (standing tree c.args.root (reverse c.args.path.now)) c.requires
+    leads (number_at_path tree c.args.root (reverse c.args.path.now)) c.requires
     (next_none tree c.args.root c.args.path.now c.loop-at.at s c.loop-at.here c.loop-at-test.true refl
     c.loop-at.invariant.stands c.in_default-below.ensures)
 

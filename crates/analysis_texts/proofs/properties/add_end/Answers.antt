@@ -4,7 +4,7 @@ use Rattle.std.specs.Prelude.{slice_index_or}
 use Rattle.pals_model.specs.RoundTexts.{line_end}
 use Rattle.pals_runs.specs.JournalLines.{spaced}
 use Rattle.analysis_fields.specs.NamedFormulas.{PropertyValue}
-use Rattle.run_monitor.specs.WatchText.{names_of, violation_text, last_line}
+use Rattle.run_monitor.specs.WatchText.{names_of, first_false_text, last_line}
 use Rattle.analysis_texts.specs.MonitoredFormulas.{named}
 use Rattle.analysis_texts.proofs.WatchedRounds.{name_at, last_words}
 use Rattle.analysis_texts.proofs.properties.add_end.Goals as goal
@@ -32,5 +32,5 @@ returns-in-Some c =
     ∙ ap (λ (bytes : List ℕ). words rounds bytes c.from-in-Some.result) name
     ∙ ap (words rounds (slice_index_or names violation.property [])) c.from-in-Some.ensures
     ∙ last_words rounds violation.round (slice_index_or names violation.property [])
-    ∙ ap (λ v. last_line rounds (violation_text names v)) (sym c.in-Some.is))
+    ∙ ap (λ v. last_line rounds (first_false_text names v)) (sym c.in-Some.is))
     c.add_line-in-Some.ensures.ok

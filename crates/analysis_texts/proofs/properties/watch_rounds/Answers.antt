@@ -7,8 +7,8 @@ use Rattle.pals_model.specs.RoundTexts.{text_of}
 use Rattle.pals_model.proofs.ShapeLaws.{length-values_at}
 use Rattle.run_monitor.specs.proof.SeveralMonitors.{HasWatched}
 use Rattle.run_monitor.specs.WatchText.{watched_lines, watched_rows}
-use Rattle.run_monitor.specs.FalseProperties.{violation, is_violated}
-use Rattle.run_monitor.specs.FormulaSemantics.{history}
+use Rattle.run_monitor.specs.FalseProperties.{first_false, is_some_false}
+use Rattle.run_monitor.specs.FormulaSemantics.{frame_rows}
 use Rattle.analysis_texts.specs.MonitoredFormulas.{named, formulas}
 use Rattle.analysis_texts.proofs.WatchedRounds.{found_is, found_tells, found_within, rows_more, watched_whole}
 use Rattle.analysis_texts.proofs.properties.watch_rounds.Goals as goal
@@ -38,18 +38,18 @@ loop-round-preserved c =
     let same = c.loop-round.invariant.design in
     let stands = c.loop-round.invariant.stands ∙ ap (λ d. comp d env round) (sym same) in
     let watched =
-    subst (λ d. HasWatched c.loop-round.monitors (formulas properties) (history d env round)) (sym same)
+    subst (λ d. HasWatched c.loop-round.monitors (formulas properties) (frame_rows d env round)) (sym same)
     c.loop-round.invariant.watched in
     let watches = c.in_ok-go_on.ensures.watches env (formulas properties) here stands watched in
     record {
       design = c.in_ok-go_on.ensures.design ∙ same;
       stands = c.in_ok-go_on.ensures.further env here stands ∙ ap (λ d. comp d env (round + 1)) same;
       watched =
-          subst (λ d. HasWatched c.go_on.new.monitors (formulas properties) (history d env (round + 1))) same
+          subst (λ d. HasWatched c.go_on.new.monitors (formulas properties) (frame_rows d env (round + 1))) same
           watches.watched;
-      rows = c.in_ok-add_verdicts.ensures (history c.loop-round.product.design env (round + 1)) watches.says
+      rows = c.in_ok-add_verdicts.ensures (frame_rows c.loop-round.product.design env (round + 1)) watches.says
           ∙ ap (λ d. c.loop-round.text.items
-          ++ text_of (watched_lines (named properties) (history d env (round + 1)) round)) same
+          ++ text_of (watched_lines (named properties) (frame_rows d env (round + 1)) round)) same
           ∙ rows_more design env round properties c.loop-round.text.items c.loop-round.invariant.rows;
       values = ap length whole ∙ wide;
     }
@@ -72,7 +72,7 @@ returns-clause-text c =
     (c.loop-round.invariant.rows ∙ ap (λ n. watched_rows design env n (named properties)) all)
     (c.violation-violation.ensures
     ∙ found_is design env c.loop-round.round fs c.loop-round.monitors c.loop-round.invariant.watched
-    ∙ ap (λ n. violation fs (history design env n) n) all)
+    ∙ ap (λ n. first_false fs (frame_rows design env n) n) all)
     c.in_ok-add_end.ensures
 
 pub returns-clause-violated : goal.returns-clause-violated
@@ -83,4 +83,4 @@ returns-clause-violated c =
     let all : c.loop-round.round ≡ c.args.rounds = omega arith in
     c.is_some-violated.ensures ∙ ap is_some c.violation-violation.ensures
     ∙ found_tells design env c.loop-round.round fs c.loop-round.monitors c.loop-round.invariant.watched
-    ∙ ap (λ n. is_violated design env n fs) all
+    ∙ ap (λ n. is_some_false design env n fs) all

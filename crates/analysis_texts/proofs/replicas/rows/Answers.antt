@@ -9,7 +9,7 @@ use Rattle.pals_model.specs.ComponentInputs.{values_at}
 use Rattle.pals_model.proofs.ShapeLaws.{length-values_at}
 use Rattle.pals_runs.specs.declared.vote_faults.VoteFault.{VoteFault}
 use Rattle.triple_vote.specs.proof.VoteLaws.{IsFault}
-use Rattle.triple_vote.specs.Replicas.{voted_composition, vshown_by}
+use Rattle.triple_vote.specs.Replicas.{voted_composition, voted_tap_by}
 use Rattle.triple_vote.specs.proof.VotedStates.{VotedState, voted_advanced}
 use Rattle.triple_vote.specs.VotedText.{voted_report}
 use Rattle.analysis_texts.specs.proof.ReplicaNamesAndLines.{all_names}
@@ -48,7 +48,7 @@ add_row-requires c =
           (sym replicated);
       shown =
           ap (λ (s : VotedState). length s.shown) advanced
-          ∙ length-map old.design.taps (vshown_by old.design old.replicated values old.voted)
+          ∙ length-map old.design.taps (voted_tap_by old.design old.replicated values old.voted)
           ∙ ap (λ (s : VotedState). length s.design.taps) (sym advanced);
     }
 

@@ -4,7 +4,7 @@ use Rattle.pals_model.specs.declared.design.DesignParts.{DesignParts}
 use Rattle.pals_model.specs.RoundTexts.{report}
 use Rattle.analysis_fields.specs.proof.FaultAndProcessorFacts.{IsFaultOf}
 use Rattle.triple_vote.specs.proof.VotedStates.{VotedState, voted_begun}
-use Rattle.triple_vote.specs.VotedText.{voted_report, thrice}
+use Rattle.triple_vote.specs.VotedText.{voted_report, tripled_report}
 use Rattle.triple_vote.specs.OutvotedFaults.{AreOutvoted}
 use Rattle.analysis_texts.specs.ReplicasAndRoundFaults.{replicated_in, faults_of}
 use Rattle.analysis_texts.proofs.OutvotedFaults.{rows_outvoted, rows_alone}
@@ -39,7 +39,7 @@ returns c =
           IfOk-weaker c.voted.result
           (λ text. text.items ≡ voted_report design env (replicated_in design replicas) (faults_of faults) rounds)
           (λ text. AreOutvoted (faults_of faults)
-          → text.items ≡ thrice design env (replicated_in design replicas) rounds)
+          → text.items ≡ tripled_report design env (replicated_in design replicas) rounds)
           (λ text is fits. is ∙ rows_outvoted design env replicas faults rounds rules c.requires fits) rows;
       alone =
           IfOk-weaker c.voted.result

@@ -6,7 +6,7 @@ use Rattle.aadl_tree.specs.proof.ExpressionViews.{expression_view}
 use Rattle.aadl_tree.specs.proof.ActionViews.{action_view, actions_view, mores_view, elsifs_view}
 use Rattle.annex_resolve.specs.ResolvedTrees.{expression_of, action_of, actions_of, mores_of, elsifs_of}
 use Rattle.annex_resolve.specs.ActionFindings.{action_findings, mores_findings, branch_findings, elsifs_findings}
-use Rattle.annex_resolve.specs.proof.ResolutionResults.{ReadsActions, ReadsBranches}
+use Rattle.annex_resolve.specs.proof.ResolutionResults.{ResolvesActions, ResolvesBranches}
 use Rattle.annex_resolve.proofs.actions.+action.Given as goal
 
 -- the first action and those behind it so far have been read
@@ -14,7 +14,7 @@ abbrev pub invariant-resolve_actions-loop-action : goal.invariant-resolve_action
 invariant-resolve_actions-loop-action l =
     let first = action_view kept_place (out-Actions l.actions).first in
     let xs = mores_view kept_place (take l.action-index l.action-items) in
-    ReadsActions (Do (action_of l.scope first) (mores_of l.scope xs))
+    ResolvesActions (Do (action_of l.scope first) (mores_of l.scope xs))
     (action_findings l.scope l.around first ++ mores_findings l.scope l.around xs) l.acts.items l.fn.found l.found
 
 -- and so of branches
@@ -23,6 +23,6 @@ invariant-resolve_choice-loop-elsif l =
     let e = expression_view kept_place (out-Choice l.choice).test in
     let a = actions_view kept_place (out-Choice l.choice).actions in
     let xs = elsifs_view kept_place (take l.elsif-index l.elsif-items) in
-    ReadsBranches (Where (expression_of l.scope e) (actions_of l.scope a) (elsifs_of l.scope xs))
+    ResolvesBranches (Where (expression_of l.scope e) (actions_of l.scope a) (elsifs_of l.scope xs))
     (branch_findings l.scope l.around e a ++ elsifs_findings l.scope l.around xs)
     l.branches.items l.fn.found l.found

@@ -9,7 +9,7 @@ use Rattle.pals_base.specs.PlainTrees.{For}
 use Rattle.pals_base.specs.proof.TreeViews.{action_of, actions_along, branches_along}
 use Rattle.pals_base.proofs.LoopNumbers.{no_numbers}
 use Rattle.behaviour_sem.specs.proof.ReadableFrames.{frame_of}
-use Rattle.behaviour_sem.specs.proof.StepOutcomes.{Left, Chose}
+use Rattle.behaviour_sem.specs.proof.StepOutcomes.{IsStepResult, IsBranchResult}
 use Rattle.behaviour_sem.specs.proof.ActionExecution.{effect}
 use Rattle.behaviour_sem.proofs.ActionMeanings.{act-If, act-For, turn_after, Left-chose-err, for_each-more}
 use Rattle.behaviour_sem.proofs.actions.+run.Goals as goal
@@ -28,8 +28,8 @@ run-returns-in_err-run_first-in-If-clause-runs t c =
     (ap (λ bs. act_first (branches_along bs) frame fresh outs otherwise) c.deref-in-If.ensures.value
     ∙ sym (act-If c.in-If.branches c.in-If.otherwise frame fresh outs)
     ∙ ap (λ a. act (action_of a) frame fresh outs) (sym c.in-If.is)) in
-    subst (λ m. Left c.from_residual-in_err-run_first-in-If.result after m) meaning
-    (subst (λ r. Left r after (act_first (branches_along c.deref-in-If.result.now) frame fresh outs otherwise))
+    subst (λ m. IsStepResult c.from_residual-in_err-run_first-in-If.result after m) meaning
+    (subst (λ r. IsStepResult r after (act_first (branches_along c.deref-in-If.result.now) frame fresh outs otherwise))
     (sym answers)
     (Left-chose-err stop after before after otherwise
     (act_first (branches_along c.deref-in-If.result.now) frame fresh outs otherwise)
@@ -47,7 +47,7 @@ run-returns-then-branch-clause-runs t c =
     ap (λ a. act (action_of a) frame fresh outs) c.in-If.is
     ∙ act-If c.in-If.branches c.in-If.otherwise frame fresh outs
     ∙ sym (ap (λ bs. act_first (branches_along bs) frame fresh outs otherwise) c.deref-in-If.ensures.value)
-    ∙ subst (λ found. Chose (Ok found) after before otherwise meant) c.if-branch.true
+    ∙ subst (λ found. IsBranchResult (Ok found) after before otherwise meant) c.if-branch.true
     (c.in_ok-run_first-in-If.ensures.runs otherwise)
 
 pub run-returns-else-branch-clause-runs : goal.run-returns-else-branch-clause-runs
@@ -62,7 +62,7 @@ run-returns-else-branch-clause-runs t c =
     let between = effect c.run_first.new.vars.items c.run_first.new.outs in
     let meant = act_first (branches_along c.deref-in-If.result.now) frame fresh outs otherwise in
     let chose =
-    subst (λ found. Chose (Ok found) between before otherwise meant) c.if-branch.false
+    subst (λ found. IsBranchResult (Ok found) between before otherwise meant) c.if-branch.false
     (c.in_ok-run_first-in-If.ensures.runs otherwise) in
     let same =
     ap (λ as'. acts (actions_along as') (frame_of between.vars held) fresh between.outs)
@@ -72,7 +72,7 @@ run-returns-else-branch-clause-runs t c =
     ∙ ap (λ bs. act_first (branches_along bs) frame fresh outs otherwise) c.deref-in-If.ensures.value
     ∙ sym (act-If c.in-If.branches c.in-If.otherwise frame fresh outs)
     ∙ ap (λ a. act (action_of a) frame fresh outs) (sym c.in-If.is) in
-    subst (λ m. Left c.run_all.result (effect c.run_all.new.vars.items c.run_all.new.outs) m) same
+    subst (λ m. IsStepResult c.run_all.result (effect c.run_all.new.vars.items c.run_all.new.outs) m) same
     c.run_all.ensures.runs
 
 pub run-returns-in-For-clause-runs : goal.run-returns-in-For-clause-runs
@@ -89,7 +89,7 @@ run-returns-in-For-clause-runs t c =
     ∙ sym (act-For c.in-For.low c.in-For.high c.in-For.body frame fresh outs)
     ∙ ap (λ a. act (action_of a) frame fresh outs) (sym c.in-For.is) in
     let ran = simp to_z-of_z at c.run_turns.ensures.runs in
-    subst (λ m. Left c.run_turns.result (effect c.run_turns.new.vars.items c.run_turns.new.outs) m) same ran
+    subst (λ m. IsStepResult c.run_turns.result (effect c.run_turns.new.vars.items c.run_turns.new.outs) m) same ran
 
 pub run_turns-loop-number-preserved : goal.run_turns-loop-number-preserved
 run_turns-loop-number-preserved t c =

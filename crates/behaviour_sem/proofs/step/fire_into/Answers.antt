@@ -3,7 +3,7 @@ use Rattle.pals_base.specs.declared.frames.Frame.{Frame}
 use Rattle.pals_base.specs.declared.values.PortValue.{PortValue}
 use Rattle.pals_base.specs.declared.values.PortValue.TheVariants.{Absent}
 use Rattle.pals_base.specs.SingleStep.{Fired, holding, is_present}
-use Rattle.behaviour_sem.specs.proof.StepOutcomes.{Left}
+use Rattle.behaviour_sem.specs.proof.StepOutcomes.{IsStepResult}
 use Rattle.behaviour_sem.specs.proof.PartialSteps.{reacted}
 use Rattle.behaviour_sem.proofs.StepEnds.{with_held, fire-halted, fire-reacted}
 use Rattle.behaviour_sem.proofs.step.fire_into.Goals as goal
@@ -44,7 +44,7 @@ returns-in-Err-Trapped-clause-fired c =
     reacted b c.copy_from.new.self.state (map is_present inputs)
     (with_held c.copy_from.new.self c.hold.new.held c.silence.new.outs) in
     let reacts =
-    subst (λ stop. Left (Err stop) reached meant) c.in-Err-Trapped.field-0-is c.in-Err-Trapped.ensures.reacts in
+    subst (λ stop. IsStepResult (Err stop) reached meant) c.in-Err-Trapped.field-0-is c.in-Err-Trapped.ensures.reacts in
     let all =
     fire-reacted b from c.copy_from.new.self inputs c.hold.new.held c.silence.new.outs (Err trap)
     c.copy_from.ensures c.hold.ensures.after silent

@@ -4,7 +4,7 @@ use Rattle.pals_base.specs.ExpressionValues.{on_value}
 use Rattle.pals_base.specs.SingleStep.{is_present, first_open, along}
 use Rattle.pals_base.specs.PlainTrees.{Edge}
 use Rattle.behaviour_sem.specs.declared.early_end.EarlyEnd.TheVariants as stop
-use Rattle.behaviour_sem.specs.proof.StepOutcomes.{Left}
+use Rattle.behaviour_sem.specs.proof.StepOutcomes.{IsStepResult}
 use Rattle.behaviour_sem.specs.proof.TransitionMoves.{move}
 use Rattle.behaviour_sem.specs.proof.PartialSteps.{fired}
 use Rattle.behaviour_sem.proofs.TransitionsAndInputs.{goes-same, first_open-from}
@@ -27,7 +27,7 @@ returns-in_err-goes-clause-leads c =
     let answers : c.from_residual.result ≡ Err (stop.Trapped trap) = search rules in
     let meant : move c.args.transitions.now fresh at ≡ Err trap =
     ap (λ r. on_value r (λ e. along e fresh at)) (sym c.loop-transition.invariant.rest ∙ found) in
-    subst (λ r. Left r (fired (c.loop-transition.place, c.loop-transition.outs) c.args.inputs)
+    subst (λ r. IsStepResult r (fired (c.loop-transition.place, c.loop-transition.outs) c.args.inputs)
     (move c.args.transitions.now fresh at)) (sym answers) meant
 
 pub returns-then-branch-clause-leads : goal.returns-then-branch-clause-leads
@@ -49,7 +49,7 @@ returns-then-branch-clause-leads c =
     c.loop-transition.invariant.place
     ∙ ap (λ os. along (Some item) fresh (fired (start, os) c.args.inputs)) c.loop-transition.invariant.outs
     ∙ sym meant) in
-    subst (λ m. Left c.follow.result (fired (c.follow.new.place, c.follow.new.outs) c.args.inputs) m) same
+    subst (λ m. IsStepResult c.follow.result (fired (c.follow.new.place, c.follow.new.outs) c.args.inputs) m) same
     c.follow.ensures.leads
 
 pub loop-transition-preserved : goal.loop-transition-preserved

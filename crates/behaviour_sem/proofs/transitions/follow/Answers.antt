@@ -5,7 +5,7 @@ use Rattle.pals_base.specs.SingleStep.{along}
 use Rattle.pals_base.specs.PlainTrees.{Edge}
 use Rattle.pals_base.specs.proof.TreeViews.{actions_along}
 use Rattle.behaviour_sem.specs.proof.ReadableFrames.{frame_of, fresh}
-use Rattle.behaviour_sem.specs.proof.StepOutcomes.{Left}
+use Rattle.behaviour_sem.specs.proof.StepOutcomes.{IsStepResult}
 use Rattle.behaviour_sem.specs.proof.ActionExecution.{effect}
 use Rattle.behaviour_sem.specs.proof.PartialSteps.{fired}
 use Rattle.behaviour_sem.proofs.TransitionsAndInputs.{along-ran, along-stops}
@@ -23,10 +23,10 @@ returns-in_err-run_all-clause-leads c =
     ap (λ as'. acts (actions_along as') (frame_of at.frame.vars at.frame.held) (fresh c.args.inputs) at.outs)
     c.deref.ensures.value
     ∙ ap meant c.transition.view_is in
-    let left = subst (λ m. Left (Err stop) after m) same c.in_err-run_all.ensures.runs in
+    let left = subst (λ m. IsStepResult (Err stop) after m) same c.in_err-run_all.ensures.runs in
     let reached =
     fired (record { state = at.frame.state; vars = c.run_all.new.vars }, c.run_all.new.outs) c.args.inputs in
-    subst (λ r. Left r reached (along (Some edge) (fresh c.args.inputs) at)) (sym answers)
+    subst (λ r. IsStepResult r reached (along (Some edge) (fresh c.args.inputs) at)) (sym answers)
     (along-stops stop edge at (fresh c.args.inputs) after reached left)
 
 pub returns-clause-leads : goal.returns-clause-leads

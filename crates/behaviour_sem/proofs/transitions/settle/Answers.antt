@@ -2,7 +2,7 @@ use Rattle.std.proofs.Common.{◌≡◌, ◌∙◌, ◌+◌, ◌-◌, suc, lengt
 use Rattle.std.specs.Prelude.{slice_get}
 use Rattle.pals_base.specs.ExpressionValues.{on_value}
 use Rattle.pals_base.specs.SingleStep.{is_present, is_complete, completes, settled}
-use Rattle.behaviour_sem.specs.proof.StepOutcomes.{Left}
+use Rattle.behaviour_sem.specs.proof.StepOutcomes.{IsStepResult}
 use Rattle.behaviour_sem.specs.proof.TransitionMoves.{move}
 use Rattle.behaviour_sem.specs.proof.PartialSteps.{fired}
 use Rattle.behaviour_sem.proofs.TransitionsAndInputs.{Left-stops, settled-more}
@@ -22,12 +22,12 @@ returns-in_err-advance-clause-leads c =
     let stop = c.in_err-advance.field-0.0 in
     let answers : c.from_residual.result ≡ Err stop = search rules in
     let moved =
-    subst (λ ts. Left (Err stop) after (move ts fresh at)) c.transitions.ensures.value
+    subst (λ ts. IsStepResult (Err stop) after (move ts fresh at)) c.transitions.ensures.value
     c.in_err-advance.ensures.leads in
     let stops = Left-stops stop (move b.transitions fresh at) (λ next. settled rest b fresh next) after after moved in
-    subst (λ r. Left r after
+    subst (λ r. IsStepResult r after
     (settled (length b.states) b fresh (fired (c.args.place.now, c.args.outs.now) c.args.inputs))) (sym answers)
-    (subst (λ m. Left (Err stop) after m)
+    (subst (λ m. IsStepResult (Err stop) after m)
     (sym (settled-more rest b fresh at under_way) ∙ sym (ap (λ n. settled n b fresh at) count)
     ∙ c.loop.invariant.rest) stops)
 

@@ -1,9 +1,9 @@
 use Rattle.std.proofs.Common.{ℕ}
-use Rattle.bound_checker.specs.proof.DivisorsAndMultiples.{IsGreatestDivisor}
+use Rattle.bound_checker.specs.proof.DivisorsAndMultiples.{IsGreatestCommonDivisor}
 use Rattle.bound_checker.proofs.common_multiple.gcd.Given as goal
 
 abbrev pub invariant-loop-low : goal.invariant-loop-low
-invariant-loop-low l = (d : ℕ) → IsGreatestDivisor l.high l.low d → IsGreatestDivisor l.fn.a l.fn.b d
+invariant-loop-low l = (d : ℕ) → IsGreatestCommonDivisor l.high l.low d → IsGreatestCommonDivisor l.fn.a l.fn.b d
 
 abbrev pub decreases-loop-low : goal.decreases-loop-low
 decreases-loop-low l = l.low

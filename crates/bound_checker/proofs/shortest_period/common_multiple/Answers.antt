@@ -1,7 +1,7 @@
 use Rattle.std.proofs.Common.{◌+◌, ◌∷◌, [], ◌++◌, take, get_or, min, sym, subst}
 use Rattle.std.proofs.lemmas.List.{take_more}
 use Rattle.pals_base.specs.declared.limits.TheConstants.{HOUR}
-use Rattle.bound_checker.specs.proof.DivisorsAndMultiples.{IsLeastCommon}
+use Rattle.bound_checker.specs.proof.DivisorsAndMultiples.{IsLeastCommonMultiple}
 use Rattle.bound_checker.specs.proof.RateMultiples.{HasMultiplesOf}
 use Rattle.bound_checker.proofs.RateMultiples.{multiples_of_more}
 use Rattle.bound_checker.proofs.shortest_period.common_multiple.Goals as goal
@@ -10,8 +10,8 @@ pub loop-rate-preserved : goal.loop-rate-preserved
 loop-rate-preserved c =
     let rates = c.args.rates.now in
     let at = c.loop-rate.rate-index in
-    let least : IsLeastCommon c.loop-rate.common (get_or rates at 0) c.lcm.result =
-    subst (λ k. IsLeastCommon c.loop-rate.common k c.lcm.result) c.from.ensures c.lcm.ensures.least in
+    let least : IsLeastCommonMultiple c.loop-rate.common (get_or rates at 0) c.lcm.result =
+    subst (λ k. IsLeastCommonMultiple c.loop-rate.common k c.lcm.result) c.from.ensures c.lcm.ensures.least in
     let more : HasMultiplesOf (take at rates ++ get_or rates at 0 ∷ []) (min c.lcm.result (HOUR + 1)) =
     multiples_of_more (take at rates) (get_or rates at 0) c.loop-rate.common c.lcm.result c.loop-rate.invariant
     c.lcm.ensures.positive least in

@@ -1,7 +1,7 @@
 use Rattle.std.proofs.Common.{codes, [], ◌∷◌, ◌++◌, map, ap, ◌∙◌}
 use Rattle.pals_model.specs.RoundTexts.{text_of}
 use Rattle.pals_report.specs.CheckReports.{link_line, feed_line, tap_line}
-use Rattle.code_listing.specs.Listings.{design_lines, lines_of_all, listing_lines}
+use Rattle.code_listing.specs.Listings.{period_and_bounds_lines, lines_of_all, listing_lines}
 use Rattle.code_listing.proofs.AddedLines.{Adds, lines_behind, line_last, six_lists}
 use Rattle.code_listing.proofs.listing.add_lines.Goals as goal
 
@@ -10,7 +10,7 @@ returns-clause-ok c =
     let design = c.args.design.now in
     let old = c.args.out.now.items in
     let all = lines_of_all design design.components c.args.codes.now in
-    let bounds : Adds old (design_lines design) _ = record { is = c.in_ok-add_bounds.ensures.ok } in
+    let bounds : Adds old (period_and_bounds_lines design) _ = record { is = c.in_ok-add_bounds.ensures.ok } in
     let components = lines_behind _ all bounds c.in_ok-add_components.ensures.ok in
     let links = lines_behind _ (map (link_line design) design.links) components
     (c.in_ok-add_links.ensures.ok
@@ -22,6 +22,6 @@ returns-clause-ok c =
     (c.in_ok-add_taps.ensures.ok
     ∙ ap (λ xs. c.add_feeds.new.out.items ++ text_of (map (tap_line design) xs)) c.as_slice-3.ensures.value) in
     line_last c.add_line.result _ (codes "end") (listing_lines design c.args.codes.now) taps
-    (six_lists (design_lines design) all (map (link_line design) design.links) (map (feed_line design) design.feeds)
+    (six_lists (period_and_bounds_lines design) all (map (link_line design) design.links) (map (feed_line design) design.feeds)
     (map (tap_line design) design.taps) (codes "end" ∷ []))
     c.add_line.ensures.ok

@@ -1,6 +1,6 @@
 use Rattle.std.proofs.Common.{codes, decimal, [], ◌∷◌, refl}
 use Rattle.pals_runs.specs.JournalLines.{spaced}
-use Rattle.code_listing.specs.Listings.{range_line, design_lines}
+use Rattle.code_listing.specs.Listings.{range_line, period_and_bounds_lines}
 use Rattle.code_listing.proofs.AddedLines.{line_alone, line_behind, line_last}
 use Rattle.code_listing.proofs.period_and_bounds.add_bounds.Goals as goal
 
@@ -16,5 +16,5 @@ returns-clause-ok c =
     let execution =
     line_behind _ (range_line (codes "execution") gamma.alpha_min gamma.alpha_max) skew
     c.in_ok-add_range.ensures.ok in
-    line_last c.add_range-2.result _ (range_line (codes "network") gamma.mu_min gamma.mu_max) (design_lines design)
+    line_last c.add_range-2.result _ (range_line (codes "network") gamma.mu_min gamma.mu_max) (period_and_bounds_lines design)
     execution refl c.add_range-2.ensures.ok

@@ -4,7 +4,7 @@ use Rattle.std.proofs.lemmas.List.{length-map}
 use Rattle.list_lemmas.proofs.ListOperations.{append_is_nil}
 use Rattle.annex_resolve.specs.declared.violation.TheConstants.{NO_INITIAL}
 use Rattle.annex_resolve.specs.FindingRecords.{found_if}
-use Rattle.annex_resolve.specs.BehavioursAndFindings.{declared, states_of, transitions_of, leg_of, behaviour_of}
+use Rattle.annex_resolve.specs.BehavioursAndFindings.{declared, states_of, transitions_of, departure_of, behaviour_of}
 use Rattle.annex_resolve.specs.BehavioursAndFindings.{has_initial, transition_findings, rule_findings, state_rules}
 use Rattle.annex_resolve.specs.BehavioursAndFindings.{cycles_of}
 use Rattle.design_laws.proofs.EmptyFindingLists.{is_right}
@@ -20,7 +20,7 @@ returns c = λ values scope at annex ready none.
     let p = append_is_nil (flat_map (transition_findings scope) ts) (rule_findings at b states ts) none in
     let q =
     append_is_nil (found_if (not (has_initial states)) at NO_INITIAL [])
-    (flat_map (state_rules b (map (leg_of states) ts) (cycles_of b)) (enumerate_from 0 states)) p.1 in
+    (flat_map (state_rules b (map (departure_of states) ts) (cycles_of b)) (enumerate_from 0 states)) p.1 in
     record {
       names = ready.names;
       firsts = ready.firsts;

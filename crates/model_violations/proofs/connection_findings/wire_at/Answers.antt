@@ -1,7 +1,7 @@
 use Rattle.std.proofs.Common.{◌∙◌, refl, sym, ap, slice_get}
 use Rattle.std.proofs.lemmas.Option.{none-some, slice_get_read, slice_get_past}
 use Rattle.aadl_tree.specs.proof.PackageViews.{placed}
-use Rattle.aadl_uses.specs.Wiring.{wire_of}
+use Rattle.aadl_uses.specs.Wiring.{ports_of_connection}
 use Rattle.model_violations.proofs.ConnectionEndTypes.{wire_is, joined}
 use Rattle.model_violations.proofs.connection_findings.wire_at.Goals as goal
 
@@ -19,5 +19,5 @@ returns-in-None c = λ x view is.
     let none =
     ap (λ l. slice_get l c.args.place.connection) (sym c.wires.ensures)
     ∙ slice_get_past c.wires.result.now c.args.place.connection c.in-None.ensures.lookup.3 in
-    absurd (none-some (wire_of tree x view)
+    absurd (none-some (ports_of_connection tree x view)
     (sym none ∙ wire_is tree c.args.place.declaration c.args.place.connection x view is))

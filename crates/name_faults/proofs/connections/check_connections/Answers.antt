@@ -9,7 +9,7 @@ use Rattle.aadl_tree.specs.proof.DeclarationViews.{implementation_view, connecti
 use Rattle.aadl_tree.specs.proof.PlaceMaps.{kept_place}
 use Rattle.aadl_names.specs.PackageFaults.{connection_faults}
 use Rattle.aadl_names.proofs.FirstFaultSoFar.{next_found, last_found}
-use Rattle.aadl_uses.specs.Wiring.{wire_of}
+use Rattle.aadl_uses.specs.Wiring.{ports_of_connection}
 use Rattle.name_faults.proofs.NumberedFindings.{made_of}
 use Rattle.name_faults.proofs.NumberedImplementations.{wires_are, joined}
 use Rattle.name_faults.proofs.connections.check_connections.Goals as goal
@@ -30,7 +30,7 @@ loop-connection-preserved c =
     c.loop-connection.connection-iterator
     c.next.new.self c.next.result first second c.loop-connection.yielded_by _ c.in-Some.is c.next.ensures.steps in
     let is = turn.2 c.in-Some.connection.now in
-    let wire_is = made_of view (wire_of tree x) c.args.x.now.connections.items (length c.loop-connection.yielded)
+    let wire_is = made_of view (ports_of_connection tree x) c.args.x.now.connections.items (length c.loop-connection.yielded)
     c.in-Some.connection.now c.in-Some.wire.now turn.0 is turn.3 in
     rw (length_push c.loop-connection.yielded _)
     (next_found (λ xs. flat_map faults (map view xs)) (λ a. faults (view a)) (λ a xs. refl) _ _ _ _ _ _ turn.0 is
@@ -53,7 +53,7 @@ returns c =
     zip_end _ _ c.loop-connection.yielded c.into_iter-connection-iterator.result
     c.loop-connection.connection-iterator
     c.next.new.self c.next.result first second c.loop-connection.yielded_by c.in-None.is c.next.ensures.steps in
-    let many = length-map x.connections (wire_of tree x) ∙ length-map c.args.x.now.connections.items view in
+    let many = length-map x.connections (ports_of_connection tree x) ∙ length-map c.args.x.now.connections.items view in
     last_found (λ xs. flat_map (connection_faults tree x) (map view xs)) c.args.x.now.connections.items
     (length c.loop-connection.yielded) _ _
     (omega (arith, all, many)) refl c.loop-connection.invariant

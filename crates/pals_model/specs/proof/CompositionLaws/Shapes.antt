@@ -7,7 +7,7 @@ use Rattle.pals_model.specs.declared.design.Link.{Link}
 use Rattle.pals_model.specs.declared.design.DesignParts.{DesignParts}
 use Rattle.pals_model.specs.declared.environment.Env.{Env}
 use Rattle.pals_model.specs.declared.part.Part.{Part}
-use Rattle.pals_model.specs.ComponentInputs.{feed}
+use Rattle.pals_model.specs.ComponentInputs.{input_vectors}
 use Rattle.pals_model.specs.PortKinds.{rate_of}
 use Rattle.pals_model.specs.Composition.{comp, state, msg, part, taps_of}
 use Rattle.pals_model.specs.DesignRules.{IsDesign}
@@ -24,10 +24,10 @@ pub record AreTuples (count rate : ℕ) (tuples : List (List PortValue)) : Type 
   pub each : All (λ tuple. length tuple ≡ rate) tuples
 
 -- a component's feed has a vector for each step
-abbrev pub FeedHasVectors : Type 0
-FeedHasVectors =
+abbrev pub InputsAreVectors : Type 0
+InputsAreVectors =
     (design : DesignParts) (env : Env) (messages : List (List PortValue)) (node round : ℕ) (c : Component) →
-    slice_get design.components node ≡ Some c → AreVectors c (feed design env messages node round)
+    slice_get design.components node ≡ Some c → AreVectors c (input_vectors design env messages node round)
 
 -- a component's frame has its behaviour's shape
 abbrev pub StateHasShape : Type 0

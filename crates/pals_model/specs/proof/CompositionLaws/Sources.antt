@@ -6,7 +6,7 @@ use Rattle.pals_base.specs.Adaptors.{adapt}
 use Rattle.pals_model.specs.declared.design.Link.{Link}
 use Rattle.pals_model.specs.declared.design.Feed.{Feed}
 use Rattle.pals_model.specs.declared.design.DesignParts.{DesignParts}
-use Rattle.pals_model.specs.ComponentInputs.{root_of, link_goes_to, feed_goes_to, source_of, reading}
+use Rattle.pals_model.specs.ComponentInputs.{root_of, link_goes_to, feed_goes_to, source_of, brought_tuple}
 use Rattle.pals_model.specs.PortKinds.{rate_of}
 use Rattle.pals_model.specs.DesignRules.{IsDesign}
 use Rattle.pals_model.specs.declared.port_sources.PortSource.TheVariants as source
@@ -38,7 +38,7 @@ LinkBringsMessage =
     (design : DesignParts) (values : List PortValue) (messages : List (List PortValue)) (rate number : ℕ)
     (link : Link) →
     slice_get design.links number ≡ Some link →
-    reading design values messages rate (source.Link number)
+    brought_tuple design values messages rate (source.Link number)
     ≡ adapt link.adaptor (rate_of design link.source.0) rate (slice_index_or messages number [])
 
 -- a feed brings the value of its root in port, adapted from the rate 1
@@ -47,10 +47,10 @@ FeedBringsValue =
     (design : DesignParts) (values : List PortValue) (messages : List (List PortValue)) (rate number root : ℕ)
     (feed : Feed) →
     slice_get design.feeds number ≡ Some feed →
-    reading design values messages rate (source.Feed number root)
+    brought_tuple design values messages rate (source.Feed number root)
     ≡ adapt feed.adaptor 1 rate (slice_index_or values root Absent ∷ [])
 
 -- nothing brings absent places
 abbrev pub NothingBringsAbsent : Type 0
 NothingBringsAbsent = (design : DesignParts) (values : List PortValue) (messages : List (List PortValue)) (rate : ℕ) →
-    reading design values messages rate source.Nothing ≡ replicate rate Absent
+    brought_tuple design values messages rate source.Nothing ≡ replicate rate Absent

@@ -11,8 +11,8 @@ use Rattle.pals_base.specs.Tuples.{with_places}
 use Rattle.pals_model.specs.declared.design.Component.{Component}
 use Rattle.pals_model.specs.declared.design.DesignParts.{DesignParts}
 use Rattle.pals_model.specs.declared.environment.Env.{Env}
-use Rattle.pals_model.specs.ComponentInputs.{feed}
-use Rattle.pals_model.specs.Composition.{comp, state, own_steps_so_far}
+use Rattle.pals_model.specs.ComponentInputs.{input_vectors}
+use Rattle.pals_model.specs.Composition.{comp, state, partial_steps}
 use Rattle.pals_model.specs.proof.CompositionLaws.{own_steps}
 use Rattle.pals_model.specs.DesignRules.{IsDesign}
 
@@ -27,7 +27,7 @@ stepped_on b at inputs before =
 -- a round begins with the state, and with every place absent
 abbrev pub RoundBegins : Type 0
 RoundBegins = (design : DesignParts) (env : Env) (node round : ℕ) (c : Component) →
-    own_steps_so_far design env node round c 0
+    partial_steps design env node round c 0
     ≡ record {
       frame = state design env node round;
       tuples = replicate (length c.behaviour.outs) (replicate c.rate Absent);
@@ -38,15 +38,15 @@ abbrev pub RoundGoesOn : Type 0
 RoundGoesOn =
     (design : DesignParts) (env : Env) (node round : ℕ) (c : Component) (count : ℕ) (inputs : List PortValue) →
     IsDesign design → slice_get design.components node ≡ Some c →
-    slice_get (feed design env (comp design env round).messages node round) count ≡ Some inputs →
-    own_steps_so_far design env node round c (suc count)
-    ≡ stepped_on c.behaviour count inputs (own_steps_so_far design env node round c count)
+    slice_get (input_vectors design env (comp design env round).messages node round) count ≡ Some inputs →
+    partial_steps design env node round c (suc count)
+    ≡ stepped_on c.behaviour count inputs (partial_steps design env node round c count)
 
 -- after its last step it has made its own steps
 abbrev pub RoundEnds : Type 0
 RoundEnds = (design : DesignParts) (env : Env) (node round : ℕ) (c : Component) →
     slice_get design.components node ≡ Some c
-    → own_steps_so_far design env node round c c.rate ≡ own_steps design env node round c
+    → partial_steps design env node round c c.rate ≡ own_steps design env node round c
 
 -- the places before a step stay, also where it traps
 abbrev pub PlacesStay : Type 0

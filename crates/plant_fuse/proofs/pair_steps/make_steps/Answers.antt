@@ -4,7 +4,7 @@ use Rattle.pals_base.specs.declared.values.PortValue.{PortValue}
 use Rattle.pals_base.specs.SingleStep.{fire}
 use Rattle.sync_product.specs.proof.ProductSizes.{StageSize, stage_size}
 use Rattle.sync_product.proofs.TupleLengths.{count_of_rows, length_of_row}
-use Rattle.plant_fuse.specs.proof.PairSteps.{seat_of, side_vector, row_before, work}
+use Rattle.plant_fuse.specs.proof.PairSteps.{member_of_pair, side_vector, row_before, work}
 use Rattle.plant_fuse.proofs.NextPairSteps.{row_before_take, both_more}
 use Rattle.plant_fuse.proofs.pair_steps.make_steps.Goals as goal
 
@@ -61,8 +61,8 @@ pub loop-step-preserved : goal.loop-step-preserved
 loop-step-preserved c =
     let round = c.args.round in
     let step = c.loop-step.step in
-    let plant = seat_of c.args.fused.plant in
-    let controller = seat_of c.args.fused.controller in
+    let plant = member_of_pair c.args.fused.plant in
+    let controller = member_of_pair c.args.fused.controller in
     let rows_p = c.loop-step.plant_stage.rows in
     let rows_c = c.loop-step.controller_stage.rows in
     let v = c.write_read.new.inputs in

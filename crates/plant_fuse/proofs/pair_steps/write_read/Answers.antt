@@ -3,13 +3,13 @@ use Rattle.std.specs.Option.{option_copied}
 use Rattle.std.proofs.lemmas.Grind.{common_steps}
 use Rattle.std.proofs.lemmas.List.{length-map, get_or-map}
 use Rattle.list_lemmas.proofs.ListOperations.{filled_more, filled_all}
-use Rattle.plant_fuse.specs.proof.PairSteps.{seat_of, side_value}
+use Rattle.plant_fuse.specs.proof.PairSteps.{member_of_pair, side_value}
 use Rattle.plant_fuse.proofs.pair_steps.write_read.Goals as goal
 
 pub loop-at-preserved : goal.loop-at-preserved
 loop-at-preserved c =
     let at = c.loop-at.at in
-    let f = side_value c.args.round (seat_of c.args.side) c.args.step (option_copied c.args.last) in
+    let f = side_value c.args.round (member_of_pair c.args.side) c.args.step (option_copied c.args.last) in
     let sources = c.args.side.wired.sources.now in
     let wanted = map f sources in
     let size : length wanted ≡ length sources = length-map sources f in
@@ -24,7 +24,7 @@ loop-at-preserved c =
 
 pub returns-clause-inputs : goal.returns-clause-inputs
 returns-clause-inputs c =
-    let f = side_value c.args.round (seat_of c.args.side) c.args.step (option_copied c.args.last) in
+    let f = side_value c.args.round (member_of_pair c.args.side) c.args.step (option_copied c.args.last) in
     let sources = c.args.side.wired.sources.now in
     let wanted = map f sources in
     let size : length wanted ≡ length sources = length-map sources f in

@@ -1,6 +1,6 @@
 use Rattle.std.proofs.Common.{None, Some, length, pos, sym, subst, slice_index_or}
 use Rattle.step_code.specs.declared.instr.Instr.TheVariants.{Push}
-use Rattle.step_code.specs.PathWeights.{onward}
+use Rattle.step_code.specs.PathWeights.{forward_successors}
 use Rattle.step_code.specs.proof.VerifierAnswers.{AreThere}
 use Rattle.step_code.proofs.ReachedHeights.{held_at, low_held, unreached_heights}
 use Rattle.step_code.proofs.CheckedPlaces.{known_by, unreached_clean, passed_clean, passed_heights, passed_fault}
@@ -25,7 +25,7 @@ pass_on-requires-clause-there c =
     c.jumps_badly.ensures c.if-jumps_badly.false c.jumps_back.ensures c.if-jumps_back.false c.misses_slot.ensures
     c.if-misses_slot.false in
     let i = slice_index_or c.as_slice.result.now c.args.at (Push (pos 0)) in
-    subst (AreThere (onward c.args.at (Some i))) (sym c.requires.heights.count)
+    subst (AreThere (forward_successors c.args.at (Some i))) (sym c.requires.heights.count)
     (known_there c.args.parts.now c.args.at i known)
 
 pub returns-in-None-clause-clean : goal.returns-in-None-clause-clean

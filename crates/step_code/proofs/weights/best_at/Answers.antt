@@ -2,7 +2,7 @@ use Rattle.std.proofs.Common.{◌≡◌, ◌∙◌, ◌+◌, Some, map, pos, sym
 use Rattle.std.specs.Prelude.{slice_get}
 use Rattle.std.proofs.lemmas.Option.{slice_get-get_or, get_or_from_slice_get}
 use Rattle.step_code.specs.declared.instr.Instr.TheVariants.{Push}
-use Rattle.step_code.specs.PathWeights.{onward, greatest, weight_at}
+use Rattle.step_code.specs.PathWeights.{forward_successors, greatest, weight_at}
 use Rattle.step_code.specs.proof.VerifierAnswers.{AreThere}
 use Rattle.step_code.specs.CappedWeights.{capped}
 use Rattle.step_code.proofs.CheckedPlaces.{known_there}
@@ -19,7 +19,7 @@ best_onward-requires-clause-there c =
     let here : slice_get parts.instrs c.args.place ≡ Some i =
     ap (λ l. slice_get l c.args.place) (sym c.as_slice.ensures.value)
     ∙ slice_get-get_or c.as_slice.result.now c.args.place (Push (pos 0)) (omega arith) in
-    subst (AreThere (onward c.args.place (Some i))) (sym c.requires.best.count)
+    subst (AreThere (forward_successors c.args.place (Some i))) (sym c.requires.best.count)
     (known_there parts c.args.place i (verified_known parts c.args.place i c.requires.verified here))
 
 pub returns : goal.returns
@@ -37,5 +37,5 @@ returns c =
     (c.requires.weights.each p (omega arith)) in
     c.saturating_add.ensures
     ∙ ap (λ b. capped (slice_index_or c.args.weights.now p 0 + b)) c.best_onward.ensures
-    ∙ ap (λ w. capped (w + greatest (map (λ to. slice_index_or c.args.best.now to 0) (onward p (Some i))))) weight
+    ∙ ap (λ w. capped (w + greatest (map (λ to. slice_index_or c.args.best.now to 0) (forward_successors p (Some i))))) weight
     ∙ best_here parts p i c.args.best.now 0 c.requires.verified here c.requires.within c.requires.best

@@ -6,7 +6,7 @@ use Rattle.pals_base.specs.PlainTrees.{Edge}
 use Rattle.pals_base.specs.proof.TreeViews.{trigger_of, actions_along}
 use Rattle.step_code.specs.CodeLengths.{length_trigger}
 use Rattle.step_compiler.specs.TreeInstructions.{code_acts}
-use Rattle.step_compiler.specs.BlockInstructions.{trigger_code, last_instr, past}
+use Rattle.step_compiler.specs.BlockInstructions.{trigger_code, last_instr, false_guard_target}
 use Rattle.step_compiler.specs.proof.BlockLengthsAndStarts.{in_list}
 use Rattle.step_compiler.proofs.PlacedCodeLengths.{trigger-length}
 use Rattle.step_compiler.proofs.AppendedCode.{between}
@@ -27,22 +27,22 @@ returns c =
     c.is_complete-never_taken.ensures
     ∙ ap (λ ss. completes (slice_get ss c.transition.inside.source)) c.states.ensures.value
     ∙ ap (λ (x : Edge). is_complete b x.source) seen in
-    let past_is : c.in_ok-past.past ≡ past complete e p = c.in_ok-past.ensures ∙ ap (λ t. past t e c.len.result) never
-    ∙ ap (past complete e) c.len.ensures in
+    let past_is : c.in_ok-past.past ≡ false_guard_target complete e p = c.in_ok-past.ensures ∙ ap (λ t. false_guard_target t e c.len.result) never
+    ∙ ap (false_guard_target complete e) c.len.ensures in
     let trigger : trigger_of c.transition.inside.guard ≡ e.trigger = ap (λ (x : Edge). x.trigger) seen in
     let actions : actions_along c.deref.result.now ≡ e.actions = ap actions_along c.deref.ensures.value
     ∙ ap (λ (x : Edge). x.actions) seen in
     let vars : c.in_ok-variables.variables ≡ length b.vars = c.in_ok-variables.ensures ∙ c.vars.ensures.len in
     let last : c.last_instr.result ≡ last_instr b starts e.target = c.last_instr.ensures
     ∙ ap (λ (x : Edge). last_instr b starts x.target) seen in
-    let first : c1 ≡ old ++ trigger_code e.trigger (past complete e p) p =
+    let first : c1 ≡ old ++ trigger_code e.trigger (false_guard_target complete e p) p =
     c.in_ok-push_guard.ensures ∙ ap (λ t. old ++ trigger_code t c.in_ok-past.past p) trigger
     ∙ ap (λ q. old ++ trigger_code e.trigger q p) past_is in
     let second : c2 ≡ c1 ++ code_acts e.actions (length b.vars) (length c1) =
     c.in_ok-push_acts.ensures ∙ ap (λ as'. c1 ++ code_acts as' c.in_ok-variables.variables (length c1)) actions
     ∙ ap (λ n. c1 ++ code_acts e.actions n (length c1)) vars in
     OnOk-weaker c.push.result _ _
-    (λ is. between old c1 c2 c.push.new.self (trigger_code e.trigger (past complete e p) p)
+    (λ is. between old c1 c2 c.push.new.self (trigger_code e.trigger (false_guard_target complete e p) p)
     (last_instr b starts e.target) (length_trigger e.trigger) (code_acts e.actions (length b.vars))
-    first (trigger-length e.trigger (past complete e p) p) second (is ∙ ap (λ i. c2 ++ i ∷ []) last))
+    first (trigger-length e.trigger (false_guard_target complete e p) p) second (is ∙ ap (λ i. c2 ++ i ∷ []) last))
     c.push.ensures.ok

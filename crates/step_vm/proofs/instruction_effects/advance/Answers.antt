@@ -11,13 +11,13 @@ use Rattle.pals_base.specs.SingleStep.{is_present}
 use Rattle.pals_base.specs.ExpressionValues.{is_true, truth}
 use Rattle.step_code.specs.declared.instr.Instr.{Instr}
 use Rattle.step_code.specs.declared.instr.Instr.TheVariants.{Store}
-use Rattle.step_code.specs.InstructionEffects.{Senses, step, on_top, on_found, on_result, Goes}
+use Rattle.step_code.specs.InstructionEffects.{StepInputs, step, on_top, on_found, on_result, Goes}
 use Rattle.pals_base.specs.Arithmetic.{negation_of, magnitude_of}
 use Rattle.step_vm.specs.proof.MachineAnswers.{Met}
 use Rattle.step_vm.proofs.instruction_effects.advance.Goals as goal
 
 -- a store, at the slot and the stack that are there
-store_step : (s : Senses) (i : Instr) (x p : ℕ) (v w : ℤ) (stack rest slots : List ℤ) (outs : List Value) → i ≡ Store x
+store_step : (s : StepInputs) (i : Instr) (x p : ℕ) (v w : ℤ) (stack rest slots : List ℤ) (outs : List Value) → i ≡ Store x
     → x < length slots → stack ≡ v ∷ rest → w ≡ v
     → step (Some i) s p stack slots outs ≡ Goes (p + 1) rest (slice_set slots x w) outs
 store_step s i x p v w stack rest slots outs is within top same =
@@ -29,7 +29,7 @@ store_step s i x p v w stack rest slots outs is within top same =
 
 pub returns-in-Push-clause-met : goal.returns-in-Push-clause-met
 returns-in-Push-clause-met c =
-    let s : Senses = record { held = c.args.inputs.held.now; fresh = map is_present c.args.inputs.present.now } in
+    let s : StepInputs = record { held = c.args.inputs.held.now; fresh = map is_present c.args.inputs.present.now } in
     let fits : SFits w64 c.in-Push.value = search rules in
     let met = simp to_z-of_z at (c.give.ensures.met c.args.slots.now c.args.outs.now) in
     subst (λ i. Met c.give.result c.give.new.stack.numbers c.args.slots.now c.args.outs.now
@@ -37,7 +37,7 @@ returns-in-Push-clause-met c =
 
 pub returns-in-Store-clause-met : goal.returns-in-Store-clause-met
 returns-in-Store-clause-met c =
-    let s : Senses = record { held = c.args.inputs.held.now; fresh = map is_present c.args.inputs.present.now } in
+    let s : StepInputs = record { held = c.args.inputs.held.now; fresh = map is_present c.args.inputs.present.now } in
     let fits : SFits w64 c.pop.result = search rules in
     let within : c.in-Store.slot < length c.args.slots.now = search rules in
     store_step s c.args.instr c.in-Store.slot c.args.place c.pop.result _ c.args.stack.now.numbers
@@ -46,7 +46,7 @@ returns-in-Store-clause-met c =
 
 pub returns-in-Load-clause-met : goal.returns-in-Load-clause-met
 returns-in-Load-clause-met c =
-    let s : Senses = record { held = c.args.inputs.held.now; fresh = map is_present c.args.inputs.present.now } in
+    let s : StepInputs = record { held = c.args.inputs.held.now; fresh = map is_present c.args.inputs.present.now } in
     let slots = c.args.slots.now in
     let outs = c.args.outs.now in
     let p = c.args.place in
@@ -63,7 +63,7 @@ returns-in-Load-clause-met c =
 
 pub returns-in-Port-clause-met : goal.returns-in-Port-clause-met
 returns-in-Port-clause-met c =
-    let s : Senses = record { held = c.args.inputs.held.now; fresh = map is_present c.args.inputs.present.now } in
+    let s : StepInputs = record { held = c.args.inputs.held.now; fresh = map is_present c.args.inputs.present.now } in
     let slots = c.args.slots.now in
     let outs = c.args.outs.now in
     let p = c.args.place in
@@ -80,7 +80,7 @@ returns-in-Port-clause-met c =
 
 pub returns-in-Neg-clause-met : goal.returns-in-Neg-clause-met
 returns-in-Neg-clause-met c =
-    let s : Senses = record { held = c.args.inputs.held.now; fresh = map is_present c.args.inputs.present.now } in
+    let s : StepInputs = record { held = c.args.inputs.held.now; fresh = map is_present c.args.inputs.present.now } in
     let slots = c.args.slots.now in
     let outs = c.args.outs.now in
     let p = c.args.place in
@@ -101,7 +101,7 @@ returns-in-Neg-clause-met c =
 
 pub returns-in-Abs-clause-met : goal.returns-in-Abs-clause-met
 returns-in-Abs-clause-met c =
-    let s : Senses = record { held = c.args.inputs.held.now; fresh = map is_present c.args.inputs.present.now } in
+    let s : StepInputs = record { held = c.args.inputs.held.now; fresh = map is_present c.args.inputs.present.now } in
     let slots = c.args.slots.now in
     let outs = c.args.outs.now in
     let p = c.args.place in
@@ -122,7 +122,7 @@ returns-in-Abs-clause-met c =
 
 pub returns-in-Emit-clause-met : goal.returns-in-Emit-clause-met
 returns-in-Emit-clause-met c =
-    let s : Senses = record { held = c.args.inputs.held.now; fresh = map is_present c.args.inputs.present.now } in
+    let s : StepInputs = record { held = c.args.inputs.held.now; fresh = map is_present c.args.inputs.present.now } in
     let slots = c.args.slots.now in
     let outs = c.args.outs.now in
     let p = c.args.place in
@@ -141,7 +141,7 @@ returns-in-Emit-clause-met c =
 
 pub returns-else-high-low-clause-met : goal.returns-else-high-low-clause-met
 returns-else-high-low-clause-met c =
-    let s : Senses = record { held = c.args.inputs.held.now; fresh = map is_present c.args.inputs.present.now } in
+    let s : StepInputs = record { held = c.args.inputs.held.now; fresh = map is_present c.args.inputs.present.now } in
     let slots = c.args.slots.now in
     let outs = c.args.outs.now in
     let p = c.args.place in
@@ -160,7 +160,7 @@ returns-else-high-low-clause-met c =
 
 pub returns-else-number-high-clause-met : goal.returns-else-number-high-clause-met
 returns-else-number-high-clause-met c =
-    let s : Senses = record { held = c.args.inputs.held.now; fresh = map is_present c.args.inputs.present.now } in
+    let s : StepInputs = record { held = c.args.inputs.held.now; fresh = map is_present c.args.inputs.present.now } in
     let slots = c.args.slots.now in
     let outs = c.args.outs.now in
     let p = c.args.place in
@@ -180,7 +180,7 @@ returns-else-number-high-clause-met c =
 
 pub returns-in-Not-clause-met : goal.returns-in-Not-clause-met
 returns-in-Not-clause-met c =
-    let s : Senses = record { held = c.args.inputs.held.now; fresh = map is_present c.args.inputs.present.now } in
+    let s : StepInputs = record { held = c.args.inputs.held.now; fresh = map is_present c.args.inputs.present.now } in
     let slots = c.args.slots.now in
     let outs = c.args.outs.now in
     let p = c.args.place in
@@ -202,7 +202,7 @@ returns-in-Not-clause-met c =
 
 pub returns-in-Fresh-clause-met : goal.returns-in-Fresh-clause-met
 returns-in-Fresh-clause-met c =
-    let s : Senses = record { held = c.args.inputs.held.now; fresh = map is_present c.args.inputs.present.now } in
+    let s : StepInputs = record { held = c.args.inputs.held.now; fresh = map is_present c.args.inputs.present.now } in
     let slots = c.args.slots.now in
     let outs = c.args.outs.now in
     let p = c.args.place in

@@ -1,7 +1,7 @@
 use Rattle.std.proofs.Common.{Some, length, pos, subst, sym, arith, slice_index_or}
 use Rattle.step_code.specs.declared.instr.Instr.TheVariants.{Push}
 use Rattle.step_code.specs.InstructionEffects.{step}
-use Rattle.step_code.specs.InstructionsPerStep.{senses}
+use Rattle.step_code.specs.InstructionsPerStep.{step_inputs}
 use Rattle.step_vm.specs.proof.MachineAnswers.{Met}
 use Rattle.step_vm.proofs.MachineInvariant.{Task, IsTask, IsUnderWay, begins_at, here_at, ready, goes_on, fewer}
 use Rattle.step_vm.proofs.MachineInvariant.{ends_in, traps_in}
@@ -144,7 +144,7 @@ loop-next-preserved c =
     let a = c.advance in
     let met =
     subst (λ r. Met r a.new.stack.numbers a.new.slots a.new.outs
-    (step (Some i) (senses t.held t.inputs) l.place l.stack.numbers l.slots l.outs)) c.in-Goes.is
+    (step (Some i) (step_inputs t.held t.inputs) l.place l.stack.numbers l.slots l.outs)) c.in-Goes.is
     a.ensures.met in
     goes_on t size l.place l.stack.size a.new.stack.size c.in-Goes.next i l.stack.numbers l.slots a.new.stack.numbers
     a.new.slots l.outs a.new.outs is l.invariant here met a.ensures.size
@@ -177,7 +177,7 @@ loop-next-smaller c =
     let a = c.advance in
     let met =
     subst (λ r. Met r a.new.stack.numbers a.new.slots a.new.outs
-    (step (Some i) (senses t.held t.inputs) l.place l.stack.numbers l.slots l.outs)) c.in-Goes.is
+    (step (Some i) (step_inputs t.held t.inputs) l.place l.stack.numbers l.slots l.outs)) c.in-Goes.is
     a.ensures.met in
     fewer t size l.place l.stack.size c.in-Goes.next i l.stack.numbers l.slots a.new.stack.numbers a.new.slots l.outs
     a.new.outs is l.invariant here met
@@ -210,7 +210,7 @@ returns-in-Ends-clause-ended c =
     let a = c.advance in
     let met =
     subst (λ r. Met r a.new.stack.numbers a.new.slots a.new.outs
-    (step (Some i) (senses t.held t.inputs) l.place l.stack.numbers l.slots l.outs)) c.in-Ends.is
+    (step (Some i) (step_inputs t.held t.inputs) l.place l.stack.numbers l.slots l.outs)) c.in-Ends.is
     a.ensures.met in
     ends_in t size l.place l.stack.size c.in-Ends.state i l.stack.numbers l.slots a.new.slots l.outs a.new.outs is
     l.invariant here met
@@ -243,6 +243,6 @@ returns-in-Traps-clause-ended c =
     let a = c.advance in
     let met =
     subst (λ r. Met r a.new.stack.numbers a.new.slots a.new.outs
-    (step (Some i) (senses t.held t.inputs) l.place l.stack.numbers l.slots l.outs)) c.in-Traps.is
+    (step (Some i) (step_inputs t.held t.inputs) l.place l.stack.numbers l.slots l.outs)) c.in-Traps.is
     a.ensures.met in
     traps_in t size l.place l.stack.size i c.in-Traps.trap l.stack.numbers l.slots l.outs is l.invariant here met

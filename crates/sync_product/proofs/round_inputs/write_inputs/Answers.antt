@@ -14,13 +14,13 @@ loop-at-preserved c =
     let wanted = column c.args.step (map f sources) in
     let size : length wanted ≡ length sources = length-column_of_map f sources c.args.step in
     let item =
-    c.place_brought.ensures ∙ sym
-    (column_of_map-at f sources c.args.step at c.place_brought.result _ c.loop-at-test.true) in
+    c.value_brought.ensures ∙ sym
+    (column_of_map-at f sources c.args.step at c.value_brought.result _ c.loop-at-test.true) in
     record {
       len = grind (arith, common_steps);
       done =
           ap (take (at + 1)) c.set.ensures
-          ∙ filled_more c.loop-at.inputs wanted at c.place_brought.result (omega (arith, c.requires.count))
+          ∙ filled_more c.loop-at.inputs wanted at c.value_brought.result (omega (arith, c.requires.count))
           (omega arith) item c.loop-at.invariant.done;
     }
 

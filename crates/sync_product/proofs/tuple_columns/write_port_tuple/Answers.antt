@@ -3,7 +3,7 @@ use Rattle.std.proofs.lemmas.Grind.{common_steps}
 use Rattle.list_lemmas.proofs.ListOperations.{filled_more, filled_all}
 use Rattle.pals_base.specs.Tuples.{column, cut}
 use Rattle.pals_base.proofs.ColumnsAndCutTuples.{length-cut}
-use Rattle.sync_product.specs.proof.Rounds.{place_before}
+use Rattle.sync_product.specs.proof.Rounds.{value_if_before}
 use Rattle.sync_product.proofs.PortColumns.{cut_column-at, length-column}
 use Rattle.sync_product.proofs.tuple_columns.write_port_tuple.Goals as goal
 
@@ -16,15 +16,15 @@ loop-at-preserved c =
     let wanted = cut count (column port rows) in
     let size : length wanted ≡ length rows = length-cut count (column port rows) ∙ length-column rows port in
     let item =
-    c.place_before.ensures
-    ∙ ap (λ r. place_before (nat_lt at count) port r) c.as_slice.ensures.value
-    ∙ cut_column-at rows port count at c.index-rows-at.result c.place_before.result c.loop-at-test.true
+    c.value_if_before.ensures
+    ∙ ap (λ r. value_if_before (nat_lt at count) port r) c.as_slice.ensures.value
+    ∙ cut_column-at rows port count at c.index-rows-at.result c.value_if_before.result c.loop-at-test.true
     c.index-rows-at.is in
     record {
       len = grind (arith, common_steps);
       done =
           ap (take (at + 1)) c.set.ensures
-          ∙ filled_more c.loop-at.to wanted at c.place_before.result (omega arith) (omega arith) item
+          ∙ filled_more c.loop-at.to wanted at c.value_if_before.result (omega arith) (omega arith) item
           c.loop-at.invariant.done;
     }
 

@@ -2,7 +2,7 @@ use Rattle.std.proofs.Common.{◌≡◌, Some, None, cond, true, refl, sym, ap, 
 use Rattle.std.proofs.lemmas.Bool.{eq-eqb}
 use Rattle.pals_runs.specs.declared.journal.JournalEntry.TheVariants as entry
 use Rattle.pals_runs.specs.declared.verdicts.TraceRule.TheVariants as rule
-use Rattle.bus_machine.specs.EarliestReadings.{release_alarm}
+use Rattle.bus_machine.specs.EarliestReadings.{release_reading}
 use Rattle.bus_machine.specs.Nodes.{round_of}
 use Rattle.bus_machine.specs.Plans.{plan_of}
 use Rattle.bus_machine.specs.States.{node_at}
@@ -21,7 +21,7 @@ returns-in-Err-Refused-NotYet-clause-rule c =
     let at = c.in-Err-Refused-NotYet in
     let refused = subst (BusSendEnds b node (Some c.args.reading)) at.field-0-is at.ensures.cause in
     let end = subst (SendEnds (node_value b node.0) (Some c.args.reading)) at.field-0-0-is refused.1 in
-    let early : is_early (Some c.args.reading) (release_alarm (plan_of b.run.design node.0) n) ≡ true =
+    let early : is_early (Some c.args.reading) (release_reading (plan_of b.run.design node.0) n) ≡ true =
     ap (is_early (Some c.args.reading)) (sym end.1) ∙ end.2 in
     early_breaks b.run b.state c.args.readings.now (entry.Send node c.args.round (Some c.args.reading))
     (Send node (Some c.args.reading)) rule.Release c.early_rule.result c.falls-falls.result

@@ -1,5 +1,5 @@
 use Rattle.std.proofs.Common.{◌≡◌, ◌≤◌, Ok, length, ap, ◌∙◌, arith}
-use Rattle.run_laws.specs.EntriesInLines.{told}
+use Rattle.run_laws.specs.EntriesInLines.{entry_of_line}
 use Rattle.trace_audit.specs.proof.AuditReplays.{audit_in}
 use Rattle.trace_audit.proofs.JournalVerdicts.{judged_end, judged_next, judged_wrong}
 use Rattle.trace_audit.proofs.trace_verdict.audit_journal.Goals as goal
@@ -9,8 +9,8 @@ returns-in-Some c =
     let run = c.args.replay.now.bus.run in
     let old = c.loop-index.replay in
     let line = c.index-trace-index.result in
-    let tells : c.told-told.result ≡ told run.design line = c.told-told.ensures.value
-    ∙ ap (λ d. told d c.as_str.result.now) c.requires.names ∙ ap (told run.design) c.as_str.ensures in
+    let tells : c.told-told.result ≡ entry_of_line run.design line = c.told-told.ensures.value
+    ∙ ap (λ d. entry_of_line d c.as_str.result.now) c.requires.names ∙ ap (entry_of_line run.design) c.as_str.ensures in
     c.wrong.ensures
     ∙ judged_wrong run old.bus.run c.args.rows c.loop-index.index (audit_in old) c.args.trace.now line
     c.told-told.result c.in-Some.rule c.in_ok-rule.field-0 _ c.loop-index-test.true c.index-trace-index.is tells
@@ -21,8 +21,8 @@ loop-index-preserved c =
     let run = c.args.replay.now.bus.run in
     let old = c.loop-index.replay in
     let line = c.index-trace-index.result in
-    let tells : c.told-told.result ≡ told run.design line = c.told-told.ensures.value
-    ∙ ap (λ d. told d c.as_str.result.now) c.requires.names ∙ ap (told run.design) c.as_str.ensures in
+    let tells : c.told-told.result ≡ entry_of_line run.design line = c.told-told.ensures.value
+    ∙ ap (λ d. entry_of_line d c.as_str.result.now) c.requires.names ∙ ap (entry_of_line run.design) c.as_str.ensures in
     let next =
     judged_next run old c.audit_line.new.self c.args.rows c.loop-index.index c.args.trace.now line
     c.told-told.result c.in_ok-rule.field-0 _ c.loop-index-test.true c.index-trace-index.is tells

@@ -2,4 +2,4 @@ use Rattle.triple_vote.proofs.OutvotedFaultReports.{report_is_thrice, thrice_wit
 use Rattle.triple_vote.proofs.laws.reports_are_composed.Goals as goal
 
 pub returns : goal.returns
-returns c = record { thrice = report_is_thrice; alone = thrice_without_replicas }
+returns c = record { tripled_report = report_is_thrice; alone = thrice_without_replicas }

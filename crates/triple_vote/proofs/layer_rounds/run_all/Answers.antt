@@ -116,7 +116,7 @@ loop-node-preserved c =
     let round = c.args.round in
     let design = round.design.now in
     let values = round.values.now in
-    let heard = round.messages.now in
+    let received_messages = round.messages.now in
     let items = c.components-component-items.result.now in
     let node = c.loop-node.node in
     let item = c.component-item.result in
@@ -138,13 +138,13 @@ loop-node-preserved c =
     let done = c.in_ok-run.ensures in
     let old = slice_index_or parts node c.index-parts-node.result in
     let old_is = get_or_default parts node c.index-parts-node.result old within_parts in
-    let frame = frame_by design values heard parts node item old within_parts old_is c.run.new.part.frame
+    let frame = frame_by design values received_messages parts node item old within_parts old_is c.run.new.part.frame
     (done.frame ∙ ap (λ ss. frame_after item.behaviour old.frame (vectors round item ss)) sources) in
-    let rows = rows_by design values heard parts node item old within_parts old_is c.run.new.self.rows
+    let rows = rows_by design values received_messages parts node item old within_parts old_is c.run.new.self.rows
     (done.rows ∙ ap (λ ss. outputs item.behaviour old.frame (vectors round item ss)) sources) in
     record {
       run =
-          run_more design values heard c.args.there.now (frames_of parts) next stages node item
+          run_more design values received_messages c.args.there.now (frames_of parts) next stages node item
           (component_is design items node item same inside item_is)
           c.loop-node.invariant.run c.run.new.part c.run.new.self within within_stages frame rows;
       next =

@@ -1,7 +1,7 @@
 use Rattle.std.proofs.Common.{◌∙◌, ap, sym, length, arith}
 use Rattle.pals_model.specs.declared.design.Link.{Link}
 use Rattle.sync_product.specs.proof.Rounds.{sent_by}
-use Rattle.triple_vote.specs.proof.ReplicaLayers.{is_there}
+use Rattle.triple_vote.specs.proof.ReplicaLayers.{has_replica}
 use Rattle.triple_vote.proofs.SelectiveListWrites.{filled_all}
 use Rattle.triple_vote.proofs.StageMessages.{message_fits, message_sizes_stay, message_sent}
 use Rattle.triple_vote.proofs.layer_rounds.send_all.Goals as goal
@@ -36,6 +36,6 @@ loop-number-preserved c = record {
 
 pub returns-clause-sent : goal.returns-clause-sent
 returns-clause-sent c =
-    filled_all c.args.design.now.links (λ (x : Link). is_there c.args.there.now x.source.0)
+    filled_all c.args.design.now.links (λ (x : Link). has_replica c.args.there.now x.source.0)
     (λ at (x : Link). sent_by c.args.stages.now x) c.loop-number.sent c.loop-number.number
     (omega (arith, ap length c.links-link-items.ensures.value, c.loop-number-test.false)) c.loop-number.invariant.done

@@ -2,7 +2,7 @@ use Rattle.std.proofs.Common.{◌∙◌, refl, ap, sym, length, arith}
 use Rattle.std.specs.Prelude.{slice_get}
 use Rattle.pals_model.specs.declared.design.Tap.{Tap}
 use Rattle.sync_product.specs.declared.component_stage.Stage.{Stage}
-use Rattle.triple_vote.specs.proof.ReplicaLayers.{is_there, whole_from}
+use Rattle.triple_vote.specs.proof.ReplicaLayers.{has_replica, whole_from}
 use Rattle.triple_vote.proofs.SelectiveListWrites.{filled_all}
 use Rattle.triple_vote.proofs.StageMessages.{tuple_fits, tuple_sizes_stay, tuple_shown}
 use Rattle.triple_vote.proofs.layer_rounds.show_all.Goals as goal
@@ -40,7 +40,7 @@ loop-number-preserved c = record {
 
 pub returns-clause-shown : goal.returns-clause-shown
 returns-clause-shown c =
-    filled_all c.args.design.now.taps (λ (x : Tap). is_there c.args.there.now x.source.0)
+    filled_all c.args.design.now.taps (λ (x : Tap). has_replica c.args.there.now x.source.0)
     (λ at (x : Tap). whole_from (slice_get c.args.stages.now x.source.0) x.out_port) c.loop-number.shown
     c.loop-number.number (omega (arith, ap length c.taps-tap-items.ensures.value, c.loop-number-test.false))
     c.loop-number.invariant.done

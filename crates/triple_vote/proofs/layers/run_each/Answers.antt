@@ -29,13 +29,13 @@ loop-at-preserved c =
     let new = c.run.new.self in
     let design = c.args.design.now in
     let values = c.args.values.now in
-    let heard = c.args.heard.now in
+    let received_messages = c.args.received_messages.now in
     let within : at < length layers = omega (arith, c.loop-at.layers.ok.0, c.loop-at-test.true) in
-    let inside : at < length heard = omega (arith, within, c.loop-at.invariant.rooms.three, c.requires.heard) in
+    let inside : at < length received_messages = omega (arith, within, c.loop-at.invariant.rooms.three, c.requires.received_messages) in
     let messages =
-    c.as_slice.ensures.value ∙ c.index-heard-at.is ∙ get_or_default heard at c.index-heard-at.result [] inside in
+    c.as_slice.ensures.value ∙ c.index-heard-at.is ∙ get_or_default received_messages at c.index-heard-at.result [] inside in
     record {
-      made = made_more design values heard layers at new within
+      made = made_more design values received_messages layers at new within
           (subst (λ (ms : List (List PortValue)). IsMade design values ms new) messages c.in_ok-run.ensures.made)
           c.loop-at.invariant.made;
       stay =

@@ -7,7 +7,7 @@ use Rattle.triple_vote.proofs.layers.run_each.Given as goal
 -- the first layers have made the round, and all stand where they stood
 abbrev pub invariant-loop-at : goal.invariant-loop-at
 invariant-loop-at l = record {
-  made : MadeTo l.design l.values l.heard l.layers.items l.at;
+  made : MadeTo l.design l.values l.received_messages l.layers.items l.at;
   stay : StayPut l.fn.layers.items l.layers.items;
   rooms : AreThree l.design l.layers.items;
   stages : map stage_size l.stages.items ≡ map stage_size l.fn.stages.items;

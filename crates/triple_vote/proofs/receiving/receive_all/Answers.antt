@@ -3,7 +3,7 @@ use Rattle.std.proofs.lemmas.Option.{slice_get-get_or}
 use Rattle.pals_model.specs.declared.design.Link.{Link}
 use Rattle.triple_vote.specs.declared.replica_layer.Layer.{Layer}
 use Rattle.triple_vote.specs.Replicas.{is_replicated}
-use Rattle.triple_vote.specs.proof.ReplicaLayers.{is_there}
+use Rattle.triple_vote.specs.proof.ReplicaLayers.{has_replica}
 use Rattle.triple_vote.specs.proof.ThreeLayers.{there_in, sent_in, received_of}
 use Rattle.triple_vote.proofs.SelectiveListWrites.{filled_skip, filled_all}
 use Rattle.triple_vote.proofs.VotedMessagesAndTaps.{no_link, there_read, sent_fit, faults_are_fit, heard_sizes_stay}
@@ -22,7 +22,7 @@ receive-requires-clause-number c =
 pub receive-requires-clause-sent : goal.receive-requires-clause-sent
 receive-requires-clause-sent c =
     sent_fit c.args.design.now c.args.replicated.now c.args.table.faults.now c.args.layers.now c.args.at c.requires.layers
-    c.requires.faults c.loop-number.heard
+    c.requires.faults c.loop-number.received_messages
     c.loop-number.invariant.sizes c.links-link-items.result.now c.loop-number.number no_link
     c.index_mut-tuple.result.now c.links-link-items.ensures.value
     c.loop-number-test.true c.index_mut-tuple.ensures.value
@@ -30,7 +30,7 @@ receive-requires-clause-sent c =
 pub receive-requires-clause-faults : goal.receive-requires-clause-faults
 receive-requires-clause-faults c =
     faults_are_fit c.args.design.now c.args.replicated.now c.args.table.faults.now c.args.layers.now c.args.at
-    c.requires.layers c.requires.faults c.loop-number.heard
+    c.requires.layers c.requires.faults c.loop-number.received_messages
     c.loop-number.invariant.sizes c.links-link-items.result.now c.loop-number.number no_link
     c.index_mut-tuple.result.now c.links-link-items.ensures.value
     c.loop-number-test.true c.index_mut-tuple.ensures.value
@@ -56,12 +56,12 @@ loop-number-preserved-then-not-is_there c =
       sizes = c.loop-number.invariant.sizes;
       done =
           filled_skip c.args.design.now.links
-          (λ (x : Link). is_there (slice_index_or (there_in layers) at []) x.target.0)
+          (λ (x : Link). has_replica (slice_index_or (there_in layers) at []) x.target.0)
           (λ k (x : Link). received_of (is_replicated c.args.replicated.now x.source.0) c.args.table.faults.now
-          (sent_in layers) k at) c.loop-number.heard number link
+          (sent_in layers) k at) c.loop-number.received_messages number link
           (ap (λ l. slice_get l number) (sym c.links-link-items.ensures.value)
           ∙ slice_get-get_or items number no_link c.loop-number-test.true)
-          (ap (λ (t : List Bool). is_there t link.target.0) (sym there) ∙ sym c.is_there.ensures
+          (ap (λ (t : List Bool). has_replica t link.target.0) (sym there) ∙ sym c.has_replica.ensures
           ∙ c.if-not-is_there.true) c.loop-number.invariant.done;
     }
 
@@ -73,13 +73,13 @@ loop-number-preserved c =
     record {
       sizes =
           heard_sizes_stay c.args.design.now c.args.replicated.now c.args.table.faults.now c.args.layers.now c.args.at
-          c.requires.layers c.requires.faults c.loop-number.heard
+          c.requires.layers c.requires.faults c.loop-number.received_messages
           c.loop-number.invariant.sizes c.links-link-items.result.now c.loop-number.number _
           c.index_mut-tuple.result.now c.links-link-items.ensures.value
           c.loop-number-test.true c.index_mut-tuple.ensures.value c.receive.new.to is;
       done =
           heard_more c.args.design.now c.args.replicated.now c.args.table.faults.now c.args.layers.now c.args.at
-          c.requires.layers c.requires.faults c.loop-number.heard
+          c.requires.layers c.requires.faults c.loop-number.received_messages
           c.loop-number.invariant.sizes c.links-link-items.result.now c.loop-number.number _
           c.index_mut-tuple.result.now c.links-link-items.ensures.value
           c.loop-number-test.true c.index_mut-tuple.ensures.value c.receive.new.to is c.loop-number.invariant.done;
@@ -88,10 +88,10 @@ loop-number-preserved c =
 pub returns-clause-received : goal.returns-clause-received
 returns-clause-received c =
     filled_all c.args.design.now.links
-    (λ (link : Link). is_there (slice_index_or (there_in c.args.layers.now) c.args.at []) link.target.0)
+    (λ (link : Link). has_replica (slice_index_or (there_in c.args.layers.now) c.args.at []) link.target.0)
     (λ number (link : Link).
     received_of (is_replicated c.args.replicated.now link.source.0) c.args.table.faults.now (sent_in c.args.layers.now)
     number c.args.at)
-    c.loop-number.heard c.loop-number.number
+    c.loop-number.received_messages c.loop-number.number
     (omega (arith, ap length c.links-link-items.ensures.value, c.loop-number-test.false))
     c.loop-number.invariant.done

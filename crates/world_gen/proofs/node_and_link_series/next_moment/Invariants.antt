@@ -3,4 +3,4 @@ use Rattle.world_gen.specs.proof.EventSeries.{next_moment}
 use Rattle.world_gen.proofs.node_and_link_series.next_moment.Given as goal
 
 abbrev pub invariant-loop-course : goal.invariant-loop-course
-invariant-loop-course l = l.moment ≡ next_moment (take l.course-index l.courses) l.from
+invariant-loop-course l = l.moment ≡ next_moment (take l.course-index l.all_series) l.from

@@ -1,7 +1,7 @@
 use Rattle.std.proofs.Common.{◌≡◌, Some, ◌∙◌, ap}
 use Rattle.std.proofs.lemmas.Result.{on_ok_weaker}
 use Rattle.aadl_tree.specs.proof.PackageViews.{placed}
-use Rattle.aadl_names.specs.declared.port_place.PortPlace.TheVariants.{Own}
+use Rattle.aadl_names.specs.declared.port_place.NumberedPort.TheVariants.{Own}
 use Rattle.aadl_chains.proofs.PortCountTables.{own_taken}
 use Rattle.aadl_chains.proofs.port_counts.PortCounts.add.Goals as goal
 

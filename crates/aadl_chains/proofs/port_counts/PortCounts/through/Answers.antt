@@ -1,10 +1,10 @@
 use Rattle.std.proofs.Common.{◌≡◌, ◌∙◌, ap, subst, sym, Some}
 use Rattle.list_lemmas.proofs.Booleans.{opposed}
 use Rattle.aadl_tree.specs.proof.PackageViews.{placed}
-use Rattle.aadl_names.specs.declared.port_place.PortPlace.TheVariants.{Inner}
+use Rattle.aadl_names.specs.declared.port_place.NumberedPort.TheVariants.{Inner}
 use Rattle.aadl_chains.specs.proof.LimitedCounts.{IsNumber}
-use Rattle.aadl_chains.specs.proof.EnteredPortCountTables.{taken_by}
-use Rattle.aadl_chains.specs.proof.EnteredThreadPorts.{Through}
+use Rattle.aadl_chains.specs.proof.EnteredPortCountTables.{entered_count_by}
+use Rattle.aadl_chains.specs.proof.EnteredThreadPorts.{IsEnteredThrough}
 use Rattle.aadl_chains.proofs.FirstIncomingConnections.{own_no_inner, none_no_inner}
 use Rattle.aadl_chains.proofs.PortCountTables.{through-number, through-second, through-none}
 use Rattle.aadl_chains.proofs.port_counts.PortCounts.through.Goals as goal
@@ -19,9 +19,9 @@ returns-else-is_second c = λ known.
     let tree = placed c.args.wires.now.uses.names.tree.now in
     let target : c.args.wire.target ≡ Some (Inner c.in-Inner.sub c.in-Inner.port) = c.in-Some.is
     ∙ ap Some c.in-Inner.is in
-    subst (IsNumber c.args.limit (Through tree c.args.number c.args.at))
+    subst (IsNumber c.args.limit (IsEnteredThrough tree c.args.number c.args.at))
     (sym (c.below-else-is_second.ensures
-    ∙ ap (λ o. taken_by c.args.limit c.args.self.now tree o c.in-Inner.port) c.below.ensures))
+    ∙ ap (λ o. entered_count_by c.args.limit c.args.self.now tree o c.in-Inner.port) c.below.ensures))
     (through-number tree c.args.limit c.args.number c.args.at c.args.wire c.in-Inner.sub c.in-Inner.port c.args.self.now
     c.requires.declared
     c.requires.wire target (λ s. opposed c.is_second.result (c.is_second.ensures.1 s) c.if-is_second.false) known)

@@ -1,8 +1,8 @@
 use Rattle.std.proofs.Common.{sym, ap, ◌∙◌}
 use Rattle.link_buffers.specs.proof.ListSearches.{least}
-use Rattle.link_buffers.proofs.RingCopies.{due_standings}
+use Rattle.link_buffers.proofs.RingCopies.{due_ring_entries}
 use Rattle.link_buffers.proofs.flight.Flight.flight_due.Goals as goal
 
 pub returns : goal.returns
 returns c =
-    rw (← c.self.view_is) (c.least_due.ensures ∙ ap least (sym (due_standings c.args.reading c.self.inside.ring.items)))
+    rw (← c.self.view_is) (c.least_due.ensures ∙ ap least (sym (due_ring_entries c.args.reading c.self.inside.ring.items)))

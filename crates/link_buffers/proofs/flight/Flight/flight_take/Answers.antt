@@ -8,7 +8,7 @@ use Rattle.pals_model.specs.Flights.{is_of, oldest}
 use Rattle.link_buffers.specs.declared.ring_entries.RingEntry.{RingEntry}
 use Rattle.link_buffers.specs.proof.RingCopies.{copies_of, AreTopped}
 use Rattle.link_buffers.proofs.FirstPassingItem.{find_some, find_none, without_some}
-use Rattle.link_buffers.proofs.RingCopies.{oldest_within, standing_there, tuple_at, copies_remove, topped_remove}
+use Rattle.link_buffers.proofs.RingCopies.{oldest_within, entry_there, tuple_at, copies_remove, topped_remove}
 use Rattle.link_buffers.proofs.flight.Flight.flight_take.Goals.{After-map}
 use Rattle.link_buffers.proofs.flight.Flight.flight_take.Goals as goal
 
@@ -37,7 +37,7 @@ within c = oldest_within c.self.inside.ring.items c.args.round c.in_ok-place.pla
 is_taken : (c : After-map) → is_some c.map.result ≡ true
 is_taken c =
     c.map.ensures.variant ∙ (ap is_some c.take_at.ensures.item
-    ∙ standing_there c.self.inside.ring.items c.in_ok-place.place (within c))
+    ∙ entry_there c.self.inside.ring.items c.in_ok-place.place (within c))
 
 if_none : {X : Type 0} (o : Option X) (P : Type 0) → is_some o ≡ true → IfNone o P
 if_none None P some = absurd (cc)

@@ -1,6 +1,6 @@
 use Rattle.std.proofs.Common.{◌≡◌, ◌∙◌, List, refl, ap}
 use Rattle.pals_base.specs.declared.values.NodeNo.{NodeNo}
-use Rattle.triple_vote.specs.VotedText.{voted_report, thrice}
+use Rattle.triple_vote.specs.VotedText.{voted_report, tripled_report}
 use Rattle.analysis_texts.specs.ReplicasAndRoundFaults.{replicated_in, faults_of}
 use Rattle.pals_top.proofs.vote.VoteCommandScenarioCommand.answer.Goals as goal
 
@@ -17,6 +17,6 @@ returns c =
           voted_report design scenario.env (replicated_in design rs) (faults_of scenario.faults) scenario.rounds) same;
       outvoted = λ fits.
           c.in_ok-text.ensures.outvoted fits
-          ∙ ap (λ (rs : List NodeNo). thrice design scenario.env (replicated_in design rs) scenario.rounds) same;
+          ∙ ap (λ (rs : List NodeNo). tripled_report design scenario.env (replicated_in design rs) scenario.rounds) same;
       alone = λ none. c.in_ok-text.ensures.alone (same ∙ none);
     }

@@ -2,7 +2,7 @@ use Rattle.std.proofs.Common.{◌≡◌, ◌∙◌, List, ap, sym, subst, not}
 use Rattle.std.specs.Prelude.{position}
 use Rattle.std.specs.Option.{option_or}
 use Rattle.run_monitor.specs.proof.FormBits.{row_of}
-use Rattle.run_monitor.specs.FormulaSemantics.{history}
+use Rattle.run_monitor.specs.FormulaSemantics.{frame_rows}
 use Rattle.run_monitor.specs.proof.MonitorState.{MonitorState, said}
 use Rattle.run_monitor.specs.proof.SeveralMonitors.{MonitorsState, HasWatched}
 use Rattle.run_monitor.proofs.HistoryGrowth.{history_has_rounds}
@@ -30,5 +30,5 @@ returns-clause-composed c = λ design env fs watched is.
     (let new : MonitorsState =
     record { monitors = c.advance_each.new.monitors.items; violation = c.or-self-inside.result } in
     watch_round new design env fs c.args.round (row_of c.args.parts.now) is
-    (returns-clause-watches c fs (history design env c.args.round) watched
+    (returns-clause-watches c fs (frame_rows design env c.args.round) watched
     (sym (history_has_rounds design env c.args.round))))

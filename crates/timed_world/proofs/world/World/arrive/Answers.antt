@@ -1,7 +1,7 @@
 use Rattle.std.proofs.Common.{sym, subst}
 use Rattle.pals_runs.specs.declared.events_and_faults.Event.TheVariants as event
 use Rattle.timed_world.specs.proof.WorldValues.{WorldValue}
-use Rattle.timed_world.proofs.EventEffects.{IsFine, arrived, moves_keep}
+use Rattle.timed_world.proofs.EventEffects.{HasNoFault, arrived, moves_keep}
 use Rattle.timed_world.proofs.BusRefusals.{arrival_only}
 use Rattle.timed_world.proofs.world.World.arrive.Goals as goal
 
@@ -17,7 +17,7 @@ refused_arrival-requires c =
       sent_at = f.sent_at;
     } in
     let e = event.Arrive c.args.link c.args.round in
-    let fine = subst (λ (x : WorldValue). IsFine x e) (sym c.self.view_is) c.requires.fine in
+    let fine = subst (λ (x : WorldValue). HasNoFault x e) (sym c.self.view_is) c.requires.fine in
     arrival_only v c.args.link c.args.round c.in-Err.end c.self.invariant fine c.in-Err.ensures.cause
 
 pub invariant_of-self-2 : goal.invariant_of-self-2
@@ -32,6 +32,6 @@ invariant_of-self-2 c =
       sent_at = f.sent_at;
     } in
     let e = event.Arrive c.args.link c.args.round in
-    let fine = subst (λ (x : WorldValue). IsFine x e) (sym c.self.view_is) c.requires.fine in
+    let fine = subst (λ (x : WorldValue). HasNoFault x e) (sym c.self.view_is) c.requires.fine in
     moves_keep v e _ c.self.invariant fine
     (arrived v c.args.link c.args.round c.deliver.new.self c.in_default.ensures.ok)

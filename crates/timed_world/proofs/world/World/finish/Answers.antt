@@ -7,7 +7,7 @@ use Rattle.bus_machine.specs.States.{node_at}
 use Rattle.run_laws.specs.Worlds.{is_last_sent}
 use Rattle.timed_world.specs.declared.standing.NodeStanding.{NodeStanding}
 use Rattle.timed_world.specs.proof.WorldValues.{WorldValue}
-use Rattle.timed_world.proofs.EventEffects.{IsFine, ends_sent, moves_on, stays_put, ended, moves_keep}
+use Rattle.timed_world.proofs.EventEffects.{HasNoFault, ends_sent, moves_on, stays_put, ended, moves_keep}
 use Rattle.timed_world.proofs.world.World.finish.Goals as goal
 
 pub invariant_of-self : goal.invariant_of-self
@@ -22,7 +22,7 @@ invariant_of-self c =
       sent_at = f.sent_at;
     } in
     let e = event.Finish c.args.node in
-    let fine = subst (λ (x : WorldValue). IsFine x e) (sym c.self.view_is) c.requires.fine in
+    let fine = subst (λ (x : WorldValue). HasNoFault x e) (sym c.self.view_is) c.requires.fine in
     let node = c.args.node.0 in
     let plan = c.plan.ensures.value ∙ ap (λ (x : WorldValue). plan_of x.bus.run.design node) (sym c.self.view_is) in
     let phase =
@@ -50,7 +50,7 @@ invariant_of-self-else-last c =
       sent_at = f.sent_at;
     } in
     let e = event.Finish c.args.node in
-    let fine = subst (λ (x : WorldValue). IsFine x e) (sym c.self.view_is) c.requires.fine in
+    let fine = subst (λ (x : WorldValue). HasNoFault x e) (sym c.self.view_is) c.requires.fine in
     let node = c.args.node.0 in
     let plan = c.plan.ensures.value ∙ ap (λ (x : WorldValue). plan_of x.bus.run.design node) (sym c.self.view_is) in
     let phase =

@@ -1,5 +1,5 @@
 use Rattle.std.proofs.Common.{◌≡◌, ap, ◌∙◌}
-use Rattle.pals_runs.specs.declared.events_and_faults.EventSubject.TheVariants as which
+use Rattle.pals_runs.specs.declared.events_and_faults.EventSubject.TheVariants as subject
 use Rattle.pals_model.specs.declared.design.DesignParts.{DesignParts}
 use Rattle.run_laws.specs.EventFaults.{past}
 use Rattle.timed_world.specs.proof.WorldValues.{WorldValue, world_of}
@@ -13,7 +13,7 @@ returns c =
     c.gamma-gamma.ensures.value ∙ ap (λ (d : DesignParts). d.gamma) c.design.ensures
     ∙ ap (λ (x : WorldValue). x.bus.run.design.gamma) c.self.view_is in
     c.past.ensures
-    ∙ ap (past c.args.time (which.Node c.args.node))
+    ∙ ap (past c.args.time (subject.Node c.args.node))
     (c.last_time-last.ensures
     ∙ last_is v.bus.run (world_of v) c.args.node.0 c.plan.result.now c.standing.result c.gamma-gamma.result
     c.plan.ensures.value c.standing.ensures.value gamma)

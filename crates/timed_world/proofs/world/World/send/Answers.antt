@@ -5,7 +5,7 @@ use Rattle.run_laws.specs.Worlds.{is_held}
 use Rattle.run_laws.proofs.FaultlessEventConditions.{sends_in_time}
 use Rattle.timed_world.specs.declared.standing.NodeStanding.{NodeStanding}
 use Rattle.timed_world.specs.proof.WorldValues.{WorldValue, world_of}
-use Rattle.timed_world.proofs.EventEffects.{IsFine, reads, moves_on, stays_put, sent, moves_keep}
+use Rattle.timed_world.proofs.EventEffects.{HasNoFault, reads, moves_on, stays_put, sent, moves_keep}
 use Rattle.timed_world.proofs.BusRefusals.{send_reads}
 use Rattle.timed_world.proofs.world.World.send.Goals as goal
 
@@ -21,7 +21,7 @@ send-requires-clause-reading c =
       sent_at = f.sent_at;
     } in
     let e = event.Send c.args.node in
-    let fine = subst (λ (x : WorldValue). IsFine x e) (sym c.self.view_is) c.requires.fine in
+    let fine = subst (λ (x : WorldValue). HasNoFault x e) (sym c.self.view_is) c.requires.fine in
     let within = (sends_in_time v.bus.run (world_of v) c.args.node fine).within in
     let at = c.index-reading.result.now in
     let clock = reads v c.args.node at c.self.invariant within c.index-reading.ensures in
@@ -39,7 +39,7 @@ invariant_of-self-then-held c =
       sent_at = f.sent_at;
     } in
     let e = event.Send c.args.node in
-    let fine = subst (λ (x : WorldValue). IsFine x e) (sym c.self.view_is) c.requires.fine in
+    let fine = subst (λ (x : WorldValue). HasNoFault x e) (sym c.self.view_is) c.requires.fine in
     let within = (sends_in_time v.bus.run (world_of v) c.args.node fine).within in
     let at = c.index-reading.result.now in
     let clock = reads v c.args.node at c.self.invariant within c.index-reading.ensures in
@@ -65,7 +65,7 @@ invariant_of-self-else-held c =
       sent_at = f.sent_at;
     } in
     let e = event.Send c.args.node in
-    let fine = subst (λ (x : WorldValue). IsFine x e) (sym c.self.view_is) c.requires.fine in
+    let fine = subst (λ (x : WorldValue). HasNoFault x e) (sym c.self.view_is) c.requires.fine in
     let within = (sends_in_time v.bus.run (world_of v) c.args.node fine).within in
     let at = c.index-reading.result.now in
     let clock = reads v c.args.node at c.self.invariant within c.index-reading.ensures in

@@ -3,7 +3,7 @@ use Rattle.pals_runs.specs.declared.events_and_faults.Event.TheVariants as event
 use Rattle.pals_bus.specs.BusValues.{BusValue}
 use Rattle.run_laws.proofs.FaultlessEventConditions.{starts_in_time}
 use Rattle.timed_world.specs.proof.WorldValues.{WorldValue, KeepsWorld, Moves, world_of}
-use Rattle.timed_world.proofs.EventEffects.{IsFine, reads, begun, moves_keep}
+use Rattle.timed_world.proofs.EventEffects.{HasNoFault, reads, begun, moves_keep}
 use Rattle.timed_world.proofs.BusRefusals.{start_only}
 use Rattle.timed_world.proofs.world.World.start.Goals as goal
 
@@ -19,7 +19,7 @@ refused_start-requires c =
       sent_at = f.sent_at;
     } in
     let e = event.Start c.args.node in
-    let fine = subst (λ (x : WorldValue). IsFine x e) (sym c.self.view_is) c.requires.fine in
+    let fine = subst (λ (x : WorldValue). HasNoFault x e) (sym c.self.view_is) c.requires.fine in
     let within = (starts_in_time v.bus.run (world_of v) c.args.node fine).within in
     let at = c.index-reading.result.now in
     let clock = reads v c.args.node at c.self.invariant within c.index-reading.ensures in
@@ -39,7 +39,7 @@ invariant_of-self c =
       sent_at = f.sent_at;
     } in
     let e = event.Start c.args.node in
-    let fine = subst (λ (x : WorldValue). IsFine x e) (sym c.self.view_is) c.requires.fine in
+    let fine = subst (λ (x : WorldValue). HasNoFault x e) (sym c.self.view_is) c.requires.fine in
     let within = (starts_in_time v.bus.run (world_of v) c.args.node fine).within in
     let at = c.index-reading.result.now in
     let clock = reads v c.args.node at c.self.invariant within c.index-reading.ensures in
@@ -59,7 +59,7 @@ returns-in-Err-clause-same c =
       sent_at = f.sent_at;
     } in
     let e = event.Start c.args.node in
-    let fine = subst (λ (x : WorldValue). IsFine x e) (sym c.self.view_is) c.requires.fine in
+    let fine = subst (λ (x : WorldValue). HasNoFault x e) (sym c.self.view_is) c.requires.fine in
     let within = (starts_in_time v.bus.run (world_of v) c.args.node fine).within in
     let at = c.index-reading.result.now in
     let clock = reads v c.args.node at c.self.invariant within c.index-reading.ensures in
@@ -79,7 +79,7 @@ invariant_of-self-2 c =
       sent_at = f.sent_at;
     } in
     let e = event.Start c.args.node in
-    let fine = subst (λ (x : WorldValue). IsFine x e) (sym c.self.view_is) c.requires.fine in
+    let fine = subst (λ (x : WorldValue). HasNoFault x e) (sym c.self.view_is) c.requires.fine in
     let within = (starts_in_time v.bus.run (world_of v) c.args.node fine).within in
     let at = c.index-reading.result.now in
     let clock = reads v c.args.node at c.self.invariant within c.index-reading.ensures in
@@ -100,7 +100,7 @@ returns-clause-ok c =
       sent_at = f.sent_at;
     } in
     let e = event.Start c.args.node in
-    let fine = subst (λ (x : WorldValue). IsFine x e) (sym c.self.view_is) c.requires.fine in
+    let fine = subst (λ (x : WorldValue). HasNoFault x e) (sym c.self.view_is) c.requires.fine in
     let within = (starts_in_time v.bus.run (world_of v) c.args.node fine).within in
     let at = c.index-reading.result.now in
     let clock = reads v c.args.node at c.self.invariant within c.index-reading.ensures in

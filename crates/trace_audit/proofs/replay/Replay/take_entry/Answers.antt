@@ -23,13 +23,13 @@ returns-clause-next c = λ done.
         count =
             ap length notes ∙ length-noted r.readings.items _ ∙ c.requires.kept.count
             ∙ sym (ap (λ (u : Run). length u.design.components) run);
-        owed = subst (λ o. IfSome o (IsEntryIn c.redo.new.bus.run.design)) (sym c.owed_by-self.ensures)
+        owed = subst (λ o. IfSome o (IsEntryIn c.replay_entry.new.bus.run.design)) (sym c.owed_by-self.ensures)
             (subst (λ (d : DesignParts). IfSome (owed_by e) (IsEntryIn d)) (sym (ap (λ (u : Run). u.design) run))
             (owed_within r.bus.run.design e c.requires.entry));
       };
       run = run;
       state =
-          audit_next r.bus.run r.bus.state c.redo.new.bus.state r.readings.items c.as_slice.result.now
+          audit_next r.bus.run r.bus.state c.replay_entry.new.bus.state r.readings.items c.as_slice.result.now
           c.note.new.readings.items r.owed c.owed_by-self.result e redone.event redone.is redone.happens.step.state
           (sym c.in_ok-rule.ensures.rule ∙ c.in_default.is) notes c.owed_by-self.ensures c.requires.owed;
     }

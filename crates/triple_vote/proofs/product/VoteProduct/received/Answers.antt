@@ -9,7 +9,7 @@ use Rattle.triple_vote.specs.proof.VotedStates.{VotedState}
 use Rattle.triple_vote.specs.proof.ThreeLayers.{parts_in}
 use Rattle.triple_vote.proofs.OpeningAndNextStates.{received_read, before_three}
 use Rattle.triple_vote.proofs.VotedMessagesAndTaps.{no_link}
-use Rattle.triple_vote.proofs.LayerUpdates.{heard_room}
+use Rattle.triple_vote.proofs.LayerUpdates.{received_sizes}
 use Rattle.triple_vote.proofs.TupleLengths.{tuple_within}
 use Rattle.triple_vote.proofs.product.VoteProduct.received.Goals as goal
 
@@ -22,13 +22,13 @@ index-tuples-requires c =
       arith,
       before_three now.replicated link.target.0 c.args.replica c.requires.low high,
       c.self.invariant.1.heard_fit.three,
-      c.self.inside.heard.ok.0,
+      c.self.inside.received_messages.ok.0,
     )
 
 pub bounds-as_slice-link : goal.bounds-as_slice-link
 bounds-as_slice-link c =
     let design = arc_value c.self.inside.design in
-    let heard = c.self.inside.heard.items in
+    let received_messages = c.self.inside.received_messages.items in
     let now = c.args.self.now in
     let l = c.args.link.0 in
     let target = c.args.replica - 1 in
@@ -37,13 +37,13 @@ bounds-as_slice-link c =
     let high : c.args.replica ≤ copies_of now.replicated link.target.0 =
     c.requires.high link (slice_get-get_or now.design.links l no_link c.requires.link) in
     let three : target < 3 = before_three now.replicated link.target.0 c.args.replica c.requires.low high in
-    let there : target < length heard = omega (arith, three, c.self.invariant.1.heard_fit.three) in
+    let there : target < length received_messages = omega (arith, three, c.self.invariant.1.heard_fit.three) in
     let within : l < length design.links =
     omega (arith, ap (λ (s : VotedState). length s.design.links) c.self.view_is, c.requires.link) in
     omega (
       arith,
       tuple_within (λ (x : Link). rate_of design x.source.0) design.links tuples
-          (heard_room design heard target tuples c.self.invariant.1.heard_fit there c.index-tuples.ensures) l within,
+          (received_sizes design received_messages target tuples c.self.invariant.1.heard_fit there c.index-tuples.ensures) l within,
       c.as_slice.ensures.len,
     )
 
@@ -51,7 +51,7 @@ pub returns : goal.returns
 returns c =
     let inside = c.self.inside in
     let design = arc_value inside.design in
-    let heard = inside.heard.items in
+    let received_messages = inside.received_messages.items in
     let now = c.args.self.now in
     let l = c.args.link.0 in
     let target = c.args.replica - 1 in
@@ -66,12 +66,12 @@ returns c =
     = ap (λ (s : VotedState). copies_of s.replicated link.target.0) c.self.view_is in
     let below : target < copies_of inside.replicated link.target.0 = omega (arith, copies, c.requires.low, high) in
     let three : target < 3 = before_three now.replicated link.target.0 c.args.replica c.requires.low high in
-    let there : target < length heard = omega (arith, three, c.self.invariant.1.heard_fit.three) in
+    let there : target < length received_messages = omega (arith, three, c.self.invariant.1.heard_fit.three) in
     let within : l < length design.links =
     omega (arith, ap (λ (s : VotedState). length s.design.links) c.self.view_is, c.requires.link) in
-    received_read design inside.replicated (parts_in inside.layers.items) heard l target link tuples tuple is below
+    received_read design inside.replicated (parts_in inside.layers.items) received_messages l target link tuples tuple is below
     there c.index-tuples.ensures
     (tuple_within (λ (x : Link). rate_of design x.source.0) design.links tuples
-    (heard_room design heard target tuples c.self.invariant.1.heard_fit there c.index-tuples.ensures) l within)
+    (received_sizes design received_messages target tuples c.self.invariant.1.heard_fit there c.index-tuples.ensures) l within)
     (c.index-as_slice-link.is ∙ ap (λ (ts : List (List PortValue)). slice_index_or ts l tuple) c.as_slice.ensures.value)
     ∙ ap (λ (s : VotedState). received_at s.voted l target) c.self.view_is

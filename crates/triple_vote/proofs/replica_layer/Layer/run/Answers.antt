@@ -11,7 +11,7 @@ pub returns-clause-made : goal.returns-clause-made
 returns-clause-made c =
     let design = c.args.round.design.now in
     let values = c.args.round.values.now in
-    let heard = c.args.round.messages.now in
+    let received_messages = c.args.round.messages.now in
     let there = c.args.self.now.there in
     let parts = c.args.self.now.parts in
     let next = c.run_all.new.next in
@@ -19,9 +19,9 @@ returns-clause-made c =
     let sent = c.send_all.new.sent in
     let shown = c.show_all.new.shown in
     let layer : Layer = record { there = there; parts = parts; next = next; sent = sent; shown = shown } in
-    is_made design values heard layer stages
-    (subst (λ (ps : List Part). AreRun design values heard there (frames_of ps) next stages) c.as_slice-2.ensures.value
-    (subst (λ (t : List Bool). AreRun design values heard t (frames_of c.as_slice-2.result.now) next stages)
+    is_made design values received_messages layer stages
+    (subst (λ (ps : List Part). AreRun design values received_messages there (frames_of ps) next stages) c.as_slice-2.ensures.value
+    (subst (λ (t : List Bool). AreRun design values received_messages t (frames_of c.as_slice-2.result.now) next stages)
     c.as_slice.ensures.value c.in_ok-run_all.ensures.run))
     (c.in_ok-run_all.ensures.stages ∙ c.requires.stages)
     (subst (λ (ss : List Stage). AreSent design there ss sent) c.as_slice-3.ensures.value

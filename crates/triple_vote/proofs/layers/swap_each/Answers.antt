@@ -1,6 +1,6 @@
 use Rattle.std.proofs.Common.{refl, arith}
 use Rattle.triple_vote.proofs.LayerUpdates.{turned_more, turned_all}
-use Rattle.triple_vote.proofs.layers.turn_each.Goals as goal
+use Rattle.triple_vote.proofs.layers.swap_each.Goals as goal
 
 pub loop-at-init : goal.loop-at-init
 loop-at-init c = record { size = refl; done = λ k d below inside. absurd (omega arith); rest = λ k d above. refl }
