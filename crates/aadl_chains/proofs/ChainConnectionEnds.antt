@@ -8,15 +8,15 @@ use Rattle.list_lemmas.proofs.ElementPositions.{slice_get-from_Contains, Contain
 use Rattle.list_lemmas.proofs.Booleans.{opposed}
 use Rattle.aadl_tree.specs.declared.declarations.Direction.TheVariants as directions
 use Rattle.aadl_tree.specs.Declarations.{PackageTree}
-use Rattle.aadl_names.specs.declared.port_place.NumberedPort.{NumberedPort}
-use Rattle.aadl_names.specs.declared.port_place.NumberedPort.TheVariants.{Own, Inner}
-use Rattle.aadl_uses.specs.Uses.{below, number_at_path}
+use Rattle.aadl_names.specs.declared.numbered_port.NumberedPort.{NumberedPort}
+use Rattle.aadl_names.specs.declared.numbered_port.NumberedPort.TheVariants.{Own, Inner}
+use Rattle.aadl_uses.specs.ContainmentAndUse.{below, number_at_path}
 use Rattle.aadl_uses.specs.declared.connections_by_target.ConnectionPorts.{ConnectionPorts}
-use Rattle.aadl_uses.specs.Wiring.{connection_ports_at}
+use Rattle.aadl_uses.specs.PortsOfConnections.{connection_ports_at}
 use Rattle.aadl_chains.specs.proof.PortsJoinedInside.{is_thread_at, is_in_at, Reaches, of_thread, of_inner}
 use Rattle.aadl_chains.specs.proof.PortsJoinedOutside.{LeadsOut, of_root, of_own, of_beside, LeadsFrom}
 use Rattle.aadl_chains.specs.Chains.{Port, ConnectionAt, port_at, Goes, Leads, is_in, IsStart, IsEnd}
-use Rattle.aadl_chains.specs.proof.DeclaredEnds.{MayLeave, MayEnter, NotBothOwn, ArePermitted}
+use Rattle.aadl_chains.specs.proof.PermittedConnections.{MayLeave, MayEnter, NotBothOwn, ArePermitted}
 use Rattle.aadl_chains.specs.proof.ConnectionsOnChains.{IsOnChain}
 use Rattle.aadl_chains.proofs.ConnectionsOnChains.{port, next_at, below_at, is_in-at, thread_from, wire_of_goes}
 use Rattle.aadl_chains.proofs.ConnectionsOnChains.{among_goes, Chained}

@@ -1,19 +1,19 @@
--- Each port has at most one connection into it, and none goes into where chains begin. So a chain is found from its
--- end.
+-- At most one chain ends at a port: each port has at most one connection into it, and none goes into where chains
+-- begin.
 use Rattle.std.proofs.Common.{◌≡◌, ℕ, true, false, List, [], ◌∷◌, Some, slice_get, refl, sym, ap, ◌∙◌, subst, inl, inr}
 use Rattle.std.specs.Option.{option_and_then}
 use Rattle.std.proofs.lemmas.Option.{same_Some}
 use Rattle.list_lemmas.proofs.Booleans.{opposed}
 use Rattle.aadl_tree.specs.Declarations.{Connection, Implementation, PackageTree}
-use Rattle.aadl_names.specs.declared.port_place.NumberedPort.{NumberedPort}
-use Rattle.aadl_names.specs.declared.port_place.NumberedPort.TheVariants.{Own, Inner}
+use Rattle.aadl_names.specs.declared.numbered_port.NumberedPort.{NumberedPort}
+use Rattle.aadl_names.specs.declared.numbered_port.NumberedPort.TheVariants.{Own, Inner}
 use Rattle.aadl_names.specs.ReferenceResolution.{implementation_at, is_thread, end_port}
-use Rattle.aadl_uses.specs.Uses.{below, number_at_path, component_at}
+use Rattle.aadl_uses.specs.ContainmentAndUse.{below, number_at_path, component_at}
 use Rattle.aadl_chains.specs.Chains.{Port, ConnectionAt, port_at, Goes, Leads, is_in, IsStart}
 use Rattle.aadl_chains.specs.proof.PortsJoinedInside.{is_in_at}
-use Rattle.aadl_chains.specs.proof.DeclaredEnds.{MayEnter}
+use Rattle.aadl_chains.specs.proof.PermittedConnections.{MayEnter}
 use Rattle.aadl_chains.proofs.ConnectionsOnChains.{is_in-at}
-use Rattle.aadl_chains.specs.proof.SoundConnections.{AreFaultless}
+use Rattle.aadl_chains.specs.proof.FaultlessConnections.{AreFaultless}
 use Rattle.aadl_chains.specs.proof.TracedChains.{Passes}
 
 place_by : (a b : ConnectionAt) → a.path ≡ b.path → a.connection ≡ b.connection → a ≡ b

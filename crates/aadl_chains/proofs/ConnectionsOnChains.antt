@@ -9,21 +9,21 @@ use Rattle.list_lemmas.proofs.Elements.{Contains-nil}
 use Rattle.list_lemmas.proofs.ElementPositions.{slice_get-from_Contains, Contains-from_slice_get}
 use Rattle.aadl_tree.specs.declared.declarations.Direction.TheVariants as directions
 use Rattle.aadl_tree.specs.Declarations.{Feature, Connection, Implementation, PackageTree}
-use Rattle.aadl_names.specs.declared.port_place.NumberedPort.{NumberedPort}
-use Rattle.aadl_names.specs.declared.port_place.NumberedPort.TheVariants.{Own, Inner}
+use Rattle.aadl_names.specs.declared.numbered_port.NumberedPort.{NumberedPort}
+use Rattle.aadl_names.specs.declared.numbered_port.NumberedPort.TheVariants.{Own, Inner}
 use Rattle.aadl_names.specs.ReferenceResolution.{implementation_at, ports_at, end_port}
 use Rattle.aadl_names.specs.PackageFaults.{goes_in}
-use Rattle.aadl_uses.specs.Uses.{below, number_at_path, IsInUse}
+use Rattle.aadl_uses.specs.ContainmentAndUse.{below, number_at_path, IsInUse}
 use Rattle.aadl_uses.specs.ThreadsBelow.{IsThreadAt}
 use Rattle.aadl_uses.specs.proof.ThreadCounts.{is_thread_in}
 use Rattle.aadl_uses.specs.declared.connections_by_target.ConnectionPorts.{ConnectionPorts}
-use Rattle.aadl_uses.specs.Wiring.{ports_of_connection, wires_of, connection_ports_at}
+use Rattle.aadl_uses.specs.PortsOfConnections.{ports_of_connection, wires_of, connection_ports_at}
 use Rattle.aadl_uses.proofs.DeclarationTables.{listed}
 use Rattle.aadl_uses.proofs.ThreadCounts.{thread_by}
 use Rattle.aadl_chains.specs.proof.PortsJoinedInside.{is_thread_at, is_in_at, Reaches, of_thread, of_inner}
 use Rattle.aadl_chains.specs.proof.PortsJoinedOutside.{LeadsOut, of_root, of_own, of_beside, LeadsFrom}
 use Rattle.aadl_chains.specs.Chains.{Port, ConnectionAt, port_at, Goes, Leads, is_in, IsStart, IsEnd, IsChain}
-use Rattle.aadl_chains.specs.proof.DeclaredEnds.{MayLeave, MayEnter, NotBothOwn, ArePermitted}
+use Rattle.aadl_chains.specs.proof.PermittedConnections.{MayLeave, MayEnter, NotBothOwn, ArePermitted}
 use Rattle.aadl_chains.specs.proof.ConnectionsOnChains.{IsOnChain}
 
 abbrev pub port : List ℕ → ℕ → Port

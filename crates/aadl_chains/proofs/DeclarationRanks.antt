@@ -5,7 +5,7 @@ use Rattle.std.proofs.lemmas.List.{length-map}
 use Rattle.list_lemmas.proofs.ElementPositions.{slice_get-from_Contains}
 use Rattle.aadl_tree.specs.Declarations.{PackageTree}
 use Rattle.aadl_names.specs.ReferenceResolution.{first_number}
-use Rattle.aadl_uses.specs.Uses.{below}
+use Rattle.aadl_uses.specs.ContainmentAndUse.{below}
 use Rattle.aadl_uses.specs.proof.PackageContainment.{containment, targets_in}
 use Rattle.aadl_uses.proofs.PackageContainment.{below-same}
 use Rattle.aadl_uses.specs.proof.ContainmentOrders.{IsOrder}
@@ -13,7 +13,6 @@ use Rattle.aadl_chains.proofs.OutermostFirstWalks.{declared_by, place_of}
 
 pub rank : List ℕ → ℕ → ℕ
 rank keys n = option_map_or (λ k. k) (first_number (nat_eq n) keys) 0
-
 
 module _ (tree : PackageTree ℕ) (keys : List ℕ) (order : IsOrder (containment tree) keys) where
   -- what a declaration contains stands before it

@@ -10,21 +10,21 @@ use Rattle.std.proofs.lemmas.Option.{same_Some, none-some, option_and_then_some}
 use Rattle.list_lemmas.proofs.ElementPositions.{Contains-from_slice_get}
 use Rattle.list_lemmas.proofs.Elements.{Contains-nil}
 use Rattle.aadl_tree.specs.Declarations.{Implementation, PackageTree}
-use Rattle.aadl_names.specs.declared.port_place.NumberedPort.{NumberedPort}
-use Rattle.aadl_names.specs.declared.port_place.NumberedPort.TheVariants.{Own, Inner}
+use Rattle.aadl_names.specs.declared.numbered_port.NumberedPort.{NumberedPort}
+use Rattle.aadl_names.specs.declared.numbered_port.NumberedPort.TheVariants.{Own, Inner}
 use Rattle.aadl_names.specs.ReferenceResolution.{implementation_at}
-use Rattle.aadl_uses.specs.Uses.{number_at_path}
+use Rattle.aadl_uses.specs.ContainmentAndUse.{number_at_path}
 use Rattle.aadl_uses.specs.declared.connections_by_target.ConnectionPorts.{ConnectionPorts}
 use Rattle.aadl_uses.specs.proof.NumbersByPort.{is_port}
 use Rattle.aadl_uses.specs.SecondConnections.{target_in, IsDuplicate}
 use Rattle.aadl_uses.specs.proof.FirstConnections.{is_before}
-use Rattle.aadl_uses.specs.Wiring.{ports_of_connection, wires_of, connection_ports_at}
+use Rattle.aadl_uses.specs.PortsOfConnections.{ports_of_connection, wires_of, connection_ports_at}
 use Rattle.aadl_uses.specs.proof.IncomingConnections.{first_into_at, with_source, sourced, connection_into}
 use Rattle.aadl_uses.proofs.DeclarationTables.{listed}
-use Rattle.aadl_uses.proofs.FirstConnectionTables.{itself, second_from, is_site-true, of_site}
+use Rattle.aadl_uses.proofs.FirstConnections.{itself, second_from, is_site-true, of_site}
 use Rattle.aadl_chains.specs.proof.PortsJoinedInside.{is_thread_at, is_in_at}
 use Rattle.aadl_chains.specs.Chains.{Port, ConnectionAt, port_at, Goes}
-use Rattle.aadl_chains.specs.proof.DeclaredEnds.{MayLeave, MayEnter, NotBothOwn, ArePermitted}
+use Rattle.aadl_chains.specs.proof.PermittedConnections.{MayLeave, MayEnter, NotBothOwn, ArePermitted}
 use Rattle.aadl_chains.proofs.ConnectionsOnChains.{among_goes, wire_of_goes}
 use Rattle.aadl_chains.specs.proof.Walks.{OneEach}
 use Rattle.aadl_chains.specs.proof.WalksUpAndDown.{IsFromInner}

@@ -10,7 +10,7 @@ use Rattle.aadl_tree.specs.Declarations.{PackageTree}
 use Rattle.aadl_names.specs.ReferenceResolution.{implementation_in}
 use Rattle.aadl_uses.specs.proof.PackageContainment.{containment, targets_in}
 use Rattle.aadl_uses.proofs.PackageContainment.{below-same}
-use Rattle.aadl_uses.specs.Wiring.{connection_ports_at, wires_of}
+use Rattle.aadl_uses.specs.PortsOfConnections.{connection_ports_at, wires_of}
 use Rattle.aadl_uses.specs.proof.ContainmentOrders.{IsOrder}
 use Rattle.aadl_chains.specs.declared.port_set.PortAt.{PortAt}
 use Rattle.aadl_chains.specs.proof.PortsJoinedInside.{declaration_port, AreReaching, HasAll, HasAllBelow, AreJoined, IsInside}

@@ -6,7 +6,7 @@ pub mod JoinedOutsideByDeclaration
 pub mod ConnectionsOnChains
 pub mod ChainConnectionEnds
 pub mod AccumulatedFaults
-pub mod EndFaults
+pub mod ConnectionEndFaults
 pub mod PermittedConnections
 pub mod ChainsFromEnds
 pub mod LimitedCounts
@@ -16,9 +16,9 @@ pub mod WalksOfChains
 pub mod LinksByWalks
 pub mod WalksOneLevelOut
 pub mod EnteredThreadPorts
-pub mod PortCountTables
+pub mod EnteredPortCountTables
 pub mod LinkLimits
-pub mod SoundConnections
+pub mod FaultlessConnections
 pub mod TracedChains
 pub mod OutermostFirstWalks
 pub mod WalksUpAndDown

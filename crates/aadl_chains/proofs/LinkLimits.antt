@@ -15,22 +15,22 @@ use Rattle.aadl_uses.specs.proof.MarkedPathCounts.{count_of}
 use Rattle.aadl_uses.specs.proof.OrderedLists.{Among}
 use Rattle.aadl_tree.specs.declared.declarations.Direction.TheVariants as directions
 use Rattle.aadl_tree.specs.Declarations.{Connection, Implementation, PackageTree}
-use Rattle.aadl_names.specs.declared.port_place.NumberedPort.TheVariants.{Own, Inner}
+use Rattle.aadl_names.specs.declared.numbered_port.NumberedPort.TheVariants.{Own, Inner}
 use Rattle.aadl_names.specs.declared.fault.PackageFault.{PackageFault}
 use Rattle.aadl_names.specs.declared.fault.PackageFault.TheVariants.{TwoSources}
 use Rattle.aadl_names.specs.ReferenceResolution.{implementation_at, subcomponents_of, connections_of, referred}
-use Rattle.aadl_uses.specs.Uses.{sub_at, below, number_at_path}
+use Rattle.aadl_uses.specs.ContainmentAndUse.{sub_at, below, number_at_path}
 use Rattle.aadl_uses.specs.proof.PackageContainment.{targets_of}
 use Rattle.aadl_uses.specs.ThreadsBelow.{IsThreadAt, MoreThan}
 use Rattle.aadl_uses.specs.declared.connections_by_target.ConnectionPorts.{ConnectionPorts}
 use Rattle.aadl_uses.specs.SecondConnections.{target_in}
-use Rattle.aadl_uses.specs.Wiring.{ports_of_connection, wires_of, connection_ports_at}
+use Rattle.aadl_uses.specs.PortsOfConnections.{ports_of_connection, wires_of, connection_ports_at}
 use Rattle.aadl_uses.proofs.DeclarationTables.{listed}
 use Rattle.aadl_uses.proofs.ThreadCounts.{thread_by}
 use Rattle.aadl_chains.specs.proof.PortsJoinedInside.{is_thread_at, Reaches, ReachesIn, of_thread, of_inner}
 use Rattle.aadl_chains.specs.Chains.{Port, ConnectionAt, Leads, is_in}
 use Rattle.aadl_chains.specs.ChainFaults.{IsEndFault}
-use Rattle.aadl_chains.specs.proof.DeclaredEnds.{ArePermitted}
+use Rattle.aadl_chains.specs.proof.PermittedConnections.{ArePermitted}
 use Rattle.aadl_chains.proofs.ConnectionsOnChains.{next_at, is_in-at}
 use Rattle.aadl_chains.specs.proof.LimitedCounts.{Distinct, IsNumber}
 use Rattle.aadl_chains.specs.proof.Walks.{OneEach}

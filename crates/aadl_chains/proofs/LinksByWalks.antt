@@ -7,15 +7,15 @@ use Rattle.std.proofs.lemmas.Option.{same_Some, none-some, option_and_then_some}
 use Rattle.list_lemmas.proofs.Elements.{Contains-cons_cases, Contains-head}
 use Rattle.list_lemmas.proofs.Booleans.{opposed}
 use Rattle.aadl_tree.specs.Declarations.{PackageTree}
-use Rattle.aadl_names.specs.declared.port_place.NumberedPort.{NumberedPort}
-use Rattle.aadl_names.specs.declared.port_place.NumberedPort.TheVariants.{Own, Inner}
+use Rattle.aadl_names.specs.declared.numbered_port.NumberedPort.{NumberedPort}
+use Rattle.aadl_names.specs.declared.numbered_port.NumberedPort.TheVariants.{Own, Inner}
 use Rattle.aadl_names.specs.ReferenceResolution.{implementation_at, end_port}
-use Rattle.aadl_uses.specs.Uses.{below, number_at_path, component_at}
+use Rattle.aadl_uses.specs.ContainmentAndUse.{below, number_at_path, component_at}
 use Rattle.aadl_uses.specs.ThreadsBelow.{IsThreadAt}
 use Rattle.aadl_uses.specs.proof.ThreadCounts.{is_thread_in}
 use Rattle.aadl_chains.specs.proof.PortsJoinedInside.{is_thread_at, is_in_at}
 use Rattle.aadl_chains.specs.Chains.{Port, ConnectionAt, Goes, Leads, is_in, IsStart, IsEnd}
-use Rattle.aadl_chains.specs.proof.DeclaredEnds.{ArePermitted}
+use Rattle.aadl_chains.specs.proof.PermittedConnections.{ArePermitted}
 use Rattle.aadl_chains.proofs.ConnectionsOnChains.{is_in-at}
 use Rattle.aadl_chains.specs.proof.Walks.{Crossing, at_root, crosses, walk_back, OneEach, IsThreadPort}
 use Rattle.aadl_chains.specs.LinksFeedsAndTaps.{CarriedChain, not_own, is_crossing, Carries, IsLink, IsFeed, IsTap}

@@ -8,15 +8,15 @@ use Rattle.std.proofs.lemmas.Bool.{eqb-true, eq-eqb, cases_lt}
 use Rattle.std.proofs.lemmas.List.{reverse-append}
 use Rattle.std.proofs.lemmas.Option.{none-some, slice_get_past}
 use Rattle.aadl_tree.specs.Declarations.{Subcomponent, PackageTree}
-use Rattle.aadl_names.specs.declared.port_place.NumberedPort.{NumberedPort}
-use Rattle.aadl_names.specs.declared.port_place.NumberedPort.TheVariants.{Own, Inner}
+use Rattle.aadl_names.specs.declared.numbered_port.NumberedPort.{NumberedPort}
+use Rattle.aadl_names.specs.declared.numbered_port.NumberedPort.TheVariants.{Own, Inner}
 use Rattle.aadl_names.specs.ReferenceResolution.{first_number, implementation_in, subcomponents_of, referred}
-use Rattle.aadl_uses.specs.Uses.{below, number_at_path}
+use Rattle.aadl_uses.specs.ContainmentAndUse.{below, number_at_path}
 use Rattle.aadl_uses.specs.proof.PackageContainment.{containment}
 use Rattle.aadl_uses.specs.proof.IncomingConnections.{connection_into}
 use Rattle.aadl_uses.specs.proof.ContainmentOrders.{IsOrder}
 use Rattle.aadl_chains.specs.proof.PortsJoinedInside.{is_in_at}
-use Rattle.aadl_chains.specs.proof.DeclaredEnds.{MayLeave, ArePermitted}
+use Rattle.aadl_chains.specs.proof.PermittedConnections.{MayLeave, ArePermitted}
 use Rattle.aadl_chains.proofs.ConnectionsOnChains.{next_at}
 use Rattle.aadl_chains.specs.declared.chain_tracing.ConnectionInto.{ConnectionInto}
 use Rattle.aadl_chains.specs.proof.Walks.{Crossing, WalkEnd, nowhere, crosses, walk_back, walk_back_by, walk_back_along, walk_back_into}
@@ -120,6 +120,7 @@ module _ (tree : PackageTree ℕ) (root : ℕ) where
       leaves_by : (n : ℕ) (source : NumberedPort) → MayLeave tree n source → source ≡ Inner c.sub c.port
           → (m : ℕ) × (below tree n c.sub ≡ Some m) × (is_in_at tree m c.port ≡ false)
       leaves_by n source may e = subst (MayLeave tree n) e may
+
 module _ (tree : PackageTree ℕ) (keys : List ℕ) (order : IsOrder (containment tree) keys) where
   pub place_of : (n i : ℕ) → slice_get keys i ≡ Some n
       → (k : ℕ) × (first_number (nat_eq n) keys ≡ Some k) × (k ≤ i) × (slice_get keys k ≡ Some n)

@@ -17,8 +17,8 @@ use Rattle.aadl_tree.specs.Names.{Identifier}
 use Rattle.aadl_tree.specs.Declarations.{Feature, Subcomponent, ConnectionEnd, Connection, Implementation, Declaration}
 use Rattle.aadl_tree.specs.Declarations.{type, implementation, PackageTree}
 use Rattle.aadl_names.specs.declared.recognised_properties.PropertyHolder.TheVariants as holders
-use Rattle.aadl_names.specs.declared.port_place.NumberedPort.{NumberedPort}
-use Rattle.aadl_names.specs.declared.port_place.NumberedPort.TheVariants.{Own, Inner}
+use Rattle.aadl_names.specs.declared.numbered_port.NumberedPort.{NumberedPort}
+use Rattle.aadl_names.specs.declared.numbered_port.NumberedPort.TheVariants.{Own, Inner}
 use Rattle.aadl_names.specs.DuplicateNames.{wrong_if}
 use Rattle.aadl_names.specs.RecognisedProperties.{list_faults}
 use Rattle.aadl_names.specs.BehaviourAnnexes.{behaviours}
@@ -30,13 +30,13 @@ use Rattle.aadl_names.specs.PackageFaults.{subcomponent_faults, names_faults, ma
 use Rattle.aadl_names.specs.PackageFaults.{heading_faults, outer_faults, annex_faults, declaration_faults, wrong_names}
 use Rattle.aadl_names.specs.PackageFaults.{package_faults}
 use Rattle.aadl_names.proofs.FirstFaultSoFar.{wrong_none}
-use Rattle.aadl_uses.specs.Uses.{below}
+use Rattle.aadl_uses.specs.ContainmentAndUse.{below}
 use Rattle.aadl_uses.specs.proof.ThreadCounts.{is_thread_in}
 use Rattle.aadl_uses.specs.declared.connections_by_target.ConnectionPorts.{ConnectionPorts}
-use Rattle.aadl_uses.specs.Wiring.{ports_of_connection, wires_of}
+use Rattle.aadl_uses.specs.PortsOfConnections.{ports_of_connection, wires_of}
 use Rattle.aadl_uses.proofs.DeclarationTables.{listed}
 use Rattle.aadl_chains.specs.proof.PortsJoinedInside.{is_in_at}
-use Rattle.aadl_chains.specs.proof.DeclaredEnds.{MayLeave, MayEnter, NotBothOwn, IsPermitted, ArePermitted}
+use Rattle.aadl_chains.specs.proof.PermittedConnections.{MayLeave, MayEnter, NotBothOwn, IsPermitted, ArePermitted}
 
 -- ---- ends
 port_there : (may : NumberedPort × Option Direction → Bool) (end : ConnectionEnd ℕ) (at : ℕ)

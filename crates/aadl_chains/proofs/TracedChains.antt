@@ -5,14 +5,14 @@ use Rattle.std.proofs.lemmas.List.{reverse-append}
 use Rattle.std.proofs.lemmas.Option.{same_Some, none-some}
 use Rattle.list_lemmas.proofs.Booleans.{opposed}
 use Rattle.aadl_tree.specs.Declarations.{PackageTree}
-use Rattle.aadl_names.specs.declared.port_place.NumberedPort.{NumberedPort}
-use Rattle.aadl_names.specs.declared.port_place.NumberedPort.TheVariants.{Own, Inner}
-use Rattle.aadl_uses.specs.Uses.{below, number_at_path}
+use Rattle.aadl_names.specs.declared.numbered_port.NumberedPort.{NumberedPort}
+use Rattle.aadl_names.specs.declared.numbered_port.NumberedPort.TheVariants.{Own, Inner}
+use Rattle.aadl_uses.specs.ContainmentAndUse.{below, number_at_path}
 use Rattle.aadl_uses.specs.ThreadsBelow.{IsThreadAt}
 use Rattle.aadl_uses.specs.proof.IncomingConnections.{connection_into}
 use Rattle.aadl_chains.specs.proof.PortsJoinedInside.{is_thread_at, is_in_at}
 use Rattle.aadl_chains.specs.Chains.{Port, ConnectionAt, Goes, Leads, is_in, IsStart}
-use Rattle.aadl_chains.specs.proof.DeclaredEnds.{ArePermitted}
+use Rattle.aadl_chains.specs.proof.PermittedConnections.{ArePermitted}
 use Rattle.aadl_chains.proofs.ConnectionsOnChains.{next_at, is_in-at, thread_from}
 use Rattle.aadl_chains.specs.declared.chain_tracing.ChainStart.{ChainStart}
 use Rattle.aadl_chains.specs.declared.chain_tracing.ChainStart.TheVariants as begins
@@ -25,7 +25,7 @@ use Rattle.aadl_chains.proofs.FirstIncomingConnections.{entered, goes_into, into
 use Rattle.aadl_chains.proofs.WalksOfChains.{into_own}
 use Rattle.aadl_chains.proofs.LinksByWalks.{link_from, feed_from, tap_from, LinkMet, link_met, FeedMet, feed_met}
 use Rattle.aadl_chains.proofs.LinksByWalks.{TapMet, tap_met}
-use Rattle.aadl_chains.proofs.SoundConnections.{sound_by}
+use Rattle.aadl_chains.proofs.FaultlessConnections.{sound_by}
 
 pub ends_by : (a b : CarriedChain) → a.from ≡ b.from → a.to ≡ b.to → a.declaration ≡ b.declaration
     → a.connection ≡ b.connection → a ≡ b

@@ -4,9 +4,9 @@ use Rattle.aadl_tree.specs.Declarations.{Connection, PackageTree}
 use Rattle.aadl_names.specs.declared.fault.PackageFault.{PackageFault}
 use Rattle.aadl_names.specs.declared.fault.PackageFault.TheVariants.{DeadEnd, TwoSources}
 use Rattle.aadl_names.specs.ReferenceResolution.{implementation_at, connections_of}
-use Rattle.aadl_uses.specs.Uses.{number_at_path, IsInUse}
+use Rattle.aadl_uses.specs.ContainmentAndUse.{number_at_path, IsInUse}
 use Rattle.aadl_uses.specs.SecondConnections.{IsDuplicate}
-use Rattle.aadl_uses.specs.Wiring.{connection_ports_at}
+use Rattle.aadl_uses.specs.PortsOfConnections.{connection_ports_at}
 use Rattle.aadl_chains.specs.Chains.{IsChain, ConnectionAt, Port}
 
 -- a connection of an implementation in use that is on no chain, wherever it stands in the design
@@ -19,7 +19,6 @@ pub record IsDeadEnd (tree : PackageTree ℕ) (root : ℕ) (x : Connection ℕ) 
       → Contains chain place
       → number_at_path tree root place.path ≡ Some number → place.connection ≢ connection
 
-
 -- a connection of an implementation in use into a port into which one goes that stands before it
 pub record IsSecondEnd (tree : PackageTree ℕ) (root : ℕ) (x : Connection ℕ) : Type 0 where
   pub number : ℕ
@@ -27,7 +26,6 @@ pub record IsSecondEnd (tree : PackageTree ℕ) (root : ℕ) (x : Connection ℕ
   pub used : IsInUse tree root number
   pub is_connection : slice_get (connections_of (implementation_at tree number)) connection ≡ Some x
   pub is_second : IsDuplicate (connection_ports_at tree number) connection
-
 
 abbrev pub IsEndFault : PackageTree ℕ → ℕ → PackageFault → Type 0
 IsEndFault tree root fault =

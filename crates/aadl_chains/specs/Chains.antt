@@ -1,11 +1,11 @@
 -- Ports and connections of the flattened design, and the chains that connections make.
 use Rattle.std.specs.Prelude.{◌≡◌, ◌⊎◌, ℕ, Bool, true, false, List, [], ◌∷◌, Option, Some, option_map, slice_get}
 use Rattle.aadl_tree.specs.Declarations.{Feature, Connection, Implementation, PackageTree}
-use Rattle.aadl_names.specs.declared.port_place.NumberedPort.{NumberedPort}
-use Rattle.aadl_names.specs.declared.port_place.NumberedPort.TheVariants.{Own, Inner}
+use Rattle.aadl_names.specs.declared.numbered_port.NumberedPort.{NumberedPort}
+use Rattle.aadl_names.specs.declared.numbered_port.NumberedPort.TheVariants.{Own, Inner}
 use Rattle.aadl_names.specs.ReferenceResolution.{implementation_at, ports_at, end_port}
 use Rattle.aadl_names.specs.PackageFaults.{goes_in}
-use Rattle.aadl_uses.specs.Uses.{number_at_path, component_at}
+use Rattle.aadl_uses.specs.ContainmentAndUse.{number_at_path, component_at}
 use Rattle.aadl_uses.specs.ThreadsBelow.{IsThreadAt}
 
 -- a port of the component at a path

@@ -2,10 +2,10 @@
 pub mod PortSets
 pub mod PortsJoinedInside
 pub mod PortsJoinedOutside
-pub mod DeclaredEnds
+pub mod PermittedConnections
 pub mod ConnectionsOnChains
-pub mod ConnectionFaults
-pub mod SoundConnections
+pub mod ConnectionEndFaults
+pub mod FaultlessConnections
 pub mod Walks
 pub mod LimitedCounts
 pub mod TracedChains

@@ -2,7 +2,7 @@
 ghost use Rattle.std.specs.Prelude.{◌≡◌, ◌↔◌, ◌&&◌, ℕ, Some, IfOk, IsTrue, Contains};
 ghost use Rattle.aadl_tree.specs.proof.PackageViews.{placed};
 ghost use Rattle.aadl_uses.specs.proof.PackageContainment.{containment};
-ghost use Rattle.aadl_uses.specs.Uses.{IsInUse};
+ghost use Rattle.aadl_uses.specs.ContainmentAndUse.{IsInUse};
 ghost use Rattle.aadl_uses.specs.proof.ContainmentOrders.{IsOrder};
 ghost use Rattle.aadl_chains.specs.proof.ConnectionsOnChains.{IsOnChain, AreChainPorts};
 
@@ -87,7 +87,13 @@ impl JoinedPorts {
     }
 
     // Whether a connection from this port is on a chain.
-    fn goes_on(&self, wires: &PackageConnections<'_>, number: usize, wire: ConnectionPorts, source: NumberedPort) -> bool
+    fn goes_on(
+        &self,
+        wires: &PackageConnections<'_>,
+        number: usize,
+        wire: ConnectionPorts,
+        source: NumberedPort,
+    ) -> bool
         requires ways { AreChainPorts (placed wires.now.uses.names.tree.now) self.now }
         requires source { wire.source ≡ Some source }
         ensures { IsTrue result ↔ IsOnChain (placed wires.now.uses.names.tree.now) self.now.root number wire }

@@ -2,12 +2,12 @@
 ghost use Rattle.std.specs.Prelude.{◌≡◌, ◌++◌, ◌∷◌, ◌<◌, ℕ, false, take, reverse, length, None, Some, [], slice_index};
 ghost use Rattle.std.specs.Prelude.{IfOk};
 ghost use Rattle.aadl_tree.specs.proof.PackageViews.{placed};
-ghost use Rattle.aadl_names.specs.declared.port_place.NumberedPort.TheVariants.{Own};
-ghost use Rattle.aadl_uses.specs.Uses as uses;
+ghost use Rattle.aadl_names.specs.declared.numbered_port.NumberedPort.TheVariants.{Own};
+ghost use Rattle.aadl_uses.specs.ContainmentAndUse as uses;
 ghost use Rattle.aadl_uses.specs.proof.PackageContainment as inner;
 ghost use Rattle.aadl_uses.specs.proof.ContainmentOrders.{IsOrder};
 ghost use Rattle.aadl_chains.specs.proof.PortsJoinedInside.{is_thread_at, is_in_at};
-ghost use Rattle.aadl_chains.specs.proof.DeclaredEnds.{ArePermitted};
+ghost use Rattle.aadl_chains.specs.proof.PermittedConnections.{ArePermitted};
 ghost use Rattle.aadl_chains.specs.proof.Walks as walks;
 ghost use Rattle.aadl_chains.specs.proof.Walks.{OneEach, IsThreadPort};
 ghost use Rattle.aadl_chains.specs.proof.TracedChains.{Descends, Traces, TracesTap};

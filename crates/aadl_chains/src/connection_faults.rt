@@ -6,13 +6,13 @@ ghost use Rattle.aadl_tree.specs.proof.PlaceMaps.{kept_place};
 ghost use Rattle.aadl_names.specs.proof.FirstFaultSoFar.{found};
 ghost use Rattle.aadl_uses.specs.proof.PackageContainment.{containment};
 ghost use Rattle.aadl_uses.specs.proof.FirstRecursion.{FirstIn};
-ghost use Rattle.aadl_uses.specs.Uses.{IsInUse};
-ghost use Rattle.aadl_uses.specs.Wiring.{connection_ports_at};
+ghost use Rattle.aadl_uses.specs.ContainmentAndUse.{IsInUse};
+ghost use Rattle.aadl_uses.specs.PortsOfConnections.{connection_ports_at};
 ghost use Rattle.aadl_uses.specs.proof.ContainmentOrders.{IsOrder};
 ghost use Rattle.aadl_chains.specs.ChainFaults.{IsEndFault};
-ghost use Rattle.aadl_chains.specs.proof.DeclaredEnds.{ArePermitted};
+ghost use Rattle.aadl_chains.specs.proof.PermittedConnections.{ArePermitted};
 ghost use Rattle.aadl_chains.specs.proof.ConnectionsOnChains.{AreChainPorts};
-ghost use Rattle.aadl_chains.specs.proof.ConnectionFaults.{FindsAll, IsFoundIn, IsFoundAt, dead_end, second};
+ghost use Rattle.aadl_chains.specs.proof.ConnectionEndFaults.{FindsAll, IsFoundIn, IsFoundAt, dead_end, second};
 
 use crate::chain_connections::JoinedPorts;
 use aadl_names::{FaultFinder, PackageFault};

@@ -38,7 +38,13 @@ impl InnerJoins {
     }
 
     /// Whether connections join a port of a subcomponent to a thread below.
-    pub fn reaches(&self, wires: &PackageConnections<'_>, declaration: usize, sub: usize, port: usize) -> bool
+    pub fn reaches(
+        &self,
+        wires: &PackageConnections<'_>,
+        declaration: usize,
+        sub: usize,
+        port: usize,
+    ) -> bool
         requires { IsInside (placed wires.now.uses.names.tree.now) self.now.direction self.now.ports }
         ensures { IsTrue result ↔ ReachesIn (placed wires.now.uses.names.tree.now) self.now.direction declaration sub port }
     {

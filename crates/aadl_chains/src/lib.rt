@@ -5,10 +5,10 @@
 pub mod chain_connections;
 pub mod chain_tracing;
 pub mod connection_faults;
+pub mod entered_port_counts;
 pub mod inner_joins;
 pub mod link_limit;
 pub mod outer_joins;
-pub mod port_counts;
 pub mod port_set;
 
 pub use chain_connections::JoinedPorts;

@@ -6,21 +6,21 @@ ghost use Rattle.aadl_tree.specs.proof.PackageViews.{placed};
 ghost use Rattle.aadl_tree.specs.declared.declarations.Direction.TheVariants as directions;
 ghost use Rattle.aadl_names.specs.declared.fault.PackageFault.{PackageFault};
 ghost use Rattle.aadl_uses.specs.proof.PackageContainment.{containment};
-ghost use Rattle.aadl_uses.specs.Uses.{below};
+ghost use Rattle.aadl_uses.specs.ContainmentAndUse.{below};
 ghost use Rattle.aadl_uses.specs.ThreadsBelow.{MoreThan};
-ghost use Rattle.aadl_uses.specs.Wiring.{connection_ports_at};
+ghost use Rattle.aadl_uses.specs.PortsOfConnections.{connection_ports_at};
 ghost use Rattle.aadl_uses.specs.proof.ContainmentOrders.{IsOrder};
 ghost use Rattle.aadl_uses.specs.proof.MarkedPathCounts as spec;
 ghost use Rattle.aadl_chains.specs.proof.PortsJoinedInside.{IsInside, is_thread_at};
 ghost use Rattle.aadl_chains.specs.ChainFaults.{IsEndFault};
-ghost use Rattle.aadl_chains.specs.proof.DeclaredEnds.{ArePermitted};
+ghost use Rattle.aadl_chains.specs.proof.PermittedConnections.{ArePermitted};
 ghost use Rattle.aadl_chains.specs.proof.LimitedCounts.{IsNumber};
 ghost use Rattle.aadl_chains.specs.LinksFeedsAndTaps.{IsLink, OtherTarget};
 ghost use Rattle.aadl_chains.specs.proof.EnteredPortCountTables.{AreTakenBelow};
 ghost use Rattle.aadl_chains.specs.proof.EnteredThreadPorts.{EndsLink, IsLinkBelow, FromThread};
 
 use crate::InnerJoins;
-use crate::port_counts::PortCounts;
+use crate::entered_port_counts::PortCounts;
 use aadl_names::NumberedPort;
 use aadl_tree::Direction;
 use aadl_uses::marked_counts::add_up_to;
@@ -126,7 +126,12 @@ fn links_below(
 }
 
 // Those below its subcomponents.
-fn links_deeper(wires: &PackageConnections<'_>, counts: &[usize], number: usize, limit: usize) -> usize
+fn links_deeper(
+    wires: &PackageConnections<'_>,
+    counts: &[usize],
+    number: usize,
+    limit: usize,
+) -> usize
     requires { (s m : ℕ) → below (placed wires.now.uses.names.tree.now) number s ≡ Some m
         → IsNumber limit (EndsLink (placed wires.now.uses.names.tree.now) m) (slice_index counts.now m) }
     ensures { IsNumber limit (λ port. (s : ℕ) × IsLinkBelow (placed wires.now.uses.names.tree.now) number s port) result }
@@ -139,7 +144,12 @@ fn links_deeper(wires: &PackageConnections<'_>, counts: &[usize], number: usize,
 }
 
 // Those that its connections carry.
-fn links_carried(wires: &PackageConnections<'_>, ends: &LinkEnds<'_>, number: usize, limit: usize) -> usize
+fn links_carried(
+    wires: &PackageConnections<'_>,
+    ends: &LinkEnds<'_>,
+    number: usize,
+    limit: usize,
+) -> usize
     requires declared { ArePermitted (placed wires.now.uses.names.tree.now) }
     requires takes { AreTakenBelow (placed wires.now.uses.names.tree.now) limit ends.now.takes.now number }
     requires direction { ends.now.gives.now.direction ≡ directions.Out }

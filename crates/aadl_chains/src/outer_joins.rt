@@ -2,7 +2,7 @@
 ghost use Rattle.std.specs.Prelude.{◌≡◌, ◌↔◌, ℕ, IfOk, OnOk, IsTrue, Contains};
 ghost use Rattle.aadl_tree.specs.proof.PackageViews.{placed};
 ghost use Rattle.aadl_uses.specs.proof.PackageContainment.{containment};
-ghost use Rattle.aadl_uses.specs.Uses.{IsInUse};
+ghost use Rattle.aadl_uses.specs.ContainmentAndUse.{IsInUse};
 ghost use Rattle.aadl_uses.specs.proof.ContainmentOrders.{IsOrder};
 ghost use Rattle.aadl_chains.specs.proof.PortsJoinedInside.{IsInside};
 ghost use Rattle.aadl_chains.specs.proof.PortsJoinedOutside as spec;
@@ -218,7 +218,11 @@ fn leads_from(
 }
 
 // The port of a subcomponent that an end of a connection names.
-fn port_in(wires: &PackageConnections<'_>, number: usize, site: Option<NumberedPort>) -> Option<PortAt>
+fn port_in(
+    wires: &PackageConnections<'_>,
+    number: usize,
+    site: Option<NumberedPort>,
+) -> Option<PortAt>
     ensures { result ≡ spec.port_in (placed wires.now.uses.names.tree.now) number site }
 {
     match site {

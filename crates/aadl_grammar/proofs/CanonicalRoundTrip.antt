@@ -15,18 +15,18 @@ use Rattle.aadl_tree.specs.proof.PlaceMaps.{package_to, no_place}
 use Rattle.aadl_tree.specs.LanguagesAndNesting.{IsShallow}
 use Rattle.aadl_tree.specs.TextTreesAndFaults.{IsTreeOf}
 use Rattle.aadl_tree.specs.CanonicalText.{canon, canonical}
-use Rattle.aadl_tree.proofs.ConcatenatedSpellings.{written_spells, kept_spells}
+use Rattle.aadl_tree.proofs.SpellingParts.{written_spells, kept_spells}
 use Rattle.aadl_grammar.specs.proof.StackMachine.{whole_package}
 use Rattle.aadl_grammar.specs.proof.PlaceOrder.{Behind, Rising}
 use Rattle.aadl_grammar.proofs.PlaceIndependence.AlikeParts.{alike_kept}
 use Rattle.aadl_grammar.proofs.PlaceIndependence.Declarations.{package_alike}
 use Rattle.aadl_grammar.proofs.DerivationTrees.DerivationsAndMachineSteps.{Derives}
-use Rattle.aadl_grammar.proofs.UniquePlacedTrees.PackagesAndBehaviours.{one_placed_package}
+use Rattle.aadl_grammar.proofs.UniquePlacedTrees.OneTreeWithPlaces.{one_placed_package}
 use Rattle.aadl_grammar.proofs.UniquePlacedTrees.KeptTerminalTrees.{same_package}
 use Rattle.aadl_grammar.proofs.Fates.GrammarLanguages.{packages}
 use Rattle.aadl_grammar.specs.proof.CanonicalRoundTrip.{HasSameTree}
-use Rattle.aadl_grammar.proofs.AdjacentTerminals.{neighbours}
-use Rattle.aadl_grammar.proofs.KeptTerminalNesting.{kept_shallow}
+use Rattle.aadl_grammar.proofs.PackageAdjacency.{neighbours}
+use Rattle.aadl_grammar.proofs.CanonicalTextNesting.{kept_shallow}
 use Rattle.aadl_grammar.proofs.PossibleTerminals.{ArePossibleTerminals, kept_said}
 use Rattle.aadl_grammar.proofs.CanonicalTextLexing.{outer}
 use Rattle.aadl_grammar.proofs.PossibleLexedTerminals.{text_terminals_possible}

@@ -22,8 +22,8 @@ use Rattle.aadl_grammar.proofs.PossibleTerminals.{a_keyword, a_symbol, opens, cl
 use Rattle.aadl_grammar.proofs.TerminalRelexing.{Ends, Lexed, IsPlain, lexed}
 use Rattle.aadl_grammar.proofs.TerminalSeparation.{ends_behind}
 use Rattle.aadl_grammar.proofs.NoAnnexEnds.{close_past, kind_past, close_at}
-use Rattle.aadl_grammar.proofs.TextPieces.{line, is_gap, gap_blank, stands_within, drop_past, drop_cut, gap_skipped}
-use Rattle.aadl_grammar.proofs.TextPieces.{token_bytes, close_gap}
+use Rattle.aadl_grammar.proofs.TextPiecesAndGaps.{line, is_gap, gap_blank, stands_within, drop_past, drop_cut, gap_skipped}
+use Rattle.aadl_grammar.proofs.TextPiecesAndGaps.{token_bytes, close_gap}
 
 -- from a place outside on
 pub record Outer (r : Reading) (text : List ℕ) (at : ℕ) (ks : List PlainTerminal) : Type 0 where

@@ -21,8 +21,8 @@ use Rattle.aadl_grammar.proofs.LiteralAndAnnexLexing.{number_digits}
 use Rattle.aadl_grammar.proofs.PossibleTerminals.{IsPossibleTerminal, a_word, a_number, a_real, a_string, an_annex, a_keyword}
 use Rattle.aadl_grammar.proofs.PossibleTerminals.{a_symbol, opens, closes, behind, ArePossibleTerminals}
 use Rattle.aadl_grammar.proofs.NoAnnexEnds.{all_weaker, all_append}
-use Rattle.aadl_grammar.proofs.TextPieces.{is_gap, gap_blank}
-use Rattle.aadl_grammar.proofs.TerminalSpots.{word_is_text}
+use Rattle.aadl_grammar.proofs.TextPiecesAndGaps.{is_gap, gap_blank}
+use Rattle.aadl_grammar.proofs.TerminalViews.{word_is_text}
 
 abbrev low : ℕ → Bool
 low c = nat_lt c 128

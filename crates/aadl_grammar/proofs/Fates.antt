@@ -2,7 +2,7 @@
 -- behaviours.
 pub mod ProductionNesting
 pub mod StackNesting
-pub mod MachineWalks
+pub mod StackAfterTerminals
 pub mod FateRuns
 pub mod FateMeanings
 pub mod GrammarLanguages

@@ -1,5 +1,6 @@
--- Lists that are equal and not empty have equal heads and equal tails; a test and its negation do not both hold.
+-- Lists that are equal and not empty have equal heads and equal tails.
 use Rattle.std.proofs.Common.{◌≡◌, List, ◌∷◌}
+
 pub heads : {A : Type 0} (a b : A) (x y : List A) → a ∷ x ≡ b ∷ y → a ≡ b
 heads a b x y e = cc
 

@@ -7,16 +7,16 @@ pub mod Fates
 pub mod PlaceIndependence
 pub mod OneTerminalLookahead
 pub mod UniquePlacedTrees
-pub mod TerminalSpots
+pub mod TerminalViews
 pub mod WordAndSymbolLexing
 pub mod TopSymbolMoves
 pub mod PartSequences
-pub mod ListSteps
+pub mod ListLoop
 pub mod ReferenceLoop
 pub mod SignedQuantities
 pub mod ValueAndPropertyLists
 pub mod ListSymbols
-pub mod ListSections
+pub mod DeclarationSections
 mod KeywordListMembership
 mod ParseTableRoutes
 mod OnlyListedKeywords
@@ -27,14 +27,14 @@ pub mod TreeOrFault
 pub mod AdjacencyRules
 pub mod StackAdjacency
 pub mod ParseTableAdjacency
-pub mod AdjacentTerminals
-pub mod KeptTerminalNesting
+pub mod PackageAdjacency
+pub mod CanonicalTextNesting
 pub mod LiteralAndAnnexLexing
 pub mod PossibleTerminals
 pub mod TerminalRelexing
 pub mod TerminalSeparation
 pub mod NoAnnexEnds
-pub mod TextPieces
+pub mod TextPiecesAndGaps
 pub mod CanonicalTextLexing
 pub mod KeywordAndSymbolSpellings
 pub mod PossibleLexedTerminals

@@ -8,7 +8,7 @@ use Rattle.aadl_tree.specs.Terminals.{PlacedTerminal}
 use Rattle.aadl_tree.specs.SpellingParts.{SpellingPart, behind}
 use Rattle.aadl_grammar.specs.proof.GrammarSymbols.{Symbol}
 use Rattle.aadl_grammar.specs.proof.StackMachine.{Stack, depth, Fate, fate}
-use Rattle.aadl_grammar.specs.declared.reader.Reader.{Reader}
+use Rattle.aadl_grammar.specs.declared.parse_input.Reader.{Reader}
 use Rattle.aadl_grammar.specs.declared.parse_fault.ParseFault.{ParseFault}
 use Rattle.aadl_grammar.specs.proof.ParserAnswers.{here, Reads, RunsTo, Parses}
 use Rattle.aadl_grammar.specs.proof.ListAnswers.{Allows, with_mark, IsList, Answers, ItemsOf, Grows, ParsesMore}
@@ -19,7 +19,6 @@ pub spelled : {X Y : Type 0} (before : Option Mark) (f : Y → List (SpellingPar
 spelled (Some m) f g xs = sym (flat_map-map (behind m f) g xs)
 spelled None f g xs = sym (flat_map-map f g xs)
 
-
 -- a list with the function that reads its items
 abbrev pub items_of : {X Y : Type 0} {r : Reader} {before : Option Mark} {answers : Answers X} (f : Y → List (SpellingPart ℕ))
     (g : X → Y) (allowed : Option ℕ) (item list : Symbol) → IsList before item list
@@ -27,7 +26,6 @@ abbrev pub items_of : {X Y : Type 0} {r : Reader} {before : Option Mark} {answer
     → Parses r (Allows allowed) (item ∷ []) (λ x. f (g x)) at result) → ItemsOf r before answers
 items_of f g allowed item list lists each =
     record { item = item; list = list; lists = lists; parts = λ x. f (g x); allowed = allowed; each = each }
-
 
 -- what is read behind nothing is the whole list
 all_read : {X Y : Type 0} (before : Option Mark) (f : Y → List (SpellingPart ℕ)) (g : X → Y) (r : Reader) (old : List X)
@@ -38,7 +36,6 @@ all_read before f g r old at (Err e) n h = tt
 all_read before f g r old at (Ok y) n h =
     respelled (spelled before f g h.more
     ∙ ap (λ l. flat_map (with_mark before f) (map g l)) (sym (h.whole ∙ ap (λ l. l ++ h.more) n))) h.reads
-
 
 pub whole_list : {X Y : Type 0} {r : Reader} {before : Option Mark} {answers : Answers X} {old : List X} {at : ℕ}
     {result : Result (Vec X × ℕ) ParseFault} (f : Y → List (SpellingPart ℕ)) (g : X → Y) (allowed : Option ℕ)
@@ -51,7 +48,6 @@ whole_list {X} {Y} {r} {before} {answers} {old} {at} {result} f g allowed item l
     let of : ItemsOf r before answers = items_of f g allowed item list lists each in
     record { runs = p.runs of; reads = all_read before f g r old at result n (p.reads of) }
 
-
 -- what is read behind a first item is the rest of the list
 rest_read : {X : Type 0} (parts : X → List (SpellingPart ℕ)) (r : Reader) (old : List X) (first : X) (at mid : ℕ)
     (whole : List X → List (SpellingPart ℕ)) (result : Result (Vec X × ℕ) ParseFault) → old ≡ first ∷ []
@@ -62,7 +58,6 @@ rest_read : {X : Type 0} (parts : X → List (SpellingPart ℕ)) (r : Reader) (o
 rest_read parts r old first at mid whole (Err e) n k h = tt
 rest_read parts r old first at mid whole (Ok y) n k h =
     respelled (ap whole (sym (h.whole ∙ ap (λ l. l ++ h.more) n))) (k h.more (here r y.1) h.reads)
-
 
 pub list_from : {X : Type 0} {r : Reader} {before : Option Mark} {answers : Answers X} {old : List X} {at mid : ℕ}
     {wanted : Stack} {result : Result (Vec X × ℕ) ParseFault} (of : ItemsOf r before answers) (first : X)
@@ -82,14 +77,12 @@ list_from {X} {r} {before} {answers} {old} {at} {mid} {wanted} {result} of first
   reads = rest_read (with_mark before of.parts) r old first at mid whole result n reading (p.reads of);
 }
 
-
 -- what a call answered, written otherwise
 pub same_answer : {X : Type 0} {r : Reader} {Allowed : ℕ → Type 0} {wanted : Stack} {parts : X → List (SpellingPart ℕ)} {at : ℕ}
     {found result : Result (X × ℕ) ParseFault} → Parses r Allowed wanted parts at found → result ≡ found
     → Parses r Allowed wanted parts at result
 same_answer {X} {r = r} {Allowed = Allowed} {wanted = wanted} {parts = parts} {at = at} p e =
     subst (λ (y : Result (X × ℕ) ParseFault). Parses r Allowed wanted parts at y) (sym e) p
-
 
 -- the same answer, whose parts are written otherwise
 read_so : {X : Type 0} {p q : X → List (SpellingPart ℕ)} (r : Reader) (at : ℕ) (result : Result (X × ℕ) ParseFault)
@@ -98,13 +91,11 @@ read_so : {X : Type 0} {p q : X → List (SpellingPart ℕ)} (r : Reader) (at : 
 read_so r at (Err e) same a = tt
 read_so r at (Ok y) same a = respelled (same y.0) a
 
-
 pub respelled_answer : {X : Type 0} {r : Reader} {Allowed : ℕ → Type 0} {wanted : Stack} {p q : X → List (SpellingPart ℕ)}
     {at : ℕ} {result : Result (X × ℕ) ParseFault} → ((x : X) → p x ≡ q x) → Parses r Allowed wanted p at result
     → Parses r Allowed wanted q at result
 respelled_answer {r = r} {at = at} {result = result} same a =
     record { runs = a.runs; reads = read_so r at result same a.reads }
-
 
 -- an item takes a terminal
 pub item_advances : {X : Type 0} {r : Reader} (Allowed : ℕ → Type 0) (wanted : Stack) (parts : X → List (SpellingPart ℕ))

@@ -1,4 +1,4 @@
--- The lists of the grammar, and what a function answers that reads one. For the proofs of parsers.
+-- The symbols that stand for lists in the grammar: each is a list of its items. For the proofs of parsers.
 use Rattle.std.proofs.Common.{◌≡◌, ℕ, ◌+◌, ◌≤◌, true, false, cond, ◌∙◌, sym, ap, subst, refl, List, [], ◌∷◌, ◌++◌}
 use Rattle.std.proofs.Common.{arith}
 use Rattle.std.specs.Prelude.{Some, None}

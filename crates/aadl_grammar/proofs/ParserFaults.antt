@@ -3,7 +3,7 @@ use Rattle.std.proofs.Common.{◌≡◌, ℕ, ◌∙◌, sym, subst}
 use Rattle.std.specs.Prelude.{Result, Ok, Err, IfOk}
 use Rattle.std.specs.Result.{IsErrAnd}
 use Rattle.aadl_grammar.specs.proof.StackMachine.{Stack, Fate, deep_at}
-use Rattle.aadl_grammar.specs.declared.reader.Reader.{Reader}
+use Rattle.aadl_grammar.specs.declared.parse_input.Reader.{Reader}
 use Rattle.aadl_grammar.specs.declared.parse_fault.ParseFault.{ParseFault}
 use Rattle.aadl_grammar.specs.declared.parse_fault.ParseFault.TheVariants.{Memory, Syntax, TooDeep}
 use Rattle.aadl_grammar.specs.proof.ParserAnswers.{FailsAs, RunsTo}
@@ -14,19 +14,16 @@ along a b Memory h f = tt
 along a b (Syntax at) h f = h ∙ f
 along a b (TooDeep at) h f = h ∙ f
 
-
 -- the exits by `?`
 pub exits : {X : Type 0} (next : X → ℕ) (r : Reader) (outer : ℕ) (below : Stack) (was : Fate) (e : ParseFault)
     (result : Result X ParseFault) → IsErrAnd result (λ y. y ≡ e) → FailsAs was e → RunsTo next r outer below was result
 exits next r outer below was e (Ok x) h g = absurd h
 exits next r outer below was e (Err y) h g = subst (λ (z : ParseFault). FailsAs was z) (sym h) g
 
-
 pub no_reads : {X : Type 0} (P : X → Type 0) (e : ParseFault) (result : Result X ParseFault)
     → IsErrAnd result (λ y. y ≡ e) → IfOk result P
 no_reads P e (Ok x) h = absurd h
 no_reads P e (Err y) h = tt
-
 
 -- an opener for which there is no room
 pub too_deep : (was : Fate) (at : ℕ) (e : ParseFault) → e ≡ TooDeep at → was ≡ deep_at at → FailsAs was e

@@ -7,7 +7,7 @@ use Rattle.aadl_tree.specs.Terminals.{PlainTerminal, mark, word, PlacedTerminal}
 use Rattle.aadl_tree.specs.SpellingParts.{SpellingPart, token, may, extra_kinds, HaveKinds, Written, marked_if}
 use Rattle.aadl_tree.specs.TerminalFaults.{place}
 use Rattle.aadl_tree.specs.Names.{Identifier, identifier_parts}
-use Rattle.aadl_tree.proofs.ConcatenatedSpellings.{written_append}
+use Rattle.aadl_tree.proofs.SpellingParts.{written_append}
 use Rattle.aadl_grammar.specs.proof.ParserAnswers.{spot, At, AtMark, AtWord, IsMarked, Reads}
 
 pub nothing : {ss : List PlacedTerminal} → Reads [] ss ss

@@ -25,7 +25,7 @@ use Rattle.aadl_lex.specs.Rules.{symbol_len, symbol_first, first, after, IsWithi
 use Rattle.aadl_lex.specs.Tokens.{token, Lexes, ended, skips, takes, reads, Faults, refused, past_skipped, past_token}
 use Rattle.aadl_lex.specs.Tokens.{in_body, past_body, not_utf8, not_lexed}
 use Rattle.aadl_lex.proofs.TokenOrder.{stands_within}
-use Rattle.aadl_grammar.specs.proof.TextOutcomes.{HasTokens, HasLexFault}
+use Rattle.aadl_grammar.specs.proof.TokensTreesAndFaults.{HasTokens, HasLexFault}
 
 -- ---- no rule gives the fault `Memory`
 abbrev IsNamed : First → Type 0

@@ -1,5 +1,4 @@
--- What the symbol on top of the stack does at the first terminal: it takes it, is left out, or no text goes on. And
--- the ends of the parts of a parser. For the proofs of parsers.
+-- What the symbol on top of the stack does at the first terminal: it takes it, is left out, or no text goes on.
 use Rattle.std.proofs.Common.{◌≡◌, ℕ, ◌+◌, ◌<◌, ◌≤◌, Bool, true, false, cond, ◌∙◌, sym, ap, subst, refl, List, [], ◌∷◌}
 use Rattle.std.proofs.Common.{◌++◌, ◌==◌, inl, inr}
 use Rattle.std.proofs.lemmas.Bool.{or_cases, or_parts, false_from_ne_true}

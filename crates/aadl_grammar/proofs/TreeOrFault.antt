@@ -12,7 +12,7 @@ use Rattle.aadl_grammar.proofs.PlaceIndependence.AlikeParts.{alike_spells}
 use Rattle.aadl_grammar.proofs.PlaceIndependence.Declarations.{package_alike}
 use Rattle.aadl_grammar.proofs.Fates.Answers.{answers_text, answers_fault, answers_depth}
 use Rattle.aadl_grammar.proofs.Fates.GrammarLanguages.{packages}
-use Rattle.aadl_grammar.specs.proof.TextOutcomes.{HasTokens, HasLexFault, HasTree, Stops, NestsTooDeep}
+use Rattle.aadl_grammar.specs.proof.TokensTreesAndFaults.{HasTokens, HasLexFault, HasTree, Stops, NestsTooDeep}
 use Rattle.aadl_grammar.proofs.TokensOrFault.{tokens_or_fault}
 use Rattle.aadl_grammar.proofs.PlaceFilling.FilledTrees.{U}
 use Rattle.aadl_grammar.proofs.PlaceFilling.Declarations.{package_fill}

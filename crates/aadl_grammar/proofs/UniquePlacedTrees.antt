@@ -1,6 +1,6 @@
 -- A tree is fixed by itself without places and by its places. For the claim that tokens spell one tree with places.
 pub mod PlaceCounts
-pub mod PlaceOrder
+pub mod PlacesFromTokens
 pub mod Names
 pub mod Values
 pub mod Expressions
@@ -8,6 +8,6 @@ pub mod Actions
 pub mod Annexes
 pub mod DeclarationMembers
 pub mod Declarations
-pub mod PackagesAndBehaviours
+pub mod OneTreeWithPlaces
 pub mod MovedTrees
 pub mod KeptTerminalTrees

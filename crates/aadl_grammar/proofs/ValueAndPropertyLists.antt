@@ -16,7 +16,7 @@ use Rattle.aadl_grammar.specs.proof.GrammarSymbols.{a_word, a_quoted, Row}
 use Rattle.aadl_grammar.specs.proof.GrammarSymbols as s
 use Rattle.aadl_grammar.specs.proof.StackMachine.{Stack}
 use Rattle.aadl_grammar.specs.proof.ParseTable.{by, on}
-use Rattle.aadl_grammar.specs.declared.reader.Reader.{Reader}
+use Rattle.aadl_grammar.specs.declared.parse_input.Reader.{Reader}
 use Rattle.aadl_grammar.specs.declared.parse_fault.ParseFault.{ParseFault}
 use Rattle.aadl_grammar.specs.proof.ParserAnswers.{spot, At, AtMark, StartsWord, Reads, Parses, AnyRoom, Room}
 use Rattle.aadl_grammar.proofs.PartSequences.{nothing, then, marked, respelled, regroup, begun}

@@ -4,11 +4,11 @@ pub mod ParseTable
 pub mod StackMachine
 pub mod MovedPackages
 pub mod ExampleTerminals
-pub mod TerminalSpots
+pub mod TerminalViews
 pub mod ParserAnswers
 pub mod ListAnswers
 pub mod ReachableKeywords
-pub mod TextOutcomes
+pub mod TokensTreesAndFaults
 pub mod CanonicalRoundTrip
 pub mod SymbolTrees
 pub mod PlaceOrder

@@ -1,4 +1,5 @@
-//! Laws of the machine. Each function does nothing; its contract is proved.
+//! Laws of the grammar's stack machine: where it stops on terminals, and that terminals spell one tree at most. Each
+//! function does nothing; its contract is proved.
 ghost use Rattle.std.specs.Prelude.{◌≡◌, ◌↔◌, ◌+◌, ℕ, List, [], ◌∷◌, map};
 ghost use Rattle.aadl_tree.specs.declared.nesting_limit.TheConstants.{GREATEST_NESTING};
 ghost use Rattle.aadl_tree.specs.Terminals.{PlainTerminal, mark, PlacedTerminal, kinds_of};
@@ -8,7 +9,7 @@ ghost use Rattle.aadl_tree.specs.Annexes.{AnnexTree, annex_tree_parts};
 ghost use Rattle.aadl_tree.specs.Declarations.{PackageTree, package_parts};
 ghost use Rattle.aadl_tree.specs.LanguagesAndNesting.{nesting, IsPackage, IsBehaviour, IsShallow};
 ghost use Rattle.aadl_tree.specs.TerminalFaults.{FailsAt, DeepAt};
-ghost use Rattle.aadl_tree.specs.proof.ExampleTransition.{counting_kinds};
+ghost use Rattle.aadl_tree.specs.proof.ExampleSpellings.{counting_kinds};
 ghost use Rattle.aadl_grammar.specs.proof.GrammarSymbols.{Symbol};
 ghost use Rattle.aadl_grammar.specs.proof.GrammarSymbols as s;
 ghost use Rattle.aadl_grammar.specs.proof.ParseTable.{rows, Decides};

@@ -10,21 +10,21 @@
 //! meets. Room says how many more openers may be open.
 #![tactic(auto)]
 
-pub mod canon_laws;
+pub mod canonical_text_laws;
 pub mod fate_and_uniqueness_laws;
 pub mod keyword_laws;
 mod lists;
 mod names;
 mod parse_fault;
-mod reader;
+mod parse_input;
 mod single_terminals;
 mod terminal;
-pub mod text_laws;
+pub mod tree_or_fault_laws;
 mod values;
 
 pub use lists::{followers, section};
 pub use names::{dot_identifier, identifier, identifiers, name, path, reference};
 pub use parse_fault::ParseFault;
-pub use reader::{Parsed, Reader};
+pub use parse_input::{Parsed, Reader};
 pub use terminal::{Terminal, TerminalClass, narrow, resolve};
 pub use values::{association, properties};

@@ -7,7 +7,7 @@ ghost use Rattle.aadl_grammar.specs.proof.ParserAnswers.{here, Parses};
 ghost use Rattle.aadl_grammar.specs.proof.ListAnswers.{Allows, Follows, NoneFollows, IsSection, Advances, ItemsOf};
 ghost use Rattle.aadl_grammar.specs.proof.ListAnswers.{ParsesMore};
 
-use crate::reader::{Parsed, Reader};
+use crate::parse_input::{Parsed, Reader};
 use aadl_tree::Mark;
 
 /// Where the next item begins: behind its mark, or, where items have no mark before them, at a word.

@@ -1,4 +1,4 @@
-//! Names and references.
+//! Parses names, paths and references.
 ghost use Rattle.std.specs.Prelude.{[], ◌∷◌, map, flat_map, option_map, Some};
 ghost use Rattle.aadl_tree.specs.declared.mark.Mark.TheVariants as k;
 ghost use Rattle.aadl_tree.specs.SpellingParts.{behind, parts_if};
@@ -13,7 +13,7 @@ ghost use Rattle.aadl_grammar.specs.proof.ListAnswers.{IsList};
 
 use crate::lists::followers;
 use crate::parse_fault::ParseFault;
-use crate::reader::{Parsed, Reader};
+use crate::parse_input::{Parsed, Reader};
 use aadl_tree::{Identifier, Identifiers, Mark, Name, Path, Reference};
 
 /// `id`

@@ -1,4 +1,5 @@
-//! The terminal at a place, by its class.
+//! Reads the terminal at a place: a given keyword or symbol, a word, a number, a string or an annex that is not
+//! read.
 ghost use Rattle.std.specs.Prelude.{◌≡◌, [], true, MatchOption, MatchBool, IfOk, IfErr, string_bytes};
 ghost use Rattle.aadl_tree.specs.TerminalFaults as grammar;
 ghost use Rattle.aadl_tree.specs.Terminals.{whole, real, quoted, unread};
@@ -9,12 +10,12 @@ ghost use Rattle.aadl_grammar.specs.proof.ParseTable.{rows};
 ghost use Rattle.aadl_tree.specs.Values.{sign_mark};
 ghost use Rattle.aadl_grammar.specs.proof.GrammarSymbols.{a_word, a_whole, a_real, a_quoted, an_unread, the};
 ghost use Rattle.aadl_grammar.specs.declared.parse_fault.ParseFault.TheVariants.{Memory};
-ghost use Rattle.aadl_grammar.specs.proof.TerminalSpots.{between, is_word_at};
+ghost use Rattle.aadl_grammar.specs.proof.TerminalViews.{between, is_word_at};
 ghost use Rattle.aadl_grammar.specs.proof.ParserAnswers.{here, IsFirst, AtMark, AtWord, At, Misses, StartsWord};
 ghost use Rattle.aadl_grammar.specs.proof.ParserAnswers.{Expects, MissAll, IsMarked, Deepens};
 
 use crate::parse_fault::ParseFault;
-use crate::reader::Reader;
+use crate::parse_input::Reader;
 use crate::terminal::{Terminal, TerminalClass, between};
 use aadl_tree::{Identifier, Mark, Sign};
 use std::str;

@@ -4,7 +4,7 @@ ghost use Rattle.aadl_lex.specs.proof.TokenSpellings.{IsWordAt};
 ghost use Rattle.aadl_lex.specs.Tokens.{bytes_of};
 ghost use Rattle.aadl_lex.specs.declared.token.TokenKind.TheVariants as class;
 ghost use Rattle.aadl_tree.specs.Terminals.{spots_from, kind_of};
-ghost use Rattle.aadl_grammar.specs.proof.TerminalSpots.{between, kind_with, spots_of, AreWords};
+ghost use Rattle.aadl_grammar.specs.proof.TerminalViews.{between, kind_with, spots_of, AreWords};
 ghost use Rattle.aadl_grammar.specs.declared.terminal.TerminalClass.TheVariants as t;
 
 use aadl_lex::{Token, TokenKind};

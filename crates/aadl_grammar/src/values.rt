@@ -1,4 +1,4 @@
-//! Properties and their values.
+//! Parses properties and their values.
 ghost use Rattle.std.specs.Prelude.{[], ◌∷◌, ◌++◌, flat_map, map, option_map};
 ghost use Rattle.aadl_tree.specs.declared.mark.Mark.TheVariants as k;
 ghost use Rattle.aadl_tree.specs.SpellingParts.{behind, parts_if, plain};
@@ -17,7 +17,7 @@ ghost use Rattle.aadl_grammar.specs.proof.ParserAnswers.{here, MissAll, Parses, 
 use crate::lists::followers;
 use crate::names::{name, path, reference};
 use crate::parse_fault::ParseFault;
-use crate::reader::{Parsed, Reader};
+use crate::parse_input::{Parsed, Reader};
 use aadl_tree::{
     Association, AssociationOperator, Identifier, Mark, Number, Path, Quantity, Reference,
     UnsignedNumber, Value,

@@ -15,7 +15,7 @@ use Rattle.aadl_chains.specs.proof.TracedChains.{begin_port, carried_chain, IsOf
 use Rattle.aadl_chains.specs.proof.TracedChains.{TracesTap}
 use Rattle.aadl_instance.specs.declared.chain.Chain.{Chain}
 use Rattle.aadl_instance.specs.declared.chain_search.Incoming.{Incoming}
-use Rattle.aadl_instance.specs.Instances.{chain_in}
+use Rattle.aadl_instance.specs.InstancesByNumbers.{chain_in}
 use Rattle.aadl_instance.specs.proof.ChainsSoFar.{HasPort, IsChainStart, AreInto, AreTapsTo, with_chain}
 use Rattle.aadl_instance.proofs.DeclaredEndPorts.{begins_there}
 use Rattle.aadl_instance.proofs.ChainsSoFar.{into_skip, into_link, into_feed, in_by, taps_more, taps_skip, not_root}

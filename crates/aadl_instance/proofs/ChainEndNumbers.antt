@@ -9,14 +9,14 @@ use Rattle.std.proofs.lemmas.List.Folds.{fold-map}
 use Rattle.std.proofs.lemmas.Option.{none-some, slice_get-map, slice_get_read, slice_get_within, get_or_from_slice_get}
 use Rattle.list_lemmas.proofs.ElementPositions.{position_from-at}
 use Rattle.pals_base.specs.declared.limits.TheConstants.{PORTS}
-use Rattle.pals_base.specs.declared.values.NodeNo.{NodeNo}
+use Rattle.pals_base.specs.declared.basic_types.NodeNo.{NodeNo}
 use Rattle.aadl_tree.specs.declared.declarations.Feature as source
 use Rattle.aadl_tree.specs.Declarations.{Feature, PackageTree}
 use Rattle.aadl_tree.specs.proof.PlaceMaps.{kept_place}
 use Rattle.aadl_tree.specs.proof.DeclarationViews.{feature_view}
 use Rattle.aadl_uses.specs.ThreadsBelow.{path_before, IsThreadAt, PathBefore}
 use Rattle.aadl_names.specs.ReferenceResolution.{ports_at, ports_of, implementation_at}
-use Rattle.aadl_uses.specs.Uses.{number_at_path, component_at}
+use Rattle.aadl_uses.specs.ContainmentAndUse.{number_at_path, component_at}
 use Rattle.aadl_uses.specs.ThreadLocations.{ThreadWith}
 use Rattle.aadl_uses.proofs.PathOrder.{never_before}
 use Rattle.aadl_chains.specs.proof.PortsJoinedInside.{is_thread_at}
@@ -25,7 +25,7 @@ use Rattle.aadl_chains.proofs.SamePaths.{same_path-true, same_path-self}
 use Rattle.aadl_chains.specs.LinksFeedsAndTaps.{same_path}
 use Rattle.aadl_instance.specs.declared.chain.ChainEnd.TheVariants.{Thread}
 use Rattle.aadl_instance.specs.proof.ChainsSoFar.{paths_of}
-use Rattle.aadl_instance.specs.Instances.{same_direction, node_at, goes_as, number_among, port_number, end_in}
+use Rattle.aadl_instance.specs.InstancesByNumbers.{same_direction, node_at, goes_as, number_among, port_number, end_in}
 
 -- ---- the number of a thread
 pub node_is : (paths : List (List ℕ)) (node : NodeNo) (path : List ℕ) → AllPairs PathBefore paths

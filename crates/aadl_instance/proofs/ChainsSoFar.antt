@@ -11,7 +11,7 @@ use Rattle.list_lemmas.proofs.ElementPositions.{slice_get-from_Contains}
 use Rattle.aadl_uses.specs.ThreadsBelow.{path_before, Lists, IsThreadAt, PathBefore}
 use Rattle.aadl_tree.specs.Declarations.{PackageTree}
 use Rattle.aadl_names.specs.ReferenceResolution.{ports_at, implementation_at}
-use Rattle.aadl_uses.specs.Uses.{number_at_path, component_at}
+use Rattle.aadl_uses.specs.ContainmentAndUse.{number_at_path, component_at}
 use Rattle.aadl_chains.specs.proof.PortsJoinedInside.{is_thread_at}
 use Rattle.aadl_chains.specs.Chains.{Port, is_in, IsEnd}
 use Rattle.aadl_chains.proofs.ConnectionsOnChains.{thread_from}
@@ -19,7 +19,7 @@ use Rattle.aadl_chains.proofs.SamePaths.{same_path-self}
 use Rattle.aadl_chains.specs.LinksFeedsAndTaps.{CarriedChain, IsLink, IsFeed, IsTap, same_path, TargetBefore, PortBefore}
 use Rattle.aadl_instance.specs.declared.chain.Chain.{Chain}
 use Rattle.aadl_instance.specs.declared.chain_search.Incoming.{Incoming}
-use Rattle.aadl_instance.specs.Instances.{chain_in}
+use Rattle.aadl_instance.specs.InstancesByNumbers.{chain_in}
 use Rattle.aadl_instance.specs.proof.ChainsSoFar.{HasPort, AreShown, IsPassed, AreInto, AreTapsTo}
 use Rattle.aadl_instance.proofs.OrderedLists.{lists_same, lists_more, lists_none}
 use Rattle.aadl_instance.proofs.DeclaredEndPorts.{in_within, ends_there}

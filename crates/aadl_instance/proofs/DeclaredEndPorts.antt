@@ -9,12 +9,12 @@ use Rattle.list_lemmas.proofs.Options.{option_map-parts}
 use Rattle.list_lemmas.proofs.ElementPositions.{position_from-within}
 use Rattle.aadl_tree.specs.Names.{Identifier}
 use Rattle.aadl_tree.specs.Declarations.{Feature, Subcomponent, ConnectionEnd, Implementation, PackageTree}
-use Rattle.aadl_names.specs.declared.port_place.NumberedPort.{NumberedPort}
-use Rattle.aadl_names.specs.declared.port_place.NumberedPort.TheVariants.{Own, Inner}
+use Rattle.aadl_names.specs.declared.numbered_port.NumberedPort.{NumberedPort}
+use Rattle.aadl_names.specs.declared.numbered_port.NumberedPort.TheVariants.{Own, Inner}
 use Rattle.aadl_names.specs.PackageFaults.{goes_in}
 use Rattle.aadl_names.specs.ReferenceResolution.{implementation_at, referred, target_of, ports_at, ports_of, port_named}
 use Rattle.aadl_names.specs.ReferenceResolution.{sub_named, inner_ports, inner_end_port, end_port_by, end_port, subcomponents_of}
-use Rattle.aadl_uses.specs.Uses.{below, number_at_path, component_at}
+use Rattle.aadl_uses.specs.ContainmentAndUse.{below, number_at_path, component_at}
 use Rattle.aadl_chains.specs.Chains.{Port, ConnectionAt, port_at, Goes, Leads}
 use Rattle.aadl_instance.specs.proof.ChainsSoFar.{HasPort}
 

@@ -8,7 +8,7 @@ use Rattle.pals_base.specs.declared.limits.TheConstants.{COMPONENTS}
 use Rattle.aadl_tree.specs.Declarations.{PackageTree}
 use Rattle.aadl_names.specs.declared.fault.PackageFault.TheVariants.{TooMany}
 use Rattle.aadl_names.specs.ReferenceResolution.{root_number}
-use Rattle.aadl_uses.specs.Uses.{number_at_path}
+use Rattle.aadl_uses.specs.ContainmentAndUse.{number_at_path}
 use Rattle.aadl_uses.specs.ThreadsBelow.{Lists, IsThreadAt, PathBefore}
 use Rattle.aadl_uses.specs.declared.thread_locations.ThreadAt.{ThreadAt}
 use Rattle.aadl_uses.specs.ThreadLocations.{thread_at}
@@ -20,7 +20,7 @@ use Rattle.aadl_instance.specs.proof.CheckedPackages.{IsChecked}
 use Rattle.aadl_instance.proofs.FaultPrecedence.{root_silent}
 use Rattle.aadl_instance.proofs.Roots.{root_no_thread}
 use Rattle.aadl_instance.specs.declared.chain.Chain.{Chain}
-use Rattle.aadl_instance.specs.Instances.{IsInstance}
+use Rattle.aadl_instance.specs.InstancesByNumbers.{IsInstance}
 use Rattle.aadl_instance.specs.proof.ChainsSoFar.{paths_of, IsSettled, AreShown}
 use Rattle.aadl_instance.proofs.ChainsSoFar.{thread_listed}
 use Rattle.aadl_instance.proofs.ChainEndNumbers.{path_got, stands}

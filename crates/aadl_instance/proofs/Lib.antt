@@ -1,4 +1,4 @@
-pub mod LimitedWordCounts
+pub mod DeclaredNameCounts
 pub mod ThreadsInUse
 pub mod PathLengths
 pub mod FaultPrecedence

@@ -9,15 +9,15 @@ use Rattle.std.proofs.lemmas.Option.{none-some, same_Some, option_and_then_some}
 use Rattle.pals_base.specs.declared.limits.TheConstants.{PATH_BYTES}
 use Rattle.aadl_tree.specs.Declarations.{Subcomponent, Declaration, Implementation, PackageTree}
 use Rattle.aadl_names.specs.ReferenceResolution.{implementation_in, implementation_at, subcomponents_of, referred}
-use Rattle.aadl_uses.specs.Uses.{sub_at, below, number_at_path}
+use Rattle.aadl_uses.specs.ContainmentAndUse.{sub_at, below, number_at_path}
 use Rattle.aadl_uses.specs.proof.PackageContainment.{containment}
 use Rattle.aadl_uses.specs.proof.ThreadCounts.{thread_marks}
 use Rattle.aadl_uses.proofs.PackageContainment.{below-same}
 use Rattle.aadl_uses.proofs.ThreadCounts.{thread_from, marked_from}
 use Rattle.aadl_uses.specs.proof.ContainmentGraphs.{below_in}
 use Rattle.aadl_uses.specs.proof.MarkedPathCounts.{stands_at, IsMarkedAt}
-use Rattle.aadl_uses.specs.proof.PathWeights as weights
-use Rattle.aadl_uses.specs.proof.PathWeights.{path_weight, IsGreatest, IsGreatestOf, IsHeaviest}
+use Rattle.aadl_uses.specs.proof.HeaviestPaths as weights
+use Rattle.aadl_uses.specs.proof.HeaviestPaths.{path_weight, IsGreatest, IsGreatestOf, IsHeaviest}
 use Rattle.aadl_uses.specs.ThreadLocations.{name_at, names_along, dotted_names, spelled_path, ThreadWith}
 use Rattle.aadl_instance.specs.proof.PathLengths.{weight_of, weights_in, name_weights, is_over}
 

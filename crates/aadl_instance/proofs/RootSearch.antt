@@ -10,11 +10,9 @@ use Rattle.aadl_instance.proofs.Roots.{and_true}
 pub system_spelled : (a b c : Bool) → a ≡ true → c ≡ b → c ≡ (a && b)
 system_spelled a b c e f = f ∙ and_true a b e
 
-
 pub no_system : (a b : Bool) → a ≡ false → false ≡ (a && b)
 no_system true b e = absurd (true≢false e)
 no_system false b e = refl
-
 
 module _ {X : Type 0} (test : X → Bool) (xs : List X) (i : ℕ) where
   here_or_next : (x : X) → i < length xs

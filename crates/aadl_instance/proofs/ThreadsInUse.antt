@@ -6,7 +6,7 @@ use Rattle.std.proofs.lemmas.Bool.{true≢false}
 use Rattle.std.proofs.lemmas.Option.{option_and_then_some, slice_get_within}
 use Rattle.aadl_tree.specs.Declarations.{Implementation, Declaration, PackageTree}
 use Rattle.aadl_names.specs.ReferenceResolution.{implementation_in, implementation_at}
-use Rattle.aadl_uses.specs.Uses.{number_at_path, IsInUse}
+use Rattle.aadl_uses.specs.ContainmentAndUse.{number_at_path, IsInUse}
 use Rattle.aadl_uses.specs.proof.ThreadCounts.{is_thread_in}
 use Rattle.aadl_uses.specs.ThreadLocations.{ThreadWith}
 use Rattle.aadl_instance.specs.declared.thread_limits.ThreadPart.{ThreadPart}

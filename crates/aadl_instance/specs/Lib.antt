@@ -1,5 +1,5 @@
 pub mod BehaviourSizes
 pub mod Faults
-pub mod FlattenedDesign
-pub mod Instances
+pub mod InstancesByPaths
+pub mod InstancesByNumbers
 pub mod proof

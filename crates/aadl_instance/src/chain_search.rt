@@ -9,7 +9,7 @@ ghost use Rattle.aadl_instance.specs.proof.ChainsSoFar.{HasPort, IsChainStart};
 
 use crate::chain::{Chain, ChainEnd, ConnectionAt};
 use crate::chain_map::{ChainMap, NumberedThread};
-use crate::numbered_ends::{start_end, node_end, root_end};
+use crate::numbered_ends::{node_end, root_end, start_end};
 use aadl_chains::{ChainRoute, ChainStart, trace_back, trace_tap};
 use aadl_uses::standing;
 use pals_base::{Items, NodeNo};

@@ -16,7 +16,7 @@ use crate::root::root_number;
 use aadl_chains::first_end_fault;
 use aadl_names::{Names, PackageFault};
 use aadl_tree::PackageTree;
-use aadl_uses::{Uses, PackageConnections, first_recursive};
+use aadl_uses::{PackageConnections, Uses, first_recursive};
 use indexmap::IndexSet;
 use name_faults::first_name_fault;
 use pals_base::Text;

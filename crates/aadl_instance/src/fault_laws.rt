@@ -4,7 +4,7 @@ ghost use Rattle.aadl_tree.specs.Declarations.{PackageTree};
 ghost use Rattle.aadl_names.specs.declared.fault.PackageFault.{PackageFault};
 ghost use Rattle.aadl_names.specs.FirstFaults.{place_of, number_of};
 ghost use Rattle.aadl_instance.specs.Faults.{IsFault};
-ghost use Rattle.aadl_instance.specs.FlattenedDesign.{IsFlat, InstanceParts};
+ghost use Rattle.aadl_instance.specs.InstancesByPaths.{IsFlat, InstanceParts};
 
 /// A package has a flattened design or a first fault, and not both.
 pub fn not_both()

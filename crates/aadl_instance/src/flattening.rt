@@ -5,7 +5,7 @@ ghost use Rattle.aadl_names.specs.declared.fault.PackageFault.TheVariants.{Memor
 ghost use Rattle.aadl_names.specs.ReferenceResolution.{root_number};
 ghost use Rattle.aadl_instance.specs.Faults.{IsFault};
 ghost use Rattle.aadl_instance.specs.proof.CheckedPackages.{IsChecked};
-ghost use Rattle.aadl_instance.specs.Instances.{IsInstance};
+ghost use Rattle.aadl_instance.specs.InstancesByNumbers.{IsInstance};
 
 use crate::chain_map::ChainMap;
 use crate::chain_search::{incoming_of, taps_of};

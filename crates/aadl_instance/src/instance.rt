@@ -1,9 +1,9 @@
 //! The instance of a package.
 ghost use Rattle.aadl_tree.specs.proof.PackageViews.{placed};
-ghost use Rattle.aadl_instance.specs.Instances.{IsInstance};
+ghost use Rattle.aadl_instance.specs.InstancesByNumbers.{IsInstance};
 
 use crate::chain::Chain;
-use aadl_uses::{ThreadAt, PackageConnections};
+use aadl_uses::{PackageConnections, ThreadAt};
 use pals_base::Items;
 
 /// The instance of a package below one root. Its type keeps that the package has no fault, and that

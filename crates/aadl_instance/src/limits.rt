@@ -3,9 +3,9 @@ ghost use Rattle.std.specs.Prelude.{◌≡◌, ◌↔◌, ◌<◌, ℕ, false, l
 ghost use Rattle.aadl_tree.specs.proof.PackageViews.{placed};
 ghost use Rattle.aadl_names.specs.declared.fault.PackageFault.{PackageFault};
 ghost use Rattle.aadl_uses.specs.proof.PackageContainment.{containment};
-ghost use Rattle.aadl_uses.specs.Uses.{IsInUse};
+ghost use Rattle.aadl_uses.specs.ContainmentAndUse.{IsInUse};
 ghost use Rattle.aadl_chains.specs.ChainFaults.{IsEndFault};
-ghost use Rattle.aadl_chains.specs.proof.DeclaredEnds.{ArePermitted};
+ghost use Rattle.aadl_chains.specs.proof.PermittedConnections.{ArePermitted};
 ghost use Rattle.aadl_uses.specs.proof.ContainmentOrders.{IsOrder};
 ghost use Rattle.aadl_chains.specs.proof.PortsJoinedInside.{is_thread_at};
 ghost use Rattle.aadl_instance.specs.proof.Limits as spec;

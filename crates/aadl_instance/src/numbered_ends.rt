@@ -1,8 +1,9 @@
-//! Ends of chains, as an instance shows them.
+//! The ends of chains with their threads and ports as numbers, and the map of threads, paths and port numbers that
+//! they are made by.
 ghost use Rattle.std.specs.Prelude.{◌≡◌, ◌≤◌, Some, [], length, reverse, slice_get, AllPairs, Contains, IfOk};
 ghost use Rattle.aadl_uses.specs.ThreadsBelow.{path_before, IsThreadAt, PathBefore};
 ghost use Rattle.aadl_chains.specs.proof.TracedChains.{begin_port};
-ghost use Rattle.aadl_instance.specs.Instances.{end_in};
+ghost use Rattle.aadl_instance.specs.InstancesByNumbers.{end_in};
 ghost use Rattle.aadl_instance.specs.proof.ChainSearchStates.{tree_of, paths_in, IsReady, IsNode};
 ghost use Rattle.aadl_instance.specs.proof.ChainsSoFar.{paths_of, HasPort, IsChainStart};
 

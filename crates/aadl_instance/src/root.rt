@@ -9,7 +9,7 @@ ghost use Rattle.aadl_tree.specs.proof.DeclarationViews.{implementation_name_vie
 ghost use Rattle.aadl_names.specs.Spelling.{spelled_implementation};
 ghost use Rattle.aadl_names.specs.ReferenceResolution as spec;
 
-use aadl_names::name_texts::spelled_implementation;
+use aadl_names::spelling::spelled_implementation;
 use aadl_tree::{Category, Declaration, Implementation, PackageTree};
 use pals_base::Text;
 use std::alloc::{AllocError, Global};

@@ -1,7 +1,7 @@
 //! Whether some thread has more of something than a thread may have.
 ghost use Rattle.std.specs.Prelude.{◌≡◌, ◌↔◌, ◌<◌, ℕ, min, Contains, IsTrue};
 ghost use Rattle.aadl_tree.specs.proof.PackageViews.{placed};
-ghost use Rattle.aadl_uses.specs.Uses.{IsInUse};
+ghost use Rattle.aadl_uses.specs.ContainmentAndUse.{IsInUse};
 ghost use Rattle.aadl_uses.specs.ThreadLocations.{ThreadWith};
 ghost use Rattle.aadl_instance.specs.proof.ThreadLimits as spec;
 ghost use Rattle.aadl_instance.specs.proof.ThreadLimits.{HasTooMany};
@@ -36,7 +36,11 @@ impl ThreadPart {
 }
 
 /// Whether a thread that is in use has more of something than it may have.
-pub fn has_too_many(wires: &PackageConnections<'_>, used: &IndexSet<usize>, part: ThreadPart) -> bool
+pub fn has_too_many(
+    wires: &PackageConnections<'_>,
+    used: &IndexSet<usize>,
+    part: ThreadPart,
+) -> bool
     ensures used { IsTrue result ↔ HasTooMany (placed wires.now.uses.names.tree.now) used.now.keys part }
     // of all that is in use below a root
     ensures below { (root : ℕ) → ((n : ℕ) → Contains used.now.keys n ↔ IsInUse (placed wires.now.uses.names.tree.now) root n)
@@ -59,7 +63,12 @@ fn has_over(wires: &PackageConnections<'_>, number: usize, part: ThreadPart) -> 
 }
 
 // How much of something an implementation has, up to a limit.
-fn count_up_to(wires: &PackageConnections<'_>, number: usize, part: ThreadPart, limit: usize) -> usize
+fn count_up_to(
+    wires: &PackageConnections<'_>,
+    number: usize,
+    part: ThreadPart,
+    limit: usize,
+) -> usize
     ensures { result ≡ min limit (spec.count_at (placed wires.now.uses.names.tree.now) number part) }
 {
     match part {

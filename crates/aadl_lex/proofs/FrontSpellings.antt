@@ -29,7 +29,7 @@ use Rattle.aadl_lex.specs.proof.TokenSpellings.{IsWhole, IsReal, IsString, IsUnr
 use Rattle.aadl_lex.proofs.AnnexEnds.{none_take, starts_exact, closes_of, closes_size, closes_front, closes_cut}
 use Rattle.aadl_lex.proofs.AnnexEnds.{close_at}
 use Rattle.aadl_lex.proofs.FrontExtents.{whole_len_le, run_some}
-use Rattle.aadl_lex.proofs.LongestWords.{all_taken, run_is_word}
+use Rattle.aadl_lex.proofs.WordSpellings.{all_taken, run_is_word}
 
 length_taken : (p : ℕ → Bool) (s : List ℕ) → length (take (run p s) s) ≡ run p s
 length_taken p s = ap (λ n. length (take n s)) (length-prefix_len p s)

@@ -2,7 +2,7 @@ pub mod TokenOrder
 pub mod ByteScanLoops
 pub mod UniqueTokens
 pub mod FrontExtents
-pub mod LongestWords
+pub mod WordSpellings
 pub mod AnnexEnds
 pub mod FrontSpellings
 pub mod TokenSpellings

@@ -9,12 +9,12 @@ use Rattle.std.proofs.Math.Bool.{or-false}
 use Rattle.std.proofs.lemmas.List.{drop_all}
 use Rattle.list_lemmas.proofs.ListOperations.{drop-next}
 use Rattle.aadl_names.specs.declared.fault.PackageFault.TheVariants.{Twice}
-use Rattle.aadl_names.specs.declared.spelled_name.SpelledName.{SpelledName}
+use Rattle.aadl_names.specs.declared.declared_name.SpelledName.{SpelledName}
 use Rattle.aadl_names.specs.declared.numbered_place.NumberedPlace.{NumberedPlace}
 use Rattle.aadl_names.specs.proof.NameTables.{value_of}
 use Rattle.aadl_names.specs.DuplicateNames.{again}
 use Rattle.aadl_names.specs.proof.EarliestDeclarations.{sooner, is_sooner, earliest, is_before, again_by}
-use Rattle.aadl_names.proofs.Lookups.{value-same}
+use Rattle.aadl_names.proofs.NameTables.{value-same}
 
 -- ---- of two and of three
 below_chain : (a b c : ℕ) → nat_lt c b ≡ true → nat_lt b a ≡ true → nat_lt c a ≡ true

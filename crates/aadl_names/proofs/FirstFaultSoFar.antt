@@ -1,4 +1,4 @@
--- Loops that keep the first finding so far: one turn, and the end.
+-- Loops that keep the first fault so far: one turn, and the end.
 use Rattle.std.proofs.Common.{◌≡◌, ◌<◌, ◌≤◌, ◌+◌, ℕ, ◌∙◌, sym, ap, refl, Bool, true, false, List, [], ◌∷◌, ◌++◌, Option}
 use Rattle.std.proofs.Common.{length, drop, get_or}
 use Rattle.std.proofs.lemmas.List.{drop_all}

@@ -15,12 +15,10 @@ position-push p n (y ∷ ys) x =
     (position-push p (n + 1) ys x
     ∙ ap (λ m. option_or (position_from p (n + 1) ys) (cond (p x) (Some m) None)) (omega arith))
 
-
 first-push : {X : Type 0} (p : X → Bool) (xs : List X) (x : X) (n : ℕ) → n ≡ length xs
     → first_number p (xs ++ x ∷ []) ≡ option_or (first_number p xs) (cond (p x) (Some n) None)
 first-push p xs x n e =
     position-push p 0 xs x ∙ ap (λ m. option_or (first_number p xs) (cond (p x) (Some m) None)) (omega arith)
-
 
 -- one turn of a loop over a list: the first that passes, up to here
 pub next_first : {A X : Type 0} (view : A → X) (p : X → Bool) (items : List A) (i : ℕ) (x : A) (old new : Option ℕ)
@@ -33,7 +31,6 @@ next_first view p items i x old new within is so_far more =
     let size : length (map view (take i items)) ≡ i = simp length-map (length-take-le i items (omega arith)) in
     more ∙ (ap (λ o. option_or o (cond (p (view x)) (Some i) None)) so_far
     ∙ (sym (first-push p (map view (take i items)) (view x) i (sym size)) ∙ ap (first_number p) (sym grown)))
-
 
 pub last_first : {A X : Type 0} (view : A → X) (p : X → Bool) (items : List A) (i : ℕ) (now : Option ℕ)
     → length items ≤ i

@@ -13,10 +13,10 @@ use Rattle.aadl_names.specs.DuplicatesByNamespace.{port_entries, variable_entrie
 use Rattle.aadl_names.specs.DuplicatesByNamespace.{type_entry, implementation_entry, twice_in_behaviour, twice_in_first}
 use Rattle.aadl_names.specs.DuplicatesByNamespace.{twice_in, twice_names}
 use Rattle.aadl_names.specs.PackageFaults.{wrong_names, package_faults}
-use Rattle.aadl_names.specs.proof.PortDuplicates.{beside, beside_in_behaviour, beside_in_first, beside_in, beside_names}
+use Rattle.aadl_names.specs.proof.DuplicatesBesidePorts.{beside, beside_in_behaviour, beside_in_first, beside_in, beside_names}
 use Rattle.aadl_names.proofs.SameFirstFaults.{Covers, covers_itself, covers_append, covers_all, first_of_more}
 use Rattle.aadl_names.proofs.SameFirstFaults.{found_is_first}
-use Rattle.aadl_names.proofs.PortDuplicates.{beside_covers}
+use Rattle.aadl_names.proofs.DuplicatesBesidePorts.{beside_covers}
 
 behaviour_covers : (tree : PackageTree ℕ) (x : Implementation ℕ) (annex : AnnexTree ℕ)
     → Covers (beside_in_behaviour tree x annex) (twice_in_behaviour tree x annex)

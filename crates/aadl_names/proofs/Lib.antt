@@ -1,13 +1,13 @@
 pub mod FirstFaultSoFar
-pub mod Lookups
-pub mod MatchesAndMemberTables
+pub mod NameTables
+pub mod MemberNumbers
 pub mod UnequalWordLists
 pub mod NumberedDeclarations
 pub mod EarliestDeclarations
-pub mod GrowingLists
+pub mod ListBuildingLoops
 pub mod ListMembers
 pub mod SameFirstFaults
-pub mod PortDuplicates
+pub mod DuplicatesBesidePorts
 pub mod FirstPackageFault
 pub mod RisingPlaces
 pub mod PiecewiseComparison

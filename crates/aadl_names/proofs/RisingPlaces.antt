@@ -9,7 +9,7 @@ use Rattle.aadl_tree.specs.Declarations.{PackageTree, package_parts}
 use Rattle.aadl_tree.specs.TextTreesAndFaults.{IsTreeOf}
 use Rattle.aadl_tree.specs.Terminals.{PlainTerminal, PlacedTerminal, spots_from, placed_terminals, inside_behind}
 use Rattle.aadl_tree.specs.SpellingParts.{SpellingPart, token, may, AreAt, HaveKinds, Written, extra_kinds}
-use Rattle.aadl_tree.proofs.ConcatenatedSpellings.{written_split}
+use Rattle.aadl_tree.proofs.SpellingParts.{written_split}
 use Rattle.aadl_names.specs.proof.PlaceOrder.{places_of, StandsBefore}
 
 -- ---- spots that rise from a place on

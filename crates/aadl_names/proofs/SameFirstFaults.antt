@@ -1,4 +1,4 @@
--- Two lists of findings have the same first finding if one has enough of the other. For the claim `first_of_all`.
+-- Two lists of faults have the same first fault if one has enough of the other. For the claim `first_of_all`.
 use Rattle.std.proofs.Common.{◌≡◌, ◌⊎◌, ℕ, Bool, true, false, cond, ◌&&◌, ◌||◌, nat_eq, nat_lt, List, [], ◌∷◌, ◌++◌}
 use Rattle.std.proofs.Common.{Contains, Option, Some, None, refl, sym, ap, ◌∙◌, subst, inl, inr, arith}
 use Rattle.std.specs.List.{flat_map}

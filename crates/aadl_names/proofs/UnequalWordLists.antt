@@ -1,4 +1,4 @@
--- Lists of words that are compared one by one.
+-- Lists of words that have different lengths are not the same name.
 use Rattle.std.proofs.Common.{◌≡◌, ◌≢◌, ℕ, false, ◌&&◌, List, [], ◌∷◌, length, refl, ap, ◌∙◌, map, suc}
 use Rattle.std.proofs.Math.Bool.{and-false}
 use Rattle.aadl_tree.specs.Names.{same_name}

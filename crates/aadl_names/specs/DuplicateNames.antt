@@ -1,10 +1,10 @@
--- What is declared twice among some declarations.
+-- What is declared twice among some declarations, and the fault that it is.
 use Rattle.std.specs.Prelude.{◌&&◌, nat_lt, List, [], ◌∷◌, flat_map, if◌then◌else◌, ℕ, Bool}
 use Rattle.aadl_tree.specs.Names.{same_name, Identifier}
 use Rattle.std.specs.List.{list_any}
 use Rattle.aadl_names.specs.declared.fault.PackageFault.{PackageFault}
 use Rattle.aadl_names.specs.declared.fault.PackageFault.TheVariants.{Twice, WrongKind}
-use Rattle.aadl_names.specs.declared.spelled_name.SpelledName.{SpelledName}
+use Rattle.aadl_names.specs.declared.declared_name.SpelledName.{SpelledName}
 
 -- each that has the name of another one which stands before it in the text
 abbrev pub again : List SpelledName → SpelledName → List PackageFault

@@ -1,4 +1,5 @@
--- The first of several findings: the least place counts, and at one place the lower number.
+-- Which of several faults of a package is the first: the one at the least place, and at one place the one of the
+-- lower number.
 use Rattle.std.specs.Prelude.{◌≡◌, ℕ, Bool, false, ◌&&◌, ◌||◌, nat_eq, nat_lt, ◌<◌, List, [], Contains, Option, Some}
 use Rattle.std.specs.Prelude.{None}
 use Rattle.aadl_names.specs.declared.fault.PackageFault.{PackageFault}

@@ -5,7 +5,7 @@ pub mod DuplicateNames
 pub mod RecognisedProperties
 pub mod BehaviourAnnexes
 pub mod DuplicatesByNamespace
-pub mod NameUsesInAnnexes
+pub mod NameUseFaults
 pub mod PackageFaults
 pub mod proof
 pub mod PropertyValueShapes

@@ -22,9 +22,9 @@ use Rattle.aadl_names.specs.DuplicatesByNamespace.{twice_names}
 use Rattle.aadl_names.specs.BehaviourAnnexes.{behaviours, variables_in, variables_of, states_of}
 use Rattle.aadl_names.specs.declared.name_roles.Role.{Role}
 use Rattle.aadl_names.specs.declared.name_roles.Role.TheVariants.{Receives, Gives, Varies}
-use Rattle.aadl_names.specs.declared.port_place.NumberedPort.{NumberedPort}
-use Rattle.aadl_names.specs.declared.port_place.NumberedPort.TheVariants.{Own, Inner}
-use Rattle.aadl_names.specs.NameUsesInAnnexes.{NameRoles, either, expression_uses, block_uses}
+use Rattle.aadl_names.specs.declared.numbered_port.NumberedPort.{NumberedPort}
+use Rattle.aadl_names.specs.declared.numbered_port.NumberedPort.TheVariants.{Own, Inner}
+use Rattle.aadl_names.specs.NameUseFaults.{NameRoles, either, expression_uses, block_uses}
 use Rattle.aadl_tree.specs.declared.declarations.Category.TheVariants as categories
 use Rattle.aadl_tree.specs.declared.declarations.Direction.TheVariants as directions
 use Rattle.aadl_names.specs.declared.recognised_properties.PropertyHolder.TheVariants as holders

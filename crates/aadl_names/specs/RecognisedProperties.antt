@@ -1,4 +1,4 @@
--- The properties that mean something, where they do, and the shapes of their values.
+-- The properties that mean something, where they do, and whether their values have the shape that they need.
 use Rattle.std.specs.Prelude.{ℕ, Bool, true, false, not, ◌&&◌, List, [], ◌∷◌, ◌++◌, filter, map, flat_map, codes}
 use Rattle.std.specs.Prelude.{Option, if◌then◌else◌, find}
 use Rattle.std.specs.Option.{is_some}
@@ -11,7 +11,7 @@ use Rattle.aadl_names.specs.declared.recognised_properties.PropertyName.{Propert
 use Rattle.aadl_names.specs.declared.recognised_properties.PropertyName.TheVariants.{Period, Dispatch, Timing, Adaptor}
 use Rattle.aadl_names.specs.declared.recognised_properties.PropertyName.TheVariants.{Skew, Execution, Network, Initial}
 use Rattle.aadl_names.specs.declared.recognised_properties.PropertyHolder.{PropertyHolder}
-use Rattle.aadl_names.specs.declared.spelled_name.SpelledName.{SpelledName}
+use Rattle.aadl_names.specs.declared.declared_name.SpelledName.{SpelledName}
 use Rattle.aadl_names.specs.DuplicateNames.{wrong_if, twice}
 use Rattle.aadl_names.specs.Spelling.{spelled_name}
 use Rattle.aadl_names.specs.ReferenceResolution.{is_thread}

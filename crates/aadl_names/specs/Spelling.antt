@@ -1,7 +1,8 @@
--- Names, which are compared without regard to case, and how they are spelled.
+-- How names, references and ends of connections are spelled.
 use Rattle.std.specs.Prelude.{ℕ, List, ◌++◌, flat_map, Option, Some, None, codes}
 use Rattle.aadl_tree.specs.Names.{Identifier, Name, Reference}
 use Rattle.aadl_tree.specs.Declarations.{ImplementationName, ConnectionEnd}
+
 -- ---- nothing stands between the tokens of a name
 abbrev pub spelled_name : Name ℕ → List ℕ
 spelled_name x = x.first.spelling ++ flat_map (λ y. codes "::" ++ y.spelling) x.rest

@@ -3,6 +3,6 @@ pub mod FirstFaultSoFar
 pub mod EarliestDeclarations
 pub mod NameTables
 pub mod MemberNumbers
-pub mod PortDuplicates
+pub mod DuplicatesBesidePorts
 pub mod PlaceOrder
 pub mod PiecewiseComparison

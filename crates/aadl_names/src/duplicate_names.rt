@@ -7,11 +7,11 @@ ghost use Rattle.aadl_names.specs.proof.NameTables.{value_of};
 ghost use Rattle.aadl_names.specs.proof.EarliestDeclarations.{again_by};
 ghost use Rattle.aadl_names.specs.DuplicateNames.{twice};
 
+use crate::declared_name::SpelledName;
 use crate::earliest_by_name::{earliest_of, is_before};
 use crate::fault_finder::FaultFinder;
 use crate::name_table::NameTable;
 use crate::numbered_place::NumberedPlace;
-use crate::spelled_name::SpelledName;
 use std::alloc::AllocError;
 
 /// Finds the declarations that have the name of an earlier one.

@@ -4,9 +4,9 @@ ghost use Rattle.aadl_tree.specs.Names.{same_name};
 ghost use Rattle.aadl_names.specs.proof.NameTables.{value_of};
 ghost use Rattle.aadl_names.specs.proof.EarliestDeclarations as spec;
 
+use crate::declared_name::SpelledName;
 use crate::name_table::NameTable;
 use crate::numbered_place::NumberedPlace;
-use crate::spelled_name::SpelledName;
 use std::alloc::{AllocError, Global};
 
 /// The earliest of the declarations of each name.

@@ -1,4 +1,4 @@
-//! Why a package has no instance.
+//! The faults of a package, each with its number and its place.
 
 use pals_base::{NoMemory, Text, TryClone};
 use std::alloc::{AllocError, AllocFailed, Global};

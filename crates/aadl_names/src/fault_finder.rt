@@ -1,4 +1,4 @@
-//! The first of the findings so far.
+//! A finder, which keeps the first of the faults that are found.
 
 use crate::fault::PackageFault;
 use pals_base::{Text, TryClone};

@@ -1,12 +1,11 @@
-//! The law of findings: what is looked at lacks some of what is wrong with the names of a package,
-//! and never the first of it.
+//! The law that what is looked at in a package has the first of all faults of its names.
 
 ghost use Rattle.std.specs.Prelude.{ℕ, ◌++◌, None};
 ghost use Rattle.aadl_tree.specs.Declarations.{PackageTree};
 ghost use Rattle.aadl_names.specs.FirstFaults.{FirstOf};
 ghost use Rattle.aadl_names.specs.proof.FirstFaultSoFar.{found};
 ghost use Rattle.aadl_names.specs.PackageFaults.{wrong_names, package_faults};
-ghost use Rattle.aadl_names.specs.proof.PortDuplicates.{beside_names};
+ghost use Rattle.aadl_names.specs.proof.DuplicatesBesidePorts.{beside_names};
 
 /// The first of what is looked at in a package is the first of all that is wrong with its names.
 pub fn first_of_all()

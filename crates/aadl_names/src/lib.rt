@@ -3,6 +3,7 @@
 #![tactic(auto)]
 
 pub mod declarations_by_number;
+pub mod declared_name;
 pub mod duplicate_names;
 pub mod earliest_by_name;
 pub mod fault;
@@ -11,22 +12,21 @@ pub mod first_fault_laws;
 pub mod name_comparison;
 pub mod name_roles;
 pub mod name_table;
-pub mod name_texts;
 pub mod numbered_place;
+pub mod numbered_port;
 pub mod package_names;
 pub mod place_laws;
-pub mod port_place;
 pub mod recognised_properties;
-pub mod spelled_name;
+pub mod spelling;
 pub mod time_units;
 pub mod type_ports;
 
+pub use declared_name::SpelledName;
 pub use fault::PackageFault;
 pub use fault_finder::FaultFinder;
 pub use name_roles::{Role, Usage};
 pub use name_table::NameTable;
 pub use numbered_place::NumberedPlace;
+pub use numbered_port::NumberedPort;
 pub use package_names::Names;
-pub use port_place::NumberedPort;
 pub use recognised_properties::{PropertyHolder, PropertyName};
-pub use spelled_name::SpelledName;

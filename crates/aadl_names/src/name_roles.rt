@@ -1,6 +1,6 @@
 //! What a name stands for in a behaviour, and how it may be used.
 ghost use Rattle.std.specs.Prelude.{◌≡◌};
-ghost use Rattle.aadl_names.specs.NameUsesInAnnexes as spec;
+ghost use Rattle.aadl_names.specs.NameUseFaults as spec;
 
 /// What a name stands for.
 #[derive(Clone, Copy)]

@@ -1,4 +1,4 @@
-//! Where a declaration stands.
+//! A declaration by its number among others and its place in the text.
 
 /// A declaration, by its number among others and its place.
 #[derive(Clone, Copy)]

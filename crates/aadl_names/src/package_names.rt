@@ -1,4 +1,4 @@
-//! What the names of a package name.
+//! A package with tables of its names: the numbers of types, implementations, ports and subcomponents.
 ghost use Rattle.std.specs.Prelude.{◌≡◌, ℕ, List, [], IfOk, OnOk, map, Some, None, if◌then◌else◌, string_bytes};
 ghost use Rattle.std.specs.Prelude.{slice_index_or, slice_get};
 ghost use Rattle.aadl_tree.specs.Names.{same_name};
@@ -15,7 +15,7 @@ ghost use Rattle.aadl_names.specs.ReferenceResolution.{first_number, is_type, is
 
 use crate::name_comparison::same_word;
 use crate::name_table::NameTable;
-use crate::name_texts::spelled_implementation;
+use crate::spelling::spelled_implementation;
 use aadl_tree::{
     Declaration, Feature, Identifier, Implementation, PackageTree, Reference, Subcomponent,
 };

@@ -1,4 +1,4 @@
-pub mod DeclarationStarts
-pub mod PackageFates
+pub mod CategoryMoves
+pub mod ParseResults
 pub mod UniqueParseResults
 pub mod AnnexProgress

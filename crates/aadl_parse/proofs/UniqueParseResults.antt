@@ -3,7 +3,7 @@ use Rattle.std.proofs.Common.{◌≡◌, ℕ, ap, subst, refl, List, [], length}
 use Rattle.std.specs.Prelude.{◌≢◌}
 use Rattle.aadl_lex.specs.declared.token.Token.{Token}
 use Rattle.aadl_lex.proofs.UniqueTokens.{one_list, one_fault, not_both}
-use Rattle.aadl_tree.proofs.ConcatenatedSpellings.{written_spells}
+use Rattle.aadl_tree.proofs.SpellingParts.{written_spells}
 use Rattle.aadl_tree.specs.Terminals.{placed_terminals, kinds_of}
 use Rattle.aadl_tree.specs.SpellingParts.{Written}
 use Rattle.aadl_tree.specs.Declarations.{PackageTree, package_parts}
@@ -23,19 +23,16 @@ same_fails text ts us e a b f g =
     fails_once IsPackage 0 (length text) (placed_terminals text us) a b
     (subst (λ (l : List Token). FailsAt IsPackage 0 (length text) (placed_terminals text l) a) e f) g
 
-
 same_deep : (text : List ℕ) (ts us : List Token) → ts ≡ us → (a b : ℕ) → DeepAt IsPackage 0 (placed_terminals text ts) a
     → DeepAt IsPackage 0 (placed_terminals text us) b → a ≡ b
 same_deep text ts us e a b f g =
     deep_once IsPackage 0 (placed_terminals text us) a b (subst (λ (l : List Token). DeepAt IsPackage 0 (placed_terminals text l) a) e f) g
-
 
 never_both : (text : List ℕ) (ts us : List Token) → ts ≡ us → (a b : ℕ)
     → FailsAt IsPackage 0 (length text) (placed_terminals text ts) a → DeepAt IsPackage 0 (placed_terminals text us) b → ⊥
 never_both text ts us e a b f g =
     fails_not_deep IsPackage 0 (length text) (placed_terminals text us) a b
     (subst (λ (l : List Token). FailsAt IsPackage 0 (length text) (placed_terminals text l) a) e f) g
-
 
 pub one_text_fault : (text : List ℕ) (f g : TextFault) → f ≢ Memory → g ≢ Memory → IsFaultOfText text f
     → IsFaultOfText text g → f ≡ g
@@ -57,7 +54,6 @@ one_text_fault text (Syntax p) (TooDeep q) m n a b =
 one_text_fault text (TooDeep p) (Syntax q) m n a b =
     absurd (never_both text b.tokens a.tokens (one_list text b.tokens a.tokens b.lexed a.lexed) q p b.fails a.deep)
 
-
 -- no tree and a fault
 is_package : (text : List ℕ) (ts us : List Token) → ts ≡ us → (t : PackageTree ℕ)
     → Written (package_parts t) (placed_terminals text ts) [] → IsPackage (kinds_of (placed_terminals text us))
@@ -69,11 +65,9 @@ is_package text ts us e t w =
           (subst (λ (l : List Token). Written (package_parts t) (placed_terminals text l) []) e w);
     }
 
-
 is_shallow : (text : List ℕ) (ts us : List Token) → ts ≡ us → IsShallow 0 (kinds_of (placed_terminals text ts))
     → IsShallow 0 (kinds_of (placed_terminals text us))
 is_shallow text ts us e w = subst (λ (l : List Token). IsShallow 0 (kinds_of (placed_terminals text l))) e w
-
 
 pub tree_or_fault : (text : List ℕ) (t : PackageTree ℕ) (f : TextFault) → f ≢ Memory → IsTreeOf text t
     → ¬ IsFaultOfText text f

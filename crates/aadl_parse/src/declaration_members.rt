@@ -1,4 +1,4 @@
-//! Features, subcomponents, connections, and the sections that have them.
+//! Parses features, subcomponents, connections, and the sections that have them.
 ghost use Rattle.std.specs.Prelude.{[], ◌∷◌, flat_map, map, option_map, MatchOption};
 ghost use Rattle.aadl_tree.specs.declared.mark.Mark.TheVariants as k;
 ghost use Rattle.aadl_tree.specs.SpellingParts.{plain, parts_if, feature_section, subcomponent_section};

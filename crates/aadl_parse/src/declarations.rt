@@ -1,4 +1,4 @@
-//! Reads types and implementations.
+//! Parses types, implementations, their annexes, and the package that has them.
 ghost use Rattle.std.specs.Prelude.{◌≡◌, [], ◌∷◌, flat_map, map};
 ghost use Rattle.aadl_tree.specs.Terminals.{mark};
 ghost use Rattle.aadl_tree.specs.SpellingParts.{token};

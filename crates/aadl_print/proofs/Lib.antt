@@ -1,4 +1,4 @@
-pub mod PrintedParts
-pub mod NonemptySections
+pub mod PrintedLists
+pub mod NonemptyPropertiesAndSections
 pub mod CanonicalText
 pub mod CanonicalReparse

@@ -1,5 +1,5 @@
-//! Actions of behaviours.
-#![tactic(auto, using(crate::proofs::PrintedParts::printed_append))]
+//! Writes the actions of behaviours.
+#![tactic(auto, using(crate::proofs::PrintedLists::printed_append))]
 
 ghost use Rattle.std.specs.Prelude.{◌≡◌, OnOk};
 ghost use Rattle.aadl_tree.specs.Actions.{test_parts, bound_parts, action_parts, actions_parts, block_parts};

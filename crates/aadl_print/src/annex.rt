@@ -1,5 +1,5 @@
-//! Annexes, and the declarations of a behaviour.
-#![tactic(auto, using(crate::proofs::PrintedParts::printed_append))]
+//! Writes annexes, and the declarations of a behaviour.
+#![tactic(auto, using(crate::proofs::PrintedLists::printed_append))]
 
 ghost use Rattle.std.specs.Prelude.{◌≡◌, option_map, OnOk};
 ghost use Rattle.aadl_tree.specs.SpellingParts.{parts_if};

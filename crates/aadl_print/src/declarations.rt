@@ -1,5 +1,5 @@
-//! Types, implementations, and what they declare.
-#![tactic(auto, using(crate::proofs::PrintedParts::printed_append))]
+//! Writes types, implementations, and what they declare.
+#![tactic(auto, using(crate::proofs::PrintedLists::printed_append))]
 
 ghost use Rattle.std.specs.Prelude.{◌≡◌};
 ghost use Rattle.aadl_tree.specs.Declarations.{category_mark, direction_mark};

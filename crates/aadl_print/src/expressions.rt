@@ -1,5 +1,5 @@
-//! Expressions of behaviours.
-#![tactic(auto, using(crate::proofs::PrintedParts::printed_append))]
+//! Writes the expressions of behaviours.
+#![tactic(auto, using(crate::proofs::PrintedLists::printed_append))]
 
 ghost use Rattle.std.specs.Prelude.{◌≡◌, OnOk};
 ghost use Rattle.aadl_tree.specs.Expressions.{multiply_mark, relation_mark, logic_parts, primary_parts, factor_parts};

@@ -35,7 +35,7 @@ pub fn print(alloc: Global, tree: &PackageTree) -> Result<Vec<u8>, AllocError>
     printer.finish()
 }
 
-#[tactic(auto, using(crate::proofs::PrintedParts::printed_append))]
+#[tactic(auto, using(crate::proofs::PrintedLists::printed_append))]
 fn print_package(printer: &mut Printer, tree: &PackageTree) -> Result<(), AllocError>
     ensures { OnOk result (printer.new ≡ printed printer.old (package_parts (meaning tree.now))) }
 {

@@ -1,5 +1,5 @@
-//! Names and references.
-#![tactic(auto, using(crate::proofs::PrintedParts::printed_append))]
+//! Writes names and references.
+#![tactic(auto, using(crate::proofs::PrintedLists::printed_append))]
 
 ghost use Rattle.std.specs.Prelude.{◌≡◌, map, flat_map, OnOk};
 ghost use Rattle.aadl_tree.specs.Names.{qualifier_parts};

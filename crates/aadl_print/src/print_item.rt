@@ -1,5 +1,5 @@
 //! Things that are written, and lists of them.
-#![tactic(auto, using(crate::proofs::PrintedParts::printed_append))]
+#![tactic(auto, using(crate::proofs::PrintedLists::printed_append))]
 
 ghost use Rattle.std.specs.Prelude.{◌≡◌, ◌≢◌, List, [], map, flat_map, option_map, OnOk};
 ghost use Rattle.aadl_tree.specs.SpellingParts.{SpellingPart, marked_if, parts_if, behind, chained};

@@ -1,5 +1,5 @@
-//! Properties and their values.
-#![tactic(auto, using(crate::proofs::PrintedParts::printed_append))]
+//! Writes properties and their values.
+#![tactic(auto, using(crate::proofs::PrintedLists::printed_append))]
 
 ghost use Rattle.std.specs.Prelude.{◌≡◌, map, OnOk};
 ghost use Rattle.aadl_tree.specs.declared.mark.Mark.TheVariants as k;

@@ -1,4 +1,5 @@
-//! A behaviour that is read by itself.
+//! What the program answers on a behaviour that is read by itself: whether it has variables, and where its first
+//! assignment stands.
 use aadl_lex::lex;
 use aadl_tree::{Action, AnnexTree};
 use behaviour_parse::{ParseFault, parse_annex};

@@ -1,5 +1,5 @@
-//! Packages: the first name that is wrong in one, what stands in what, and which implementation contains
-//! itself.
+//! The program's answers on packages: the first name that is wrong, what is in use, what contains itself, and
+//! whether there are too many threads.
 use crate::{cycles_and_uses, first_name_faults, thread_limit};
 use aadl_parse::parse;
 use aadl_tree::PackageTree;

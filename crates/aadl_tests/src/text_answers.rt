@@ -1,4 +1,5 @@
-//! Texts with their tokens, trees and canonical texts.
+//! The program's answers on texts: tokens, whether there is a tree, the canonical text, and whether two texts have
+//! one tree.
 use crate::text_faults::{lex_fault, text_fault};
 use aadl_lex::{Token, lex};
 use aadl_parse::{TextFault, parse};

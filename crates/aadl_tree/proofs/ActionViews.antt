@@ -107,7 +107,6 @@ pub view-out-actions : {P : Type 0} (place : ℕ → P) (x : Actions)
     (mores_view place (out-Actions x).rest.items)
 view-out-actions place x = search (rules, action_lemmas)
 
-
 pub view-out-block : {P : Type 0} (place : ℕ → P) (x : Block)
     → block_view place x ≡ block_of (option_map (λ b. actions_view place b.value) (out-Block x).actions)
 view-out-block place x = ap (block_view place) (sym (roll-out-Block x)) ∙ view-block place (out-Block x).actions

@@ -1,9 +1,9 @@
-pub mod ConcatenatedSpellings
-pub mod ExampleTransition
+pub mod SpellingParts
+pub mod ExampleSpellings
 pub mod ExpressionViews
 pub mod ValueViews
 pub mod ActionViews
-pub mod EqualLengths
+pub mod EqualViewLengths
 pub mod PrimaryVariants
 pub mod FactorVariants
 pub mod ValueVariants
@@ -12,5 +12,5 @@ pub mod LexedSymbols
 pub mod EmptyPackage
 pub mod MarkNumbers
 pub mod ListSearch
-pub mod MarkFirstBytes
+pub mod MarksByFirstByte
 pub mod PlaceMaps

@@ -1,4 +1,4 @@
--- Which terminals are a package or a behaviour, how deep they nest, and where they stop being the beginning of one.
+-- Which terminals are a package or a behaviour, and how deep they nest.
 use Rattle.std.specs.Prelude.{ℕ, ◌≡◌, ◌+◌, ◌-◌, ◌≤◌, Bool, true, false, List, [], ◌∷◌, ◌++◌}
 use Rattle.aadl_tree.specs.declared.nesting_limit.TheConstants.{GREATEST_NESTING}
 use Rattle.aadl_tree.specs.Terminals.{PlainTerminal, mark}

@@ -1,8 +1,8 @@
 -- What the theorem of the program does not rest on: definitions of contracts below it, of laws, and of proofs.
 pub mod MarkNumbers
-pub mod MarkFirstBytes
+pub mod MarksByFirstByte
 pub mod PlaceMaps
-pub mod ExampleTransition
+pub mod ExampleSpellings
 pub mod NameViews
 pub mod ValueViews
 pub mod ExpressionViews

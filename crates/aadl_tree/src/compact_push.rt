@@ -1,4 +1,4 @@
-//! One push on a list, which starts at room for one item: for lists that mostly have one.
+//! A push on a list that takes room for one item first and doubles it when it is full.
 ghost use Rattle.std.specs.Prelude.{◌≡◌, [], ◌∷◌, ◌++◌, OnOk};
 
 use std::alloc::AllocError;

@@ -1,10 +1,10 @@
-//! How keywords and symbols are written, and where a word is a keyword.
+//! The text of each keyword and symbol, and which of them a word or some bytes are.
 ghost use Rattle.std.specs.Prelude.{◌≡◌, ◌↔◌, IsTrue, true, false};
 ghost use Rattle.std.specs.List.{find};
 ghost use Rattle.std.specs.Str.{bytes_eq, str_eq_ignore_ascii_case};
 ghost use Rattle.aadl_tree.specs.KeywordsAndSymbols as spec;
 ghost use Rattle.aadl_tree.specs.KeywordsAndSymbols.{mark_text};
-ghost use Rattle.aadl_tree.specs.proof.MarkFirstBytes.{keywords_from, symbols_from};
+ghost use Rattle.aadl_tree.specs.proof.MarksByFirstByte.{keywords_from, symbols_from};
 
 use crate::mark::Mark;
 
@@ -158,7 +158,7 @@ fn written_as(marks: &[Mark], bytes: &[u8]) -> Option<Mark>
 }
 
 /// The keywords outside of behaviour annexes that begin with a small letter.
-#[tactic(auto, unfolding(crate::specs::proof::MarkFirstBytes::keywords_from))]
+#[tactic(auto, unfolding(crate::specs::proof::MarksByFirstByte::keywords_from))]
 fn keywords_outside(letter: u8) -> &'static [Mark]
     ensures { result.now ≡ keywords_from false letter }
 {
@@ -187,7 +187,7 @@ fn keywords_outside(letter: u8) -> &'static [Mark]
 }
 
 /// The keywords inside behaviour annexes that begin with a small letter.
-#[tactic(auto, unfolding(crate::specs::proof::MarkFirstBytes::keywords_from))]
+#[tactic(auto, unfolding(crate::specs::proof::MarksByFirstByte::keywords_from))]
 fn keywords_inside(letter: u8) -> &'static [Mark]
     ensures { result.now ≡ keywords_from true letter }
 {
@@ -211,7 +211,7 @@ fn keywords_inside(letter: u8) -> &'static [Mark]
 }
 
 /// The symbols that begin with a byte.
-#[tactic(auto, unfolding(crate::specs::proof::MarkFirstBytes::symbols_from))]
+#[tactic(auto, unfolding(crate::specs::proof::MarksByFirstByte::symbols_from))]
 fn symbols_from(byte: u8) -> &'static [Mark]
     ensures { result.now ≡ symbols_from byte }
 {

@@ -15,7 +15,7 @@ ghost use Rattle.aadl_tree.specs.proof.PackageViews.{package_view, placed, meani
 ghost use Rattle.aadl_tree.specs.LanguagesAndNesting.{nesting};
 ghost use Rattle.aadl_tree.specs.TextTreesAndFaults.{IsTreeOf};
 ghost use Rattle.aadl_tree.specs.CanonicalText.{canonical, canon};
-ghost use Rattle.aadl_tree.specs.proof.ExampleTransition.{counting, counting_kinds, counting_text};
+ghost use Rattle.aadl_tree.specs.proof.ExampleSpellings.{counting, counting_kinds, counting_text};
 ghost use Rattle.aadl_tree.specs.proof.ExampleTokensAndTerminals.{annex_text, annex_tokens, choice_kinds};
 ghost use Rattle.aadl_tree.specs.proof.EmptyPackage.{package_text, package_tokens, small_package, printed_text};
 

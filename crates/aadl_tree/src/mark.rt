@@ -1,4 +1,4 @@
-//! Keywords and symbols.
+//! The keywords and symbols of the grammar, as one enumeration.
 
 /// A keyword or a symbol of the grammar. Their numbers are in the order of this list.
 #[derive(Clone, Copy)]

@@ -6,7 +6,7 @@ mod actions;
 mod annex;
 mod declarations;
 mod expressions;
-mod lists;
+mod lists_and_options;
 mod names;
 mod same_meaning;
 mod values;
@@ -14,7 +14,7 @@ mod values;
 use crate::package::PackageTree;
 pub use actions::{same_actions, same_block};
 pub use expressions::same_expression;
-pub use lists::{same_items, same_option};
+pub use lists_and_options::{same_items, same_option};
 pub use same_meaning::Same;
 pub use values::{same_associations, same_value};
 

@@ -14,7 +14,7 @@ use Rattle.aadl_names.specs.declared.fault.PackageFault.{PackageFault}
 use Rattle.aadl_names.specs.declared.fault.PackageFault.TheVariants.{Recursive}
 use Rattle.aadl_names.specs.FirstFaults.{place_of, number_of, precedes}
 use Rattle.aadl_names.specs.ReferenceResolution.{referred}
-use Rattle.aadl_uses.specs.Uses.{sub_at}
+use Rattle.aadl_uses.specs.ContainmentAndUse.{sub_at}
 use Rattle.aadl_uses.specs.Recursion.{ClosesCycle, IsRecursive}
 use Rattle.aadl_uses.specs.proof.PackageContainment.{containment}
 use Rattle.aadl_uses.specs.proof.FirstRecursion.{FirstIn, is_sooner, IsBefore, AreBefore, IsFound, IsSooner, IsFirstOf}

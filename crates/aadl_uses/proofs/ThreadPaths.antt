@@ -3,7 +3,7 @@ use Rattle.std.proofs.Common.{◌≡◌, ◌↔◌, ℕ, ◌<◌, Bool, List, �
 use Rattle.std.proofs.Common.{IfOk, sym, ap, ◌∙◌, subst}
 use Rattle.std.specs.Option.{option_and_then}
 use Rattle.aadl_tree.specs.Declarations.{PackageTree}
-use Rattle.aadl_uses.specs.Uses.{below, IsInUse}
+use Rattle.aadl_uses.specs.ContainmentAndUse.{below, IsInUse}
 use Rattle.aadl_uses.specs.proof.PackageContainment.{containment}
 use Rattle.aadl_uses.specs.ThreadsBelow.{Lists, IsThreadAt, PathBefore, path_before}
 use Rattle.aadl_uses.specs.proof.ThreadCounts.{thread_marks}
@@ -12,7 +12,7 @@ use Rattle.aadl_uses.proofs.ThreadCounts.{threads_listed}
 use Rattle.aadl_uses.specs.proof.ContainmentGraphs.{Graph, below_in}
 use Rattle.aadl_uses.specs.proof.MarkedPathCounts.{IsMarkedAt}
 use Rattle.aadl_uses.specs.proof.OrderedLists.{AreListed}
-use Rattle.aadl_uses.specs.proof.PathTables.{paths_from, IsClosed}
+use Rattle.aadl_uses.specs.proof.MarkedPathLists.{paths_from, IsClosed}
 
 -- ---- what is in use
 pub closed_by : (tree : PackageTree ℕ) (root : ℕ) (g : Graph) (used : List ℕ) → g ≡ containment tree

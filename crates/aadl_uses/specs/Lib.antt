@@ -1,7 +1,7 @@
-pub mod Uses
+pub mod ContainmentAndUse
 pub mod ThreadsBelow
 pub mod ThreadLocations
 pub mod SecondConnections
-pub mod Wiring
+pub mod PortsOfConnections
 pub mod proof
 pub mod Recursion

@@ -3,7 +3,7 @@ use Rattle.std.specs.Prelude.{◌≡◌, ℕ, List, [], ◌∷◌, ◌++◌, Som
 use Rattle.aadl_tree.specs.Declarations.{Subcomponent, PackageTree}
 use Rattle.aadl_names.specs.declared.fault.PackageFault.{PackageFault}
 use Rattle.aadl_names.specs.declared.fault.PackageFault.TheVariants.{Recursive}
-use Rattle.aadl_uses.specs.Uses.{number_at_path, sub_at}
+use Rattle.aadl_uses.specs.ContainmentAndUse.{number_at_path, sub_at}
 
 -- a subcomponent that leads back to the implementation in which it stands
 pub record ClosesCycle (tree : PackageTree ℕ) (sub : Subcomponent ℕ) : Type 0 where
@@ -12,7 +12,6 @@ pub record ClosesCycle (tree : PackageTree ℕ) (sub : Subcomponent ℕ) : Type 
   pub path : List ℕ
   pub is_sub : sub_at tree within number ≡ Some sub
   pub returns : number_at_path tree within (path ++ number ∷ []) ≡ Some within
-
 
 abbrev pub IsRecursive : PackageTree ℕ → PackageFault → Type 0
 IsRecursive tree fault =

@@ -2,7 +2,7 @@
 use Rattle.std.specs.Prelude.{ℕ, List, [], ◌∷◌, ◌++◌, codes, reverse, Option, Some, None}
 use Rattle.std.specs.Option.{option_and_then}
 use Rattle.aadl_tree.specs.Declarations.{Subcomponent, Implementation, PackageTree}
-use Rattle.aadl_uses.specs.Uses.{sub_at, number_at_path}
+use Rattle.aadl_uses.specs.ContainmentAndUse.{sub_at, number_at_path}
 use Rattle.aadl_uses.specs.ThreadsBelow.{IsThreadOf}
 use Rattle.aadl_uses.specs.declared.thread_locations.SubAt.{SubAt}
 use Rattle.aadl_uses.specs.declared.thread_locations.ThreadAt.{ThreadAt}

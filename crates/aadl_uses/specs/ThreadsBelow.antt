@@ -3,7 +3,7 @@ use Rattle.std.specs.Prelude.{◌≡◌, ℕ, ◌<◌, true, List, length, rever
 use Rattle.std.specs.Prelude.{◌&&◌, ◌||◌, nat_eq, nat_lt, [], ◌∷◌}
 use Rattle.aadl_tree.specs.Declarations.{Implementation, PackageTree}
 use Rattle.aadl_names.specs.ReferenceResolution.{is_thread}
-use Rattle.aadl_uses.specs.Uses.{component_at}
+use Rattle.aadl_uses.specs.ContainmentAndUse.{component_at}
 
 -- a list of all that have P, each once, in an order
 pub record Lists {X : Type 0} (P : X → Type 0) (Before : X → X → Type 0) (xs : List X) : Type 0 where

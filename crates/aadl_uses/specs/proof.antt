@@ -3,8 +3,8 @@ pub mod ContainmentGraphs
 pub mod RecursionSuspects
 pub mod ContainmentOrders
 pub mod MarkedPathCounts
-pub mod PathTables
-pub mod PathWeights
+pub mod MarkedPathLists
+pub mod HeaviestPaths
 pub mod PackageContainment
 pub mod ThreadCounts
 pub mod FirstRecursion

@@ -1,7 +1,7 @@
 //! The connections of one declaration, found by the ports into which they go.
 ghost use Rattle.std.specs.Prelude.{◌≡◌, ◌↔◌, None, Some, IfOk, OnOk, IsTrue, if◌then◌else◌};
 ghost use Rattle.std.specs.Option.{option_or};
-ghost use Rattle.aadl_names.specs.declared.port_place.NumberedPort.{NumberedPort};
+ghost use Rattle.aadl_names.specs.declared.numbered_port.NumberedPort.{NumberedPort};
 ghost use Rattle.aadl_uses.specs.proof.NumbersByPort.{is_port, number_of};
 ghost use Rattle.aadl_uses.specs.SecondConnections as spec;
 ghost use Rattle.aadl_uses.specs.proof.FirstConnections as inner;
@@ -37,7 +37,7 @@ impl Drop for Connections {
 
 impl Model for Connections {
     ghost use Rattle.std.specs.Prelude.{◌≡◌, List};
-    ghost use Rattle.aadl_names.specs.declared.port_place.NumberedPort.{NumberedPort};
+    ghost use Rattle.aadl_names.specs.declared.numbered_port.NumberedPort.{NumberedPort};
     ghost use Rattle.aadl_uses.specs.declared.connections_by_target.ConnectionPorts.{ConnectionPorts};
     ghost use Rattle.aadl_uses.specs.proof.NumbersByPort.{number_of};
     ghost use Rattle.aadl_uses.specs.SecondConnections as spec;
@@ -105,7 +105,10 @@ fn is_before(first: Option<usize>, number: usize) -> bool
 }
 
 // The number of the first connection into each port.
-fn firsts_of(alloc: Global, wires: &[ConnectionPorts]) -> Result<IndexMap<NumberedPort, usize>, AllocError>
+fn firsts_of(
+    alloc: Global,
+    wires: &[ConnectionPorts],
+) -> Result<IndexMap<NumberedPort, usize>, AllocError>
     ensures { IfOk result (λ firsts. (target : NumberedPort) → number_of firsts.entries target ≡ inner.first_into wires.now target) }
 {
     let mut firsts = IndexMap::new(alloc);

@@ -1,4 +1,4 @@
-//! Subcomponents that lead back to where they stand.
+//! Subcomponents that may lead back to where they stand, and whether one of them does.
 ghost use Rattle.std.specs.Prelude.{◌≡◌, ◌<◌, ◌↔◌, ℕ, length, false, true, IsTrue, IfOk, OnOk, Contains};
 ghost use Rattle.std.specs.List.{list_any};
 ghost use Rattle.aadl_uses.specs.proof.ContainmentGraphs.{targets_in, IsWithin, LeadsBack};

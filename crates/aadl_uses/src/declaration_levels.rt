@@ -1,4 +1,5 @@
-//! Levels of declarations: a guess, which its users test.
+//! Levels of declarations by depth-first search: those that lead to one another share one; its users test what it
+//! gives.
 
 use crate::containment::Containment;
 use std::alloc::{AllocError, Global};

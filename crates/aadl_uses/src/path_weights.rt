@@ -2,8 +2,8 @@
 ghost use Rattle.std.specs.Prelude.{◌≡◌, ◌+◌, ◌<◌, ◌++◌, ◌∷◌, [], ℕ, None, false, length, map, min, option_map};
 ghost use Rattle.std.specs.Prelude.{slice_index_or, slice_set, IfOk, OnOk};
 ghost use Rattle.aadl_uses.specs.proof.ContainmentOrders.{IsOrder};
-ghost use Rattle.aadl_uses.specs.proof.PathWeights as spec;
-ghost use Rattle.aadl_uses.specs.proof.PathWeights.{IsHeaviest, AreWeighed};
+ghost use Rattle.aadl_uses.specs.proof.HeaviestPaths as spec;
+ghost use Rattle.aadl_uses.specs.proof.HeaviestPaths.{IsHeaviest, AreWeighed};
 
 use crate::Containment;
 use crate::marked_counts::add_up_to;

@@ -5,8 +5,8 @@ ghost use Rattle.aadl_uses.specs.proof.MarkedPathCounts.{IsMarkedAt, own_paths};
 ghost use Rattle.aadl_uses.specs.proof.OrderedLists.{AreListed};
 ghost use Rattle.aadl_uses.specs.ThreadsBelow.{path_before};
 ghost use Rattle.aadl_uses.specs.proof.ContainmentOrders.{IsOrder};
-ghost use Rattle.aadl_uses.specs.proof.PathTables as spec;
-ghost use Rattle.aadl_uses.specs.proof.PathTables.{IsClosed, AreKnown};
+ghost use Rattle.aadl_uses.specs.proof.MarkedPathLists as spec;
+ghost use Rattle.aadl_uses.specs.proof.MarkedPathLists.{IsClosed, AreKnown};
 
 use crate::Containment;
 use indexmap::IndexSet;

@@ -1,11 +1,11 @@
-//! All threads below a root.
+//! The paths from declarations in use to the threads below them.
 ghost use Rattle.std.specs.Prelude.{◌<◌, ◌↔◌, ℕ, Contains, IfOk, length, map, reverse};
 ghost use Rattle.aadl_tree.specs.proof.PackageViews.{placed};
-ghost use Rattle.aadl_uses.specs.Uses.{IsInUse};
+ghost use Rattle.aadl_uses.specs.ContainmentAndUse.{IsInUse};
 ghost use Rattle.aadl_uses.specs.proof.PackageContainment.{containment};
 ghost use Rattle.aadl_uses.specs.ThreadsBelow.{Lists, IsThreadAt, PathBefore};
 ghost use Rattle.aadl_uses.specs.proof.ContainmentOrders.{IsOrder};
-ghost use Rattle.aadl_uses.specs.proof.PathTables.{paths_from};
+ghost use Rattle.aadl_uses.specs.proof.MarkedPathLists.{paths_from};
 
 use crate::{Paths, Uses, paths_below};
 use indexmap::IndexSet;

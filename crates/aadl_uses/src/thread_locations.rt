@@ -1,7 +1,7 @@
 //! Where a thread stands.
 ghost use Rattle.std.specs.Prelude.{◌≡◌, All, IfOk, IsSome, map, reverse};
 ghost use Rattle.aadl_tree.specs.proof.PackageViews.{placed};
-ghost use Rattle.aadl_uses.specs.Uses as ways;
+ghost use Rattle.aadl_uses.specs.ContainmentAndUse as ways;
 ghost use Rattle.aadl_uses.specs.ThreadLocations as spec;
 
 use crate::Uses;

@@ -1,4 +1,4 @@
-pub mod ReplicaFaultFacts
+pub mod ReplicaFaultValidity
 pub mod DistinctReplicaFaults
 pub mod FormulaLevels
-pub mod ProcessorFacts
+pub mod ProcessorValidity

@@ -1,4 +1,4 @@
--- Plants and their controllers.
+-- What the field of plants means: pairs of a plant and its controller, or its first fault.
 use Rattle.std.specs.Prelude.{ℕ, nat_eq, codes, List, [], ◌∷◌, ◌++◌, map, count_by, Bool, false, not, ◌&&◌, ◌||◌}
 use Rattle.std.specs.Prelude.{Option, Some, None, option_and_then, Result, Ok}
 use Rattle.std.specs.List.{list_all}
@@ -7,7 +7,7 @@ use Rattle.serde_json.specs.Find.{as_str}
 use Rattle.pals_model.specs.declared.design.Link.{Link}
 use Rattle.pals_model.specs.declared.design.DesignParts.{DesignParts}
 use Rattle.pals_model.specs.PortKinds.{rate_of}
-use Rattle.pals_model.specs.NamesInTexts.{node_named}
+use Rattle.pals_model.specs.ComponentAndLinkNames.{node_named}
 use Rattle.pals_runs.specs.declared.plant_pairs.Pair.{Pair}
 use Rattle.scenario_values.specs.declared.fault.ScenarioFault.{ScenarioFault}
 use Rattle.scenario_values.specs.declared.fault.ScenarioFault.TheVariants.{OutOfRange}

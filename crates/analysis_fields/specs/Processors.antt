@@ -1,11 +1,11 @@
--- Processors and the components that they serve.
+-- What the field of processors means: processors with the components that they serve, or its first fault.
 use Rattle.std.specs.Prelude.{ℕ, ◌+◌, nat_eq, nat_le, nat_lt, codes, List, [], ◌∷◌, ◌++◌, length, map, filter}
 use Rattle.std.specs.Prelude.{replicate, position, slice_set, slice_index, Bool, ◌&&◌, Option, Some, None, is_some}
 use Rattle.std.specs.Prelude.{Result, Ok, Err}
 use Rattle.std.specs.List.{list_all, enumerate_from}
 use Rattle.serde_json.specs.Data.{Data}
 use Rattle.serde_json.specs.Find.{get, as_str}
-use Rattle.pals_base.specs.declared.values.NodeNo.{NodeNo}
+use Rattle.pals_base.specs.declared.basic_types.NodeNo.{NodeNo}
 use Rattle.pals_base.specs.declared.limits.TheConstants.{HOUR}
 use Rattle.pals_base.specs.Names.{is_word}
 use Rattle.pals_model.specs.declared.design.DesignParts.{DesignParts}

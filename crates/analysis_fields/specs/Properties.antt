@@ -1,4 +1,4 @@
--- The properties of monitors.
+-- What the field of properties means: names with their formulas, or its first fault.
 use Rattle.std.specs.Prelude.{ℕ, zero, suc, ◌+◌, nat_le, bytes_eq, codes, List, [], ◌∷◌, ◌++◌, length, sum_by, position}
 use Rattle.std.specs.Prelude.{Bool, true, false, ◌&&◌, Option, Some, None, option_and_then, option_map, unwrap_or}
 use Rattle.std.specs.Prelude.{slice_get, Result, Ok, Err, if◌then◌else◌}

@@ -1,4 +1,4 @@
-//! The formulas of properties.
+//! Reads the formula of a property, whose size and levels are within their limits.
 ghost use Rattle.std.specs.Prelude.{◌≡◌, ◌-◌, ◌^◌, bytes_eq, position, option_copied, IfErr, IfOk, map, min};
 ghost use Rattle.std.specs.Prelude.{option_and_then};
 ghost use Rattle.serde_json.specs.Find.{as_str};

@@ -1,10 +1,10 @@
-//! Plants and their controllers.
+//! Reads the field of plants: pairs of a plant and its controller that can be fused.
 ghost use Rattle.std.specs.Prelude.{◌≡◌, IfOk, IfErr, count_by, map};
 ghost use Rattle.std.specs.List.{list_all};
 ghost use Rattle.serde_json.specs.View.{view};
 ghost use Rattle.scenario_values.specs.ResultCombinators.{Answers};
 ghost use Rattle.scenario_values.specs.FieldValues.{entry_of};
-ghost use Rattle.pals_model.specs.NamesInTexts.{node_named};
+ghost use Rattle.pals_model.specs.ComponentAndLinkNames.{node_named};
 ghost use Rattle.analysis_fields.specs.Plants.{controller_in, named_in, is_number, names_node, shares, is_between};
 ghost use Rattle.analysis_fields.specs.Plants.{are_equals, is_alone, is_fusible, pair_in, plants_in};
 

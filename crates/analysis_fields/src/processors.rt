@@ -1,4 +1,4 @@
-//! Processors and the components that they serve.
+//! Reads the field of processors: each with its time for an instruction and the components that it serves.
 ghost use Rattle.std.specs.Prelude.{◌≡◌, ◌≤◌, [], IfOk, length, map};
 ghost use Rattle.std.specs.List.{list_all};
 ghost use Rattle.serde_json.specs.View.{view};

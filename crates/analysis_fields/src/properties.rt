@@ -1,4 +1,4 @@
-//! The properties of monitors.
+//! Reads the field of properties: each with its name and its formula.
 ghost use Rattle.std.specs.Prelude.{◌≡◌, map};
 ghost use Rattle.std.specs.List.{list_all};
 ghost use Rattle.serde_json.specs.View.{view};

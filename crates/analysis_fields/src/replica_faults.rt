@@ -1,4 +1,4 @@
-//! The faults of replicas.
+//! Reads the field of faults: what a replica sends on a link in a round, no two at one place.
 ghost use Rattle.std.specs.Prelude.{◌≡◌, ◌≤◌, ◌∷◌, ◌++◌, [], map, option_copied, IfOk};
 ghost use Rattle.serde_json.specs.View.{view};
 ghost use Rattle.scenario_values.specs.ResultCombinators.{Answers, Shows};

@@ -1,6 +1,6 @@
 -- The rows of fused composition, one after the other.
 use Rattle.std.proofs.Common.{◌≡◌, ◌∙◌, ◌++◌, ℕ, suc, ◌+◌, List, [], sym, ap, subst, slice_get, add-one}
-use Rattle.pals_base.specs.declared.values.PortValue.{PortValue}
+use Rattle.pals_base.specs.declared.basic_types.PortValue.{PortValue}
 use Rattle.pals_model.specs.declared.design.DesignParts.{DesignParts}
 use Rattle.pals_model.specs.declared.environment.Env.{Env}
 use Rattle.pals_model.specs.ComponentInputs.{values_at}
@@ -13,7 +13,7 @@ use Rattle.plant_fuse.specs.proof.FuseState.{FuseState, begun, IsAdvanced}
 use Rattle.plant_fuse.specs.FusedReport.{fused_report, IsFusedReport}
 use Rattle.plant_fuse.proofs.ExactlyOneSolution.{solution_exists}
 use Rattle.plant_fuse.proofs.StateSolutions.{StandsAt, begins, stands_next, leaves_parts}
-use Rattle.plant_fuse.proofs.ComponentPairs.{pair_at, others_apart}
+use Rattle.plant_fuse.proofs.PartnersAndPairLinks.{pair_at, others_apart}
 use Rattle.plant_fuse.proofs.Reports.{reported_more}
 
 -- the product stands at the round, and the text has the rows before it

@@ -5,7 +5,7 @@ use Rattle.std.proofs.lemmas.List.{append-nil, take_all}
 use Rattle.pals_base.specs.UpwardNumbers.{upwards}
 use Rattle.pals_base.proofs.UpwardNumbers.{map_upwards_more}
 use Rattle.pals_model.specs.RoundTexts.{line_end, text_of}
-use Rattle.pals_model.proofs.LineLaws.{text_of-append}
+use Rattle.pals_model.proofs.TextLineLaws.{text_of-append}
 
 pub blocks_all : {X : Type 0} (f : X → List (List ℕ)) (xs : List X) (i : ℕ) → length xs ≤ i
     → text_of (flat_map f (take i xs)) ≡ text_of (flat_map f xs)

@@ -6,16 +6,16 @@ use Rattle.std.proofs.lemmas.Bool.{false≢true}
 use Rattle.std.proofs.lemmas.List.Elements.{All-head}
 use Rattle.std.proofs.Math.ListN.{get_or-map}
 use Rattle.pals_base.specs.UpwardNumbers.{upwards}
-use Rattle.pals_base.specs.declared.values.NodeNo.{NodeNo}
+use Rattle.pals_base.specs.declared.basic_types.NodeNo.{NodeNo}
 use Rattle.pals_model.specs.declared.design.DesignParts.{DesignParts}
 use Rattle.pals_model.specs.declared.environment.Env.{Env}
 use Rattle.pals_model.specs.RoundTexts.{report}
 use Rattle.pals_model.specs.DesignRules.{IsDesign}
 use Rattle.analysis_fields.specs.declared.replica_faults.RoundFault.{RoundFault}
-use Rattle.analysis_fields.specs.proof.FaultAndProcessorFacts.{IsFaultOf}
+use Rattle.analysis_fields.specs.proof.FaultAndProcessorValidity.{IsFaultOf}
 use Rattle.analysis_fields.specs.ReplicasAndFaults.{is_among}
 use Rattle.triple_vote.specs.OutvotedFaults.{AreOutvoted}
-use Rattle.triple_vote.specs.Replicas.{is_replicated}
+use Rattle.triple_vote.specs.VotedComposition.{is_replicated}
 use Rattle.triple_vote.specs.VotedText.{voted_report, tripled_report}
 use Rattle.triple_vote.proofs.OutvotedFaultReports.{report_is_thrice, thrice_without_replicas}
 use Rattle.analysis_texts.specs.ReplicasAndRoundFaults.{replicated_in, faults_of}

@@ -4,7 +4,7 @@ use Rattle.std.proofs.Common.{get_or, refl, ap₂, add-one, add-zero, zero-add, 
 use Rattle.std.proofs.lemmas.Grind.{flat_map-append}
 use Rattle.std.specs.Prelude.{flat_map, slice_get}
 use Rattle.std.proofs.lemmas.Simd.{map-map}
-use Rattle.pals_base.specs.declared.values.PortValue.{PortValue}
+use Rattle.pals_base.specs.declared.basic_types.PortValue.{PortValue}
 use Rattle.pals_base.specs.declared.frames.Frame.{Frame}
 use Rattle.pals_base.specs.StepSequences.{Stepped}
 use Rattle.pals_base.specs.UpwardNumbers.{upwards}

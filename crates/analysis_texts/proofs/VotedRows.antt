@@ -2,16 +2,16 @@
 use Rattle.std.proofs.Common.{◌≡◌, ◌∙◌, ℕ, suc, ◌+◌, ◌≤◌, Bool, true, false, cond, List, ◌++◌, map, sym, ap, arith}
 use Rattle.std.proofs.Common.{append_assoc, add-one}
 use Rattle.pals_base.specs.declared.frames.Frame.{Frame}
-use Rattle.pals_base.specs.declared.values.PortValue.{PortValue}
+use Rattle.pals_base.specs.declared.basic_types.PortValue.{PortValue}
 use Rattle.pals_model.specs.declared.design.Component.{Component}
 use Rattle.pals_model.specs.declared.design.Tap.{Tap}
 use Rattle.pals_model.specs.declared.design.DesignParts.{DesignParts}
 use Rattle.pals_model.specs.declared.environment.Env.{Env}
 use Rattle.pals_model.specs.ComponentInputs.{values_at}
 use Rattle.pals_model.specs.RoundTexts.{line_end, text_of, round_line, component_line}
-use Rattle.pals_model.proofs.LineLaws.{text_of-append}
+use Rattle.pals_model.proofs.TextLineLaws.{text_of-append}
 use Rattle.pals_runs.specs.declared.vote_faults.VoteFault.{VoteFault}
-use Rattle.triple_vote.specs.Replicas.{VotedConfiguration, is_replicated, copies_of, frame_at, voted_composition, voted_tap}
+use Rattle.triple_vote.specs.VotedComposition.{VotedConfiguration, is_replicated, copies_of, frame_at, voted_composition, voted_tap}
 use Rattle.triple_vote.specs.proof.VotedStates.{VotedState, voted_advanced}
 use Rattle.triple_vote.specs.VotedText.{replica_name, shown_line, voted_row, voted_lines, voted_report}
 use Rattle.analysis_texts.specs.proof.ReplicaNamesAndLines.{all_lines}

@@ -21,7 +21,7 @@ use Rattle.run_monitor.specs.proof.SeveralMonitors.{MonitorsState, HasWatched}
 use Rattle.run_monitor.specs.declared.false_property.FalseProperty.{FalseProperty}
 use Rattle.run_monitor.proofs.FirstFalseProperty.{violated_is_first, others_hold}
 use Rattle.run_monitor.proofs.WatchTextGrowth.{rows_go_on}
-use Rattle.run_monitor.proofs.HistoryGrowth.{history_has_rounds}
+use Rattle.run_monitor.proofs.FrameRowGrowth.{history_has_rounds}
 use Rattle.analysis_texts.specs.MonitoredFormulas.{named, formulas}
 use Rattle.analysis_texts.proofs.LineBlocks.{line_before, line_behind}
 

@@ -2,16 +2,16 @@
 use Rattle.std.proofs.Common.{◌≡◌, ◌∙◌, ℕ, ◌<◌, nat_eq, Bool, true, false, cond, List, [], ◌∷◌, map, All, Option, Some}
 use Rattle.std.proofs.Common.{None, filter, slice_get, refl, sym, subst, arith}
 use Rattle.std.proofs.lemmas.List.Elements.{All-nil, All-cons, All-head, All-tail, All-same, All-from_get_or}
-use Rattle.pals_base.specs.declared.values.NodeNo.{NodeNo}
+use Rattle.pals_base.specs.declared.basic_types.NodeNo.{NodeNo}
 use Rattle.pals_base.specs.UpwardNumbers.{upwards}
 use Rattle.pals_base.proofs.UpwardNumbers.{get_or-map_upwards, length-map_upwards}
 use Rattle.pals_model.specs.declared.design.Link.{Link}
 use Rattle.pals_model.specs.declared.design.DesignParts.{DesignParts}
 use Rattle.pals_runs.specs.declared.vote_faults.VoteFault.{VoteFault}
 use Rattle.analysis_fields.specs.declared.replica_faults.RoundFault.{RoundFault}
-use Rattle.analysis_fields.specs.proof.FaultAndProcessorFacts.{IsFaultOf}
+use Rattle.analysis_fields.specs.proof.FaultAndProcessorValidity.{IsFaultOf}
 use Rattle.analysis_fields.specs.ReplicasAndFaults.{source_in as named_source}
-use Rattle.triple_vote.specs.Replicas.{source_in}
+use Rattle.triple_vote.specs.VotedComposition.{source_in}
 use Rattle.triple_vote.specs.proof.VoteLaws.{IsFault}
 use Rattle.analysis_texts.specs.ReplicasAndRoundFaults.{faults_of}
 

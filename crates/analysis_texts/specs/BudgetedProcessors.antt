@@ -1,4 +1,4 @@
--- Processors of a scenario, as round budgets see them.
+-- Processors of a scenario as round budgets see them.
 use Rattle.analysis_fields.specs.declared.processors.Processor.{Processor as Described}
 use Rattle.round_budget.specs.BudgetText.{Processor}
 use Rattle.round_budget.specs.Budgets.{numbers}

@@ -1,6 +1,6 @@
 -- Replicas of a scenario and their faults, as votes see them.
 use Rattle.std.specs.Prelude.{ℕ, nat_eq, Bool, List, length, map, filter}
-use Rattle.pals_base.specs.declared.values.NodeNo.{NodeNo}
+use Rattle.pals_base.specs.declared.basic_types.NodeNo.{NodeNo}
 use Rattle.pals_base.specs.UpwardNumbers.{upwards}
 use Rattle.pals_model.specs.declared.design.DesignParts.{DesignParts}
 use Rattle.pals_runs.specs.declared.vote_faults.VoteFault.{VoteFault}

@@ -1,4 +1,4 @@
-//! The rounds of plants without delay.
+//! The report of fused composition, as `fuse` writes it, row by row.
 ghost use Rattle.std.specs.Prelude.{◌≡◌, ◌++◌, [], IfOk, OnOk, slice_get};
 ghost use Rattle.pals_model.specs.DesignRules.{IsDesign};
 ghost use Rattle.pals_model.specs.RoundTexts.{text_of, row_lines, report};

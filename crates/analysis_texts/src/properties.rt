@@ -1,4 +1,4 @@
-//! The rounds of watched properties.
+//! The text of watched properties, as `watch` writes it: what each says in each round, and the first that is false.
 ghost use Rattle.std.specs.Prelude.{◌≡◌, ◌++◌, [], ◌+◌, ◌<◌, List, length, IfOk, IfSome, OnOk};
 ghost use Rattle.pals_base.specs.declared.frames.Frame.{Frame};
 ghost use Rattle.pals_model.specs.declared.environment.Env.{Env};

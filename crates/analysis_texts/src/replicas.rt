@@ -1,14 +1,14 @@
-//! The rounds of a design in which some components have replicas.
+//! The report of rounds that are voted on, as `vote` writes it, row by row.
 ghost use Rattle.std.specs.Prelude.{◌≡◌, ◌++◌, ◌<◌, ◌^◌, ℕ, List, [], All, length, map, IfOk, OnOk};
 ghost use Rattle.pals_base.specs.UpwardNumbers.{upwards};
-ghost use Rattle.pals_base.specs.declared.values.PortValue.{PortValue};
+ghost use Rattle.pals_base.specs.declared.basic_types.PortValue.{PortValue};
 ghost use Rattle.pals_model.specs.declared.design.Tap.{Tap};
 ghost use Rattle.pals_model.specs.DesignRules.{IsDesign};
 ghost use Rattle.pals_model.specs.RoundTexts.{text_of, report};
 ghost use Rattle.pals_runs.specs.declared.vote_faults.VoteFault.{VoteFault};
-ghost use Rattle.analysis_fields.specs.proof.FaultAndProcessorFacts.{IsFaultOf};
+ghost use Rattle.analysis_fields.specs.proof.FaultAndProcessorValidity.{IsFaultOf};
 ghost use Rattle.triple_vote.specs.proof.VoteLaws.{IsFault};
-ghost use Rattle.triple_vote.specs.Replicas.{is_replicated, frame_at, voted_opening};
+ghost use Rattle.triple_vote.specs.VotedComposition.{is_replicated, frame_at, voted_opening};
 ghost use Rattle.triple_vote.specs.proof.VotedStates.{voted_begun};
 ghost use Rattle.triple_vote.specs.VotedText.{replica_lines, shown_line, voted_row, voted_report, tripled_report};
 ghost use Rattle.triple_vote.specs.OutvotedFaults.{AreOutvoted};

@@ -1,4 +1,4 @@
-//! The rounds of the synchronous composition.
+//! The report of the composition, as `sync` writes it, row by row.
 ghost use Rattle.std.specs.Prelude.{◌≡◌, ◌+◌, ◌++◌, IfOk, OnOk};
 ghost use Rattle.pals_model.specs.declared.environment.Env.{Env};
 ghost use Rattle.pals_model.specs.Composition.{comp};

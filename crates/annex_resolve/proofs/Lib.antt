@@ -4,7 +4,7 @@ pub mod ResolvedExpressions
 pub mod BaseTypesQualifier
 pub mod ResolvedActions
 pub mod StateReachability
-pub mod TableCells
+pub mod ReachabilityTableCells
 pub mod TransitionTables
 pub mod MappedLists
 pub mod AnnexFindings

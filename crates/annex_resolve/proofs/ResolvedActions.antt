@@ -7,7 +7,7 @@ use Rattle.std.proofs.lemmas.List.{append-nil}
 use Rattle.pals_base.specs.declared.behaviour.Kind.{Kind}
 use Rattle.pals_base.specs.declared.behaviour.Act.{Act}
 use Rattle.pals_base.specs.declared.behaviour.Branch.{Branch}
-use Rattle.pals_base.specs.PlainTrees as plain
+use Rattle.pals_base.specs.ExpressionAndActionTrees as plain
 use Rattle.pals_base.specs.TypingRules as base
 use Rattle.pals_base.specs.proof.TreeViews.{tree_of, action_of as act_tree, actions_along, branches_along}
 use Rattle.aadl_tree.specs.declared.actions.Bound.{Bound}
@@ -25,7 +25,7 @@ use Rattle.annex_resolve.specs.declared.scope.Scope.{Scope}
 use Rattle.annex_resolve.specs.declared.scope.DeclaredName.{DeclaredName}
 use Rattle.annex_resolve.specs.declared.violation.Violation.{Violation}
 use Rattle.annex_resolve.specs.declared.violation.TheConstants.{BAD_TYPE, LOOP_TOO_LONG}
-use Rattle.annex_resolve.specs.NamesAndFindings.{entry_named, kind_of, may_set, may_send, given_to, with_loop}
+use Rattle.annex_resolve.specs.NameMeanings.{entry_named, kind_of, may_set, may_send, given_to, with_loop}
 use Rattle.annex_resolve.specs.FindingRecords.{found_if}
 use Rattle.annex_resolve.specs.ExpressionTypesAndFindings.{whole_types, kind_named}
 use Rattle.annex_resolve.specs.ResolvedTrees.{bound_value, expression_of, action_of, actions_of, mores_of, elsifs_of}

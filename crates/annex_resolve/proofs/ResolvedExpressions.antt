@@ -1,5 +1,5 @@
--- Relations, whole expressions, factors and lists of operands are resolved as they are meant, one level of the tree
--- after another.
+-- Comparisons, relations, whole expressions, factors and lists of operands are resolved as they are meant, one level
+-- of the tree after another.
 use Rattle.std.proofs.Common.{◌≡◌, ℕ, ℤ, pos, not, Bool, Result, Ok, Err, ◌+◌, ◌<◌, List, [], ◌∷◌, ◌++◌, length, take}
 use Rattle.std.proofs.Common.{get_or, Option, Some, None, refl, sym, ap, ◌∙◌, append_assoc, arith, Box, Global}
 use Rattle.std.specs.Option.{is_some}
@@ -12,7 +12,7 @@ use Rattle.pals_base.specs.declared.behaviour.Operand.{Operand}
 use Rattle.pals_base.specs.declared.behaviour.Kind.{Kind}
 use Rattle.pals_base.specs.declared.behaviour.Kind.TheVariants.{Integer, Boolean}
 use Rattle.pals_base.specs.declared.behaviour.Op.{Op}
-use Rattle.pals_base.specs.PlainTrees as plain
+use Rattle.pals_base.specs.ExpressionAndActionTrees as plain
 use Rattle.pals_base.specs.proof.TreeViews.{tree_of, operands_along}
 use Rattle.aadl_tree.specs.declared.expressions.MultiplyOperator.{MultiplyOperator}
 use Rattle.aadl_tree.specs.declared.expressions.LogicOperator.{LogicOperator}
@@ -40,7 +40,7 @@ use Rattle.annex_resolve.specs.ExpressionTypesAndFindings.{expression_kind, expr
 use Rattle.annex_resolve.specs.ResolvedTrees.{truth_of, primary_of, chained, multiply_op, sign_op, relation_op}
 use Rattle.annex_resolve.specs.ResolvedTrees.{logic_op, factor_of, factors_of, term_of, terms_of, sum_of, relation_of}
 use Rattle.annex_resolve.specs.ResolvedTrees.{relations_of, expression_of}
-use Rattle.annex_resolve.specs.NamesAndFindings.{entry_named, read_of, or_zero}
+use Rattle.annex_resolve.specs.NameMeanings.{entry_named, read_of, or_zero}
 use Rattle.annex_resolve.specs.FindingRecords.{finding, found_if}
 use Rattle.annex_resolve.specs.declared.violation.TheConstants.{BAD_TYPE}
 use Rattle.annex_resolve.specs.proof.ResolutionResults.{Resolves, ResolvesOperands}
@@ -362,7 +362,6 @@ pub relation_alone : (scope : Scope) (left : Sum ℕ) (t : Typed) (b a : List Vi
     (relation_types scope (single left)) t b a
 unfolding relation_of relation_kind relation_types
 relation_alone scope left t b a reads = reads
-
 
 pub relation_both : (scope : Scope) (x y : Sum ℕ) (o : RelationOperator) (at to : ℕ) (l r e : Typed)
     (b m1 m2 a : List Violation)

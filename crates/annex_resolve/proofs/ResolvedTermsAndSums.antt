@@ -1,5 +1,5 @@
--- The terms and sums of a text, with the lists of factors and terms in them, and its comparisons are resolved as
--- they are meant, one level of their trees after another.
+-- The terms and sums of a text, with the lists of factors and terms in them, are resolved as they are meant, one
+-- level of their trees after another.
 use Rattle.std.proofs.Common.{◌≡◌, ℕ, ◌+◌, ◌<◌, List, [], ◌∷◌, ◌++◌, length, take, get_or, Option, Some, None, refl}
 use Rattle.std.proofs.Common.{sym, ap, ◌∙◌, append_assoc, arith}
 use Rattle.std.specs.Prelude.{option_map}
@@ -9,7 +9,7 @@ use Rattle.pals_base.specs.declared.behaviour.Operand.{Operand}
 use Rattle.pals_base.specs.declared.behaviour.Kind.{Kind}
 use Rattle.pals_base.specs.declared.behaviour.Kind.TheVariants.{Integer}
 use Rattle.pals_base.specs.declared.behaviour.Op.{Op}
-use Rattle.pals_base.specs.PlainTrees as plain
+use Rattle.pals_base.specs.ExpressionAndActionTrees as plain
 use Rattle.pals_base.specs.proof.TreeViews.{tree_of, operands_along}
 use Rattle.aadl_tree.specs.declared.expressions.MultiplyOperator.{MultiplyOperator}
 use Rattle.aadl_tree.specs.declared.expressions.Sign.{Sign}

@@ -5,7 +5,7 @@ use Rattle.std.proofs.lemmas.Bool.{true≢false, eqb-true}
 use Rattle.pals_base.specs.declared.behaviour.Expr.{Expr}
 use Rattle.pals_base.specs.declared.behaviour.Expr.TheVariants as expr
 use Rattle.pals_base.specs.declared.behaviour.Operand.{Operand}
-use Rattle.pals_base.specs.PlainTrees as plain
+use Rattle.pals_base.specs.ExpressionAndActionTrees as plain
 use Rattle.pals_base.specs.proof.TreeViews.{tree_of, operands_along}
 use Rattle.pals_base.proofs.TreeViews.{tree_of-Chain}
 use Rattle.annex_resolve.specs.ResolvedTrees.{chained}

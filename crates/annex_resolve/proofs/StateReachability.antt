@@ -7,10 +7,10 @@ use Rattle.std.proofs.lemmas.Bool.{not-true}
 use Rattle.list_lemmas.proofs.Elements.{list_any_by_element}
 use Rattle.list_lemmas.proofs.Numbers.{nat_eq-self}
 use Rattle.pals_base.specs.declared.behaviour.BehaviourParts.{BehaviourParts}
-use Rattle.pals_base.specs.PlainTrees.{Edge}
+use Rattle.pals_base.specs.ExpressionAndActionTrees.{Edge}
 use Rattle.pals_base.specs.SingleStep.{is_complete, leaving}
 use Rattle.pals_base.specs.BehaviourRules.{IsWay, IsAcyclic}
-use Rattle.pals_base.proofs.WaysAndCycles.{incomplete_within}
+use Rattle.pals_base.proofs.TransitionWaysAndCycles.{incomplete_within}
 use Rattle.annex_resolve.specs.IncompleteStateCycles.{leads, reaches, is_on_cycle}
 
 -- ---- tests

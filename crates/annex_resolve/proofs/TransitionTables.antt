@@ -9,11 +9,11 @@ use Rattle.std.proofs.lemmas.List.Elements.{filter-append}
 use Rattle.std.proofs.lemmas.List.Folds.{list_any-append}
 use Rattle.std.proofs.Math.Bool.{and-false}
 use Rattle.pals_base.specs.declared.behaviour.BehaviourParts.{BehaviourParts}
-use Rattle.pals_base.specs.PlainTrees.{Edge}
+use Rattle.pals_base.specs.ExpressionAndActionTrees.{Edge}
 use Rattle.pals_base.specs.SingleStep.{is_complete}
 use Rattle.pals_base.specs.UpwardNumbers.{upwards}
 use Rattle.pals_base.proofs.UpwardNumbers.{get_or-map_upwards, map_upwards_same}
-use Rattle.annex_resolve.specs.proof.ReachTables.{marked, leads_by, row_by, table_by}
+use Rattle.annex_resolve.specs.proof.ReachabilityTables.{marked, leads_by, row_by, table_by}
 
 -- ---- lists that have an element for each number
 -- one of them is another

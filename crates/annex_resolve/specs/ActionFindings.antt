@@ -12,7 +12,7 @@ use Rattle.annex_resolve.specs.declared.scope.Scope.{Scope}
 use Rattle.annex_resolve.specs.declared.scope.DeclaredName.{DeclaredName}
 use Rattle.annex_resolve.specs.declared.violation.Violation.{Violation}
 use Rattle.annex_resolve.specs.declared.violation.TheConstants.{BAD_TYPE, LOOP_TOO_LONG}
-use Rattle.annex_resolve.specs.NamesAndFindings.{entry_named, kind_of, may_set, may_send, with_loop}
+use Rattle.annex_resolve.specs.NameMeanings.{entry_named, kind_of, may_set, may_send, with_loop}
 use Rattle.annex_resolve.specs.FindingRecords.{found_if}
 use Rattle.annex_resolve.specs.ExpressionTypesAndFindings.{whole_types, is_boolean, kind_named}
 use Rattle.annex_resolve.specs.ResolvedTrees.{bound_value}

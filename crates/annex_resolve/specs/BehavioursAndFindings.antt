@@ -15,9 +15,9 @@ use Rattle.aadl_tree.specs.Actions.{Block}
 use Rattle.annex_resolve.specs.declared.scope.Scope.{Scope}
 use Rattle.annex_resolve.specs.declared.ports_and_variables.DeclaredValues.{DeclaredValues}
 use Rattle.annex_resolve.specs.declared.states.StateAt.{StateAt}
-use Rattle.annex_resolve.specs.declared.departures.Departure.{Departure}
-use Rattle.annex_resolve.specs.declared.departures.GuardCase.{GuardCase}
-use Rattle.annex_resolve.specs.declared.departures.GuardCase.TheVariants.{Dispatch, Otherwise, Always, Guarded}
+use Rattle.annex_resolve.specs.declared.outgoing_transitions.Departure.{Departure}
+use Rattle.annex_resolve.specs.declared.outgoing_transitions.GuardCase.{GuardCase}
+use Rattle.annex_resolve.specs.declared.outgoing_transitions.GuardCase.TheVariants.{Dispatch, Otherwise, Always, Guarded}
 use Rattle.annex_resolve.specs.declared.violation.Violation.{Violation}
 use Rattle.annex_resolve.specs.declared.violation.TheConstants.{NO_INITIAL, DISPATCH_COUNT, NO_OTHERWISE}
 use Rattle.annex_resolve.specs.declared.violation.TheConstants.{CYCLE_WITHOUT_COMPLETE}
@@ -26,7 +26,7 @@ use Rattle.annex_resolve.specs.ExpressionTypesAndFindings.{whole_types}
 use Rattle.annex_resolve.specs.ResolvedTrees.{expression_of, block_of}
 use Rattle.annex_resolve.specs.ActionFindings.{block_findings}
 use Rattle.annex_resolve.specs.IncompleteStateCycles.{is_on_cycle}
-use Rattle.pals_base.specs.PlainTrees as plain
+use Rattle.pals_base.specs.ExpressionAndActionTrees as plain
 
 -- ---- states
 abbrev pub state_at : StateDeclaration ℕ → Identifier ℕ → StateAt

@@ -16,7 +16,7 @@ use Rattle.annex_resolve.specs.declared.scope.Scope.{Scope}
 use Rattle.annex_resolve.specs.declared.scope.DeclaredName.{DeclaredName}
 use Rattle.annex_resolve.specs.declared.violation.Violation.{Violation}
 use Rattle.annex_resolve.specs.declared.violation.TheConstants.{BAD_TYPE}
-use Rattle.annex_resolve.specs.NamesAndFindings.{entry_named, kind_of, read_of}
+use Rattle.annex_resolve.specs.NameMeanings.{entry_named, kind_of, read_of}
 use Rattle.annex_resolve.specs.FindingRecords.{found_if}
 use Rattle.aadl_tree.specs.declared.expressions.RelationOperator.TheVariants as compare
 

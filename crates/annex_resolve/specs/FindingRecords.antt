@@ -5,6 +5,5 @@ use Rattle.annex_resolve.specs.declared.violation.Violation.{Violation}
 abbrev pub finding : ℕ → ℕ → List ℕ → Violation
 finding at number details = record { at = at; number = number; details = details }
 
-
 abbrev pub found_if : Bool → ℕ → ℕ → List ℕ → List Violation
 found_if wrong at number details = if wrong then finding at number details ∷ [] else []

@@ -1,4 +1,4 @@
-pub mod NamesAndFindings
+pub mod NameMeanings
 pub mod ExpressionTypesAndFindings
 pub mod ResolvedTrees
 pub mod ActionFindings

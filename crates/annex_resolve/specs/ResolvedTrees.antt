@@ -13,9 +13,9 @@ use Rattle.aadl_tree.specs.Expressions.{join}
 use Rattle.aadl_tree.specs.Actions.{Action, assign, send, choose, loop, Actions, actions, Mores, no_mores, more, Elsifs}
 use Rattle.aadl_tree.specs.Actions.{no_elsifs, elsif, Otherwise, no_otherwise, otherwise, Block, no_block, block}
 use Rattle.annex_resolve.specs.declared.scope.Scope.{Scope}
-use Rattle.annex_resolve.specs.NamesAndFindings.{entry_named, read_of, or_zero, given_to, with_loop}
+use Rattle.annex_resolve.specs.NameMeanings.{entry_named, read_of, or_zero, given_to, with_loop}
 use Rattle.pals_base.specs.declared.behaviour.Op.TheVariants as ops
-use Rattle.pals_base.specs.PlainTrees as plain
+use Rattle.pals_base.specs.ExpressionAndActionTrees as plain
 use Rattle.aadl_tree.specs.declared.expressions.Sign.TheVariants as signs
 use Rattle.aadl_tree.specs.declared.expressions.LogicOperator.TheVariants as logic
 use Rattle.aadl_tree.specs.declared.expressions.RelationOperator.TheVariants as compare

@@ -7,7 +7,7 @@ ghost use Rattle.aadl_tree.specs.proof.PlaceMaps.{kept_place};
 ghost use Rattle.aadl_tree.specs.proof.ExpressionViews.{expression_view};
 ghost use Rattle.aadl_tree.specs.proof.ActionViews.{action_view, actions_view, block_view, choice_view, loop_view};
 ghost use Rattle.aadl_tree.specs.proof.ActionViews.{block_of as listed_block};
-ghost use Rattle.annex_resolve.specs.NamesAndFindings.{may_set, may_send, nothing, given_to, kind_of};
+ghost use Rattle.annex_resolve.specs.NameMeanings.{may_set, may_send, nothing, given_to, kind_of};
 ghost use Rattle.annex_resolve.specs.ExpressionTypesAndFindings.{whole_types};
 ghost use Rattle.annex_resolve.specs.ResolvedTrees.{expression_of, action_of, actions_of, block_of};
 ghost use Rattle.annex_resolve.specs.ActionFindings.{is_integer, action_findings, actions_findings, block_findings};

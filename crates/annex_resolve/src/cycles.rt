@@ -4,7 +4,7 @@ ghost use Rattle.std.specs.Prelude.{◌≡◌, ◌<◌, ◌+◌, IfOk, false, le
 ghost use Rattle.pals_base.specs.SingleStep.{is_complete};
 ghost use Rattle.pals_base.specs.UpwardNumbers.{upwards};
 ghost use Rattle.annex_resolve.specs.IncompleteStateCycles.{reaches, is_on_cycle};
-ghost use Rattle.annex_resolve.specs.proof.ReachTables.{marked};
+ghost use Rattle.annex_resolve.specs.proof.ReachabilityTables.{marked};
 
 use pals_base::{BehaviourParts, Items, NoMemory};
 use std::alloc::{AllocError, Global};
@@ -52,7 +52,7 @@ pub struct Reachability {
 }
 
 impl Reachability {
-    ghost use Rattle.annex_resolve.specs.proof.ReachTables.{row_of, IsTable, cell};
+    ghost use Rattle.annex_resolve.specs.proof.ReachabilityTables.{row_of, IsTable, cell};
 
     // The table of single transitions.
     fn first(alloc: Global, parts: &BehaviourParts) -> Result<Reachability, NoMemory>

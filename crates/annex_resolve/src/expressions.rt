@@ -1,7 +1,7 @@
 //! Expressions: their types, and the trees in which names are numbers.
 ghost use Rattle.std.specs.Prelude.{◌≡◌, ◌++◌, IfOk, OnOk, Some, option_map, option_copied};
 ghost use Rattle.pals_base.specs.declared.behaviour.Kind.TheVariants.{Integer, Boolean};
-ghost use Rattle.pals_base.specs.PlainTrees.{Literal, Chain, Then, NoMore};
+ghost use Rattle.pals_base.specs.ExpressionAndActionTrees.{Literal, Chain, Then, NoMore};
 ghost use Rattle.pals_base.specs.proof.TreeViews.{tree_of, operands_along};
 ghost use Rattle.aadl_tree.specs.Expressions.{named};
 ghost use Rattle.aadl_tree.specs.proof.PlaceMaps.{kept_place};
@@ -9,7 +9,7 @@ ghost use Rattle.aadl_tree.specs.proof.NameViews.{identifier_view};
 ghost use Rattle.aadl_tree.specs.proof.ExpressionViews.{leading_view, primary_view, factor_view, factors_view};
 ghost use Rattle.aadl_tree.specs.proof.ExpressionViews.{term_view, terms_view, sum_view, relation_view, relations_view};
 ghost use Rattle.aadl_tree.specs.proof.ExpressionViews.{expression_view};
-ghost use Rattle.annex_resolve.specs.NamesAndFindings.{kind_of, read_of};
+ghost use Rattle.annex_resolve.specs.NameMeanings.{kind_of, read_of};
 ghost use Rattle.annex_resolve.specs.ExpressionTypesAndFindings.{fits, misfit, read_kind, is_equality, sides_misfit};
 ghost use Rattle.annex_resolve.specs.ExpressionTypesAndFindings.{primary_kind, factor_kind, term_kind, total_kind};
 ghost use Rattle.annex_resolve.specs.ExpressionTypesAndFindings.{relation_kind, expression_kind, primary_types};

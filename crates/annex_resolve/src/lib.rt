@@ -4,11 +4,11 @@
 
 pub mod actions;
 pub mod annex;
+pub mod cycle_laws;
 pub mod cycles;
-pub mod departures;
 pub mod expressions;
-pub mod laws;
 pub mod loop_turns;
+pub mod outgoing_transitions;
 pub mod ports_and_variables;
 pub mod scope;
 pub mod state_rules;

@@ -2,7 +2,7 @@
 ghost use Rattle.std.specs.Prelude.{◌≡◌, IfOk, option_copied};
 ghost use Rattle.aadl_tree.specs.proof.PlaceMaps.{kept_place};
 ghost use Rattle.aadl_tree.specs.proof.NameViews.{identifier_view};
-ghost use Rattle.annex_resolve.specs.NamesAndFindings.{entry_named, with_loop};
+ghost use Rattle.annex_resolve.specs.NameMeanings.{entry_named, with_loop};
 
 use aadl_tree::Identifier;
 use pals_base::{Items, Kind, NoMemory, Text, TryClone};

@@ -8,7 +8,7 @@ ghost use Rattle.annex_resolve.specs.FindingRecords.{found_if};
 ghost use Rattle.annex_resolve.specs.BehavioursAndFindings.{state_rules, rule_findings};
 
 use crate::cycles::cyclic_states;
-use crate::departures::{Departure, breaks_dispatch, departures_of, lacks_otherwise};
+use crate::outgoing_transitions::{Departure, breaks_dispatch, departures_of, lacks_otherwise};
 use crate::states::{StateAt, has_initial};
 use crate::violation::{
     CYCLE_WITHOUT_COMPLETE, DISPATCH_COUNT, NO_INITIAL, NO_OTHERWISE, Violation, add_if,

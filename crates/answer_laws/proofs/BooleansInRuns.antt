@@ -2,8 +2,8 @@
 use Rattle.std.proofs.Common.{ℕ, List}
 use Rattle.pals_model.specs.declared.design.DesignParts.{DesignParts}
 use Rattle.pals_model.specs.DesignRules.{IsDesign}
-use Rattle.pals_model.proofs.KindsOfRounds.{states_fit, messages_fit, parts_fit}
-use Rattle.bundle_designs.specs.BundleMeanings.{IsAccepted}
+use Rattle.pals_model.proofs.RoundsKeepKinds.{states_fit, messages_fit, parts_fit}
+use Rattle.bundle_designs.specs.AcceptedAndRefusedPackages.{IsAccepted}
 use Rattle.analysis_texts.specs.ReplicasAndRoundFaults.{replicated_in, faults_of}
 use Rattle.scenario_laws.specs.proof.FusiblePairs.{PairsCanBeFused}
 use Rattle.kind_laws.proofs.VotedKinds.{voted_fit, shown_fit}
@@ -13,9 +13,9 @@ use Rattle.pals_top.specs.BundleScenarios.{run_of}
 use Rattle.answer_laws.specs.proof.BooleansInRuns.{ScenariosFit, StatesOfScenariosFit, MessagesOfScenariosFit}
 use Rattle.answer_laws.specs.proof.BooleansInRuns.{PartsOfScenariosFit, FaultsOfScenariosFit, VotesOfScenariosFit}
 use Rattle.answer_laws.specs.proof.BooleansInRuns.{ShownOfScenariosFit, FusedOfScenariosFit, BusesOfScenariosFit}
-use Rattle.answer_laws.proofs.FittingInputs.{lists_to_env}
-use Rattle.answer_laws.proofs.FittingFaultValues.{each_round}
-use Rattle.answer_laws.proofs.FittingScenarios.{meant_by}
+use Rattle.answer_laws.proofs.InputValueKinds.{lists_to_env}
+use Rattle.answer_laws.proofs.FaultValueKinds.{each_round}
+use Rattle.answer_laws.proofs.ScenarioValueKinds.{meant_by}
 
 pub scenarios_fit : ScenariosFit
 scenarios_fit root bundle command design scenario has =

@@ -19,18 +19,18 @@ use Rattle.pals_top.specs.CommandWords.{IsWithinRingLimits}
 use Rattle.pals_top.specs.BundleScenarios.{HasScenarioFault}
 use Rattle.pals_top.specs.AnalysisAnswers.{command_of as analysis_command, IsAnalysisAnswer}
 use Rattle.pals_top.specs.ExecutionAnswers.{command_of as execution_command, overlong_code_line, IsExecutionAnswer}
-use Rattle.pals_top.specs.proof.CodedBundles.{HasEvents}
+use Rattle.pals_top.specs.proof.BundlesWithCodes.{HasEvents}
 use Rattle.scenario_laws.specs.proof.ScenarioOrFault.{HasScenario, HasFault}
 use Rattle.answer_laws.specs.proof.BundleContents.{HasTree}
-use Rattle.pals_top.specs.proof.PrivateFunctions.{is_run}
+use Rattle.pals_top.specs.proof.FlaggedCommands.{is_run}
 use Rattle.answer_laws.specs.proof.ExistingAnswers.{IsAnswerTo, HasAnswer, HasOneAnswer}
 use Rattle.answer_laws.specs.proof.ExistencePremises.{ExistenceLaws}
 use Rattle.answer_laws.proofs.ExistingTrees.{IsRefused, tree_or_refused}
 use Rattle.answer_laws.proofs.ExistingDesigns.{HasDesign, HasRefusal, design_or_refused}
-use Rattle.answer_laws.proofs.ExistingReports.{has_report}
+use Rattle.answer_laws.proofs.ExistingCheckReports.{has_report}
 use Rattle.answer_laws.proofs.OverlongCodes.{long_or_short}
 use Rattle.answer_laws.proofs.UniqueCallAnswers.{AnswerIsDecided}
-use Rattle.answer_laws.proofs.ExistingResults.{by_analysis, by_execution}
+use Rattle.answer_laws.proofs.ExistingScenarioAnswers.{by_analysis, by_execution}
 
 -- ---- a ring
 ringed : (nodes rounds : ℕ) (bundle : List ℕ) → HasAnswer (Ring nodes rounds) bundle

@@ -2,17 +2,17 @@
 use Rattle.std.proofs.Common.{◌⊎◌, inl, inr, ℕ, List, [], ◌∷◌, ◌++◌, refl}
 use Rattle.aadl_tree.specs.proof.GivenTrees.{IsGiven}
 use Rattle.annex_resolve.specs.declared.violation.Violation.{Violation}
-use Rattle.aadl_instance.specs.FlattenedDesign.{InstanceParts, IsFlat}
+use Rattle.aadl_instance.specs.InstancesByPaths.{InstanceParts, IsFlat}
 use Rattle.model_violations.specs.Violations.{shown_by, AreViolations}
 use Rattle.pals_model.specs.declared.design.DesignParts.{DesignParts}
 use Rattle.pals_model.specs.DesignRules.{IsDesign}
 use Rattle.pals_model.specs.RoundTexts.{line_end, text_of as lines_text}
 use Rattle.pals_report.specs.PackageFaultLines.{package_fault_line}
 use Rattle.pals_report.specs.ViolationLines.{violation_lines}
-use Rattle.bundle_designs.specs.BundleMeanings.{IsRefusedIn, IsAccepted}
+use Rattle.bundle_designs.specs.AcceptedAndRefusedPackages.{IsRefusedIn, IsAccepted}
 use Rattle.pals_top.specs.declared.status.TheConstants.{TEXT_REFUSED, DESIGN_REFUSED}
 use Rattle.pals_top.specs.RefusalAnswers.{IsBundleRefused}
-use Rattle.design_laws.specs.proof.PackageOutcomes.{HasFirstFault, HasInstance}
+use Rattle.design_laws.specs.proof.FirstFaultOrInstance.{HasFirstFault, HasInstance}
 use Rattle.answer_laws.specs.proof.BundleContents.{HasTree}
 use Rattle.answer_laws.specs.proof.ExistencePremises.{ExistenceLaws}
 use Rattle.answer_laws.proofs.ExistingTrees.{IsRefused, tree_or_refused}

@@ -6,7 +6,7 @@ use Rattle.pals_model.specs.RoundTexts.{line_end, text_of, report}
 use Rattle.pals_runs.specs.declared.journal.JournalEntry.{JournalEntry}
 use Rattle.pals_runs.specs.JournalLines.{entry_line}
 use Rattle.scenario_json.specs.declared.scenario.Scenario.{Scenario}
-use Rattle.bus_machine.specs.States.{BusState, finished_by_all}
+use Rattle.bus_machine.specs.BusStates.{BusState, finished_by_all}
 use Rattle.bus_machine.specs.WorldTexts.{worldtext}
 use Rattle.loose_world.specs.declared.loose_run.LooseEnd.{LooseEnd}
 use Rattle.loose_world.specs.declared.loose_run.LooseEnd.TheVariants as end

@@ -16,7 +16,7 @@ use Rattle.scenario_json.specs.declared.scenario.Scenario.{Scenario}
 use Rattle.scenario_json.specs.proof.ScenarioValidity.{IsScenarioOf}
 use Rattle.bus_machine.specs.proof.AgreementLaws.{IsRunOf}
 use Rattle.bus_machine.specs.Plans.{plan_of}
-use Rattle.bus_machine.specs.States.{BusState, finished_by_all}
+use Rattle.bus_machine.specs.BusStates.{BusState, finished_by_all}
 use Rattle.bus_machine.specs.Runs.{Run}
 use Rattle.bus_machine.specs.ActionsAndTargets.{target}
 use Rattle.run_laws.specs.ListRunEndsAndStops.{AllAtEnd}

@@ -7,7 +7,7 @@ use Rattle.pals_model.specs.RoundTexts.{line_end}
 use Rattle.pals_report.specs.TextFaultLines.{text_fault_line, no_divider_line}
 use Rattle.bundle_designs.specs.Bundles.{IsSplit, HasNoDivider}
 use Rattle.bundle_designs.specs.RefusedTexts.{IsTextRefused}
-use Rattle.aadl_grammar.specs.proof.TextOutcomes.{HasTree as HasTreeOf, HasLexFault, Stops, NestsTooDeep}
+use Rattle.aadl_grammar.specs.proof.TokensTreesAndFaults.{HasTree as HasTreeOf, HasLexFault, Stops, NestsTooDeep}
 use Rattle.answer_laws.specs.proof.BundleContents.{HasTree}
 use Rattle.answer_laws.proofs.BundleSplits.{split_or_not}
 use Rattle.answer_laws.specs.proof.ExistencePremises.{ExistenceLaws}

@@ -1,33 +1,33 @@
 pub mod BundleSplits
-pub mod UniqueScenariosAndReports
+pub mod UniqueScenarios
 pub mod UniqueDesignsAndRefusals
-pub mod BundleScenarios
+pub mod UniqueBundleScenarios
 pub mod UniqueLooseWorldAnswers
 pub mod TimedWorldAnswers
-pub mod UniqueResults
+pub mod UniqueScenarioAnswers
 pub mod UniqueExecutionAnswers
 pub mod UniqueAnswers
 pub mod UniqueCallAnswers
 pub mod StatusCases
-pub mod AnswerStatuses
+pub mod PrintCheckAndAnalysisStatuses
 pub mod ExecutionStatuses
 pub mod SourceAnswers
 pub mod ReadStatuses
 pub mod RunEnds
 pub mod RunAnswers
-mod FittingInputs
-mod FittingFaultValues
-mod FittingScenarios
+mod InputValueKinds
+mod FaultValueKinds
+mod ScenarioValueKinds
 mod BooleansInRuns
 mod ExistingTrees
 mod ExistingDesigns
-mod ExistingReports
+mod ExistingCheckReports
 mod LooseWorldEnds
 mod ExistingLooseWorldAnswers
 mod OverlongCodes
-mod ExistingLayouts
+mod ExistingStepCodes
 mod ExistingRunAnswers
-mod ExistingResults
+mod ExistingScenarioAnswers
 mod ExistingAnswers
 pub mod ScenarioAnswerStatuses
 pub mod UniqueCheckReports

@@ -9,7 +9,7 @@ use Rattle.pals_runs.specs.declared.events_and_faults.EventFault.{EventFault}
 use Rattle.pals_runs.specs.declared.events_and_faults.EventFault.TheVariants as fault
 use Rattle.pals_runs.specs.declared.journal.JournalEntry.{JournalEntry}
 use Rattle.pals_runs.specs.declared.journal.Stop.{Stop}
-use Rattle.bus_machine.specs.States.{BusState, opening}
+use Rattle.bus_machine.specs.BusStates.{BusState, opening}
 use Rattle.bus_machine.specs.Runs.{Run}
 use Rattle.bus_machine.specs.Machine.{BusEvent, is_allowed, after, IsStep}
 use Rattle.bus_machine.specs.Replay.{entries}
@@ -17,7 +17,7 @@ use Rattle.pals_bus.specs.LooseEvents.{loose_event}
 use Rattle.loose_world.specs.declared.loose_run.LooseEnd.{LooseEnd}
 use Rattle.loose_world.specs.declared.loose_run.LooseEnd.TheVariants as end
 use Rattle.loose_world.specs.LooseRuns.{IsFaultOf, IsLooseIn}
-use Rattle.loose_world.specs.MachineSteps.{AllStep, ComesTo}
+use Rattle.loose_world.specs.LooseEventsAsSteps.{AllStep, ComesTo}
 use Rattle.loose_world.specs.proof.EventsAsSteps.{StepsTo}
 
 -- from the opening of a run on they end in some way, at some state and with some journal

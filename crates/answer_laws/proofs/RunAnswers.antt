@@ -13,7 +13,7 @@ use Rattle.scenario_json.specs.declared.scenario.Scenario.{Scenario}
 use Rattle.scenario_json.specs.Scenarios.{fields_in, scen, Means}
 use Rattle.scenario_laws.specs.proof.ScenarioSuitability.{ScenariosSuit}
 use Rattle.bus_machine.specs.proof.AgreementLaws.{IsRunOf}
-use Rattle.bus_machine.specs.States.{finished_by_all}
+use Rattle.bus_machine.specs.BusStates.{finished_by_all}
 use Rattle.run_laws.specs.TextLines.{lines_of}
 use Rattle.run_laws.specs.TraceVerdicts.{verdict}
 use Rattle.run_laws.proofs.FinalStops.{told as stop_is_last}
@@ -30,9 +30,9 @@ use Rattle.answer_laws.specs.proof.RunAnswers.{DoneInTime, AnswersAsSync, DoneWi
 use Rattle.answer_laws.specs.proof.RunAnswers.{IsStoppedTrace, StoppedTracesAreSound}
 use Rattle.answer_laws.specs.proof.UniquenessPremises.{OneDesign, KeepsRules}
 use Rattle.answer_laws.proofs.UniqueDesignsAndRefusals.{accepted_or_refused}
-use Rattle.answer_laws.proofs.BundleScenarios.{one_meaning, meant_or_refused}
+use Rattle.answer_laws.proofs.UniqueBundleScenarios.{one_meaning, meant_or_refused}
 use Rattle.answer_laws.proofs.UniqueExecutionAnswers.{long_code, long_or_short, one_code_fault}
-use Rattle.answer_laws.proofs.UniqueResults.{Agree}
+use Rattle.answer_laws.proofs.UniqueScenarioAnswers.{Agree}
 use Rattle.answer_laws.proofs.RunEnds.{two_ended, completed_or_ended, going_on, none_ended, shows_rounds}
 
 -- ---- an answer to a bundle that means a design and a scenario

@@ -13,11 +13,9 @@ judged_is_small : (s : ℕ) (b : Bool) → s ≡ (if b then 1 else 0) → s < 2
 judged_is_small s true e = omega (arith, e)
 judged_is_small s false e = omega (arith, e)
 
-
 verdict_is_small : (s : ℕ) (b : Bool) → s ≡ (if b then 0 else 1) → s < 2
 verdict_is_small s true e = omega (arith, e)
 verdict_is_small s false e = omega (arith, e)
-
 
 pub analysis_status : (what : Analysis) (design : DesignParts) (scenario : Scenario) (s : ℕ) (a : List ℕ)
     → analyses what design scenario s a → s < 2
@@ -26,11 +24,9 @@ analysis_status Watch design scenario s a x = judged_is_small s _ x.status_is
 analysis_status Vote design scenario s a x = let e : s ≡ 0 = x.status_is in omega arith
 analysis_status Fuse design scenario s a x = let e : s ≡ 0 = x.status_is in omega arith
 
-
 -- none of them is the status of a refused text or design, of a code that is too long, or of a source that was not read
 abbrev pub IsMade : ℕ → Type 0
 IsMade s = (s < 3) ⊎ ((5 ≤ s) × (s < 9))
-
 
 pub execution_status : (what : Execution) (design : DesignParts) (scenario : Scenario) (s : ℕ) (a : List ℕ)
     → executes what design scenario s a → IsMade s
@@ -46,14 +42,12 @@ execution_status Audit design scenario s a x = let small = verdict_is_small s _ 
 execution_status Budget design scenario s a x = let small = judged_is_small s _ x.status_is in
     inl (omega (arith, small))
 
-
 -- a run refuses no scenario
 pub no_refused_run : (design : DesignParts) (scenario : Scenario) (trace : Bool) (a : List ℕ)
     → executes (Run trace) design scenario 5 a → ⊥
 no_refused_run design scenario trace a (inl x) = let e : 5 ≡ 0 = x.0 in absurd (omega (arith, e))
 no_refused_run design scenario trace a (inr (inl x)) = let e : 5 ≡ 6 = x.0 in absurd (omega (arith, e))
 no_refused_run design scenario trace a (inr (inr x)) = let e : 5 ≡ 7 = x.0 in absurd (omega (arith, e))
-
 
 pub apart : (s n : ℕ) → IsMade s → s ≡ n → ((n ≡ 3) ⊎ ((n ≡ 4) ⊎ ((n ≡ 9) ⊎ ((n ≡ 12) ⊎ (n ≡ 13))))) → ⊥
 apart s n (inl small) e (inl is) = absurd (omega (arith, small, e, is))

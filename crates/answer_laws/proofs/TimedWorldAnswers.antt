@@ -1,4 +1,4 @@
--- The events of a scenario have one result in a timed world.
+-- The events of a scenario have an answer in a timed world, and one alone.
 use Rattle.std.proofs.Common.{◌≡◌, ◌∙◌, ◌⊎◌, inl, inr, ℕ, zero, suc, List, [], ◌∷◌, ◌++◌, take, Option, None, Some}
 use Rattle.std.proofs.Common.{slice_get, refl, sym, ap, ap₂}
 use Rattle.std.proofs.lemmas.Option.{same_Some, none-some}

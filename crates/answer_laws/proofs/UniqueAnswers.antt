@@ -21,13 +21,13 @@ use Rattle.pals_top.specs.ExecutionCommands as execution
 use Rattle.pals_top.specs.AnalysisAnswers.{command_of, Makes, IsAnalysed, IsAnalysisAnswer}
 use Rattle.pals_top.specs.ExecutionAnswers.{command_of as execution_command, IsExecutionAnswer}
 use Rattle.pals_top.specs.Answers.{IsCommandAnswer}
-use Rattle.pals_top.specs.proof.PrivateFunctions.{is_run}
+use Rattle.pals_top.specs.proof.FlaggedCommands.{is_run}
 use Rattle.answer_laws.specs.proof.UniquenessPremises.{OneDesign, OneFault, AnalysisPremises, ExecutionPremises}
 use Rattle.answer_laws.proofs.UniqueDesignsAndRefusals.{one_tree, read_or_refused, one_refused_text, one_accepted}
 use Rattle.answer_laws.proofs.UniqueDesignsAndRefusals.{accepted_or_refused, package_or_text, one_refused_package}
 use Rattle.answer_laws.proofs.UniqueCheckReports.{one_report}
-use Rattle.answer_laws.proofs.BundleScenarios.{one_meaning, one_scenario_fault, meant_or_refused}
-use Rattle.answer_laws.proofs.UniqueResults.{Agree, one_analysis}
+use Rattle.answer_laws.proofs.UniqueBundleScenarios.{one_meaning, one_scenario_fault, meant_or_refused}
+use Rattle.answer_laws.proofs.UniqueScenarioAnswers.{Agree, one_analysis}
 use Rattle.answer_laws.proofs.UniqueExecutionAnswers.{IsAnswered, answered_design, one_answered}
 
 alike : (n s t : ℕ) (a b : List ℕ) → s ≡ n → t ≡ n → a ≡ b → Agree s a t b

@@ -7,7 +7,7 @@ use Rattle.aadl_tree.specs.TextTreesAndFaults.{IsTreeOf}
 use Rattle.aadl_grammar.proofs.CanonicalRoundTrip.{no_other}
 use Rattle.aadl_parse.specs.ParseResults.{IsFaultOfText}
 use Rattle.aadl_parse.proofs.UniqueParseResults.{one_text_fault, tree_or_fault}
-use Rattle.aadl_instance.specs.FlattenedDesign.{InstanceParts}
+use Rattle.aadl_instance.specs.InstancesByPaths.{InstanceParts}
 use Rattle.annex_resolve.specs.declared.violation.Violation.{Violation}
 use Rattle.model_violations.specs.Violations.{shown_by, AreViolations}
 use Rattle.aadl_names.specs.declared.fault.PackageFault.{PackageFault}
@@ -18,7 +18,7 @@ use Rattle.design_laws.specs.PackageDesigns as laws
 use Rattle.design_laws.proofs.UniqueInstancesAndDesigns.{one_instance, one_list, no_list}
 use Rattle.bundle_designs.specs.ParsedBundles.{IsParsed}
 use Rattle.bundle_designs.specs.RefusedTexts.{IsUndivided, IsUnread, IsTextRefused}
-use Rattle.bundle_designs.specs.BundleMeanings.{IsFaulty, HasViolations, IsRefusedIn, IsAccepted, IsPackageRefused}
+use Rattle.bundle_designs.specs.AcceptedAndRefusedPackages.{IsFaulty, HasViolations, IsRefusedIn, IsAccepted, IsPackageRefused}
 use Rattle.pals_top.specs.RefusalAnswers.{IsBundleRefused}
 use Rattle.answer_laws.proofs.BundleSplits.{one_split, divided}
 use Rattle.answer_laws.specs.proof.UniquenessPremises.{OneDesign, OneFault}

@@ -7,16 +7,16 @@ use Rattle.pals_model.specs.RoundTexts.{line_end}
 use Rattle.step_code.specs.CappedWeights.{capped}
 use Rattle.design_codes.specs.OverlongCodes.{length_of, AreShort, IsFirstTooLong}
 use Rattle.scenario_json.specs.declared.scenario.Scenario.{Scenario}
-use Rattle.bundle_designs.specs.BundleMeanings.{IsAccepted}
+use Rattle.bundle_designs.specs.AcceptedAndRefusedPackages.{IsAccepted}
 use Rattle.pals_top.specs.ExecutionCommands.{Execution}
 use Rattle.pals_top.specs.ExecutionAnswers.{command_of, Makes, IsExecuted, IsScenarioRefusedIn, IsCodeTooLong}
 use Rattle.pals_top.specs.ExecutionAnswers.{overlong_code_line}
 use Rattle.answer_laws.specs.proof.BundleContents.{HasLongCode}
-use Rattle.pals_top.specs.proof.PrivateFunctions.{is_run}
+use Rattle.pals_top.specs.proof.FlaggedCommands.{is_run}
 use Rattle.answer_laws.specs.proof.UniquenessPremises.{OneDesign, ExecutionPremises}
 use Rattle.answer_laws.proofs.UniqueDesignsAndRefusals.{one_accepted}
-use Rattle.answer_laws.proofs.BundleScenarios.{one_meaning, one_scenario_fault, meant_or_refused}
-use Rattle.answer_laws.proofs.UniqueResults.{Agree, one_execution}
+use Rattle.answer_laws.proofs.UniqueBundleScenarios.{one_meaning, one_scenario_fault, meant_or_refused}
+use Rattle.answer_laws.proofs.UniqueScenarioAnswers.{Agree, one_execution}
 
 -- the first code that is too long is one
 same_place : (design : DesignParts) (node other size more : ℕ) → IsFirstTooLong design node size

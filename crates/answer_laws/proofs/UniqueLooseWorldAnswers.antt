@@ -7,13 +7,13 @@ use Rattle.pals_runs.specs.declared.events_and_faults.Event.{Event}
 use Rattle.pals_runs.specs.declared.journal.JournalEntry.{JournalEntry}
 use Rattle.pals_runs.specs.JournalLines.{entry_line}
 use Rattle.scenario_json.specs.declared.scenario.Scenario.{Scenario}
-use Rattle.bus_machine.specs.States.{BusState, opening, finished_by_all}
+use Rattle.bus_machine.specs.BusStates.{BusState, opening, finished_by_all}
 use Rattle.bus_machine.specs.Runs.{Run}
 use Rattle.bus_machine.specs.WorldTexts.{worldtext}
 use Rattle.pals_report.specs.EventFaultLines.{event_fault_line}
 use Rattle.loose_world.specs.declared.loose_run.LooseEnd.{LooseEnd}
 use Rattle.loose_world.specs.declared.loose_run.LooseEnd.TheVariants as end
-use Rattle.loose_world.specs.MachineSteps.{AllStep, StepsToStop, StepsToFault}
+use Rattle.loose_world.specs.LooseEventsAsSteps.{AllStep, StepsToStop, StepsToFault}
 use Rattle.loose_world.specs.proof.EventsAsSteps.{StepsTo}
 use Rattle.loose_world.specs.proof.UniqueEnds.{LeaveTheSame, AreSameEnd, OneEnd}
 use Rattle.pals_top.specs.proof.LooseWorldEnds.{status_at}

@@ -4,10 +4,10 @@ ghost use Rattle.std.specs.Prelude.{ℕ, List, []};
 ghost use Rattle.pals_model.specs.declared.design.DesignParts.{DesignParts};
 ghost use Rattle.pals_model.specs.DesignRules.{IsDesign};
 ghost use Rattle.aadl_tree.specs.Declarations.{PackageTree};
-ghost use Rattle.aadl_instance.specs.FlattenedDesign.{InstanceParts, IsFlat};
+ghost use Rattle.aadl_instance.specs.InstancesByPaths.{InstanceParts, IsFlat};
 ghost use Rattle.model_violations.specs.Violations.{shown_by, AreViolations};
 ghost use Rattle.bundle_designs.specs.ParsedBundles.{IsParsed};
-ghost use Rattle.bundle_designs.specs.BundleMeanings.{IsAccepted};
+ghost use Rattle.bundle_designs.specs.AcceptedAndRefusedPackages.{IsAccepted};
 ghost use Rattle.answer_laws.specs.proof.BundleContents.{MeansDesign};
 
 use design_laws::packages::designs_of_texts_keep_their_rules;

@@ -2,15 +2,15 @@
 //! that does nothing.
 ghost use Rattle.answer_laws.specs.proof.ExistingAnswers.{EachBundleHasAnAnswer, EachBundleHasOneAnswer};
 
-use crate::decided_answers::answer_is_decided;
-use aadl_grammar::text_laws::tree_or_fault;
-use design_laws::package_outcomes::{
+use crate::answer_uniqueness::answer_is_decided;
+use aadl_grammar::tree_or_fault_laws::tree_or_fault;
+use design_laws::instance_existence::{
     each_instance_has_its_list, first_faults_are_named, instance_or_fault,
 };
 use design_laws::packages::designs_of_texts_keep_their_rules;
 use plant_fuse::laws::one_report;
 use run_laws::laws::each_run_ends;
-use scenario_laws::event_laws::{events_are_few, events_are_loose, traces_are_few};
+use scenario_laws::event_and_trace_laws::{events_are_few, events_are_loose, traces_are_few};
 use scenario_laws::plant_laws::pairs_can_be_fused;
 use scenario_laws::scenario_meaning::scenario_or_fault;
 use scenario_laws::scenario_suitability::scenarios_suit;

@@ -3,10 +3,10 @@
 #![tactic(auto)]
 
 pub mod accepted_designs;
+pub mod answer_uniqueness;
 pub mod boolean_values;
-pub mod bundles;
-pub mod calls;
-pub mod decided_answers;
+pub mod bundle_uniqueness;
 pub mod existence;
 pub mod runs;
+pub mod source_reads;
 pub mod statuses;

@@ -1,4 +1,4 @@
 pub mod OperatorsAndOperands
 pub mod ParsedActions
-pub mod DeclarationStarts
-pub mod ParseOutcomes
+pub mod TransitionStarts
+pub mod ParseResults

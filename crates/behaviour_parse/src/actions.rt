@@ -1,4 +1,4 @@
-//! Actions.
+//! Parses actions: assignments, sends, choices and loops, and blocks of them.
 ghost use Rattle.std.specs.Prelude.{◌≡◌, [], ◌∷◌, ◌++◌, MatchBool, option_map};
 ghost use Rattle.aadl_tree.specs.declared.mark.Mark.TheVariants as k;
 ghost use Rattle.aadl_tree.specs.Actions.{loop, action_parts, actions_parts, elsifs_parts, otherwise_parts};

@@ -1,4 +1,4 @@
-//! What a behaviour annex declares.
+//! Parses a behaviour annex: its variables, states and transitions.
 ghost use Rattle.std.specs.Prelude.{◌≡◌, [], ◌∷◌, ◌++◌, map, option_map};
 ghost use Rattle.aadl_tree.specs.declared.mark.Mark.TheVariants as k;
 ghost use Rattle.aadl_tree.specs.SpellingParts.{plain, behind, parts_if};

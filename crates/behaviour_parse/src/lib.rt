@@ -12,7 +12,7 @@ ghost use Rattle.aadl_tree.specs.proof.BehaviourFaultPlaces.{end_of, BehaviourSt
 ghost use Rattle.aadl_tree.specs.TextTreesAndFaults.{IsBehaviourOf};
 ghost use Rattle.aadl_tree.specs.proof.AnnexViews.{annex_tree_view};
 ghost use Rattle.aadl_tree.specs.proof.PlaceMaps.{kept_place};
-ghost use Rattle.behaviour_parse.specs.proof.ParseOutcomes.{IsOnlyBehaviourOf, IsFaultOfBehaviour};
+ghost use Rattle.behaviour_parse.specs.proof.ParseResults.{IsOnlyBehaviourOf, IsFaultOfBehaviour};
 
 mod actions;
 mod annex;

@@ -4,22 +4,22 @@ use Rattle.std.specs.Prelude.{Bool, Result, Ok, Err}
 use Rattle.std.proofs.lemmas.Int.{ints}
 use Rattle.std.specs.declared.alloc.Global.{Global}
 use Rattle.std.specs.declared.vec.Vec.{Vec}
-use Rattle.pals_base.specs.declared.values.Trap.{Trap}
+use Rattle.pals_base.specs.declared.basic_types.Trap.{Trap}
 use Rattle.pals_base.specs.declared.frames.Frame.{Frame}
-use Rattle.pals_base.specs.declared.values.PortValue.{PortValue}
+use Rattle.pals_base.specs.declared.basic_types.PortValue.{PortValue}
 use Rattle.pals_base.specs.declared.behaviour.Act.{Act}
 use Rattle.pals_base.specs.declared.behaviour.Act.TheVariants as variants
 use Rattle.pals_base.specs.declared.behaviour.Branch.{Branch}
 use Rattle.pals_base.specs.Actions.{Effect, act, acts, act_first, for_each, without_loop}
 use Rattle.pals_base.specs.ForRanges.{numbers, counted_from, count_of}
-use Rattle.pals_base.specs.PlainTrees.{Actions, For}
+use Rattle.pals_base.specs.ExpressionAndActionTrees.{Actions, For}
 use Rattle.pals_base.specs.ExpressionValues.{on_value}
 use Rattle.pals_base.specs.proof.TreeViews.{action_of, actions_along, branches_along}
 use Rattle.pals_base.proofs.TreeViews.{action_of-If, action_of-For}
 use Rattle.behaviour_sem.specs.declared.early_end.EarlyEnd.{EarlyEnd}
 use Rattle.behaviour_sem.specs.declared.early_end.EarlyEnd.TheVariants as stop
-use Rattle.behaviour_sem.specs.proof.ReadableFrames.{frame_of}
-use Rattle.behaviour_sem.specs.proof.StepOutcomes.{IsStepResult, IsBranchResult}
+use Rattle.behaviour_sem.specs.proof.EvaluationFrames.{frame_of}
+use Rattle.behaviour_sem.specs.proof.StepResults.{IsStepResult, IsBranchResult}
 
 -- ---- trees
 pub act-If : (branches : Vec Branch Global) (otherwise : Vec Act Global) (frame : Frame) (fresh : List Bool)

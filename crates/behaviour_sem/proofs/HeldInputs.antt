@@ -3,8 +3,8 @@ use Rattle.std.proofs.Common.{◌≡◌, ℕ, zero, suc, ◌+◌, ℤ, ◌<◌, 
 use Rattle.std.proofs.Common.{get_or, add-one, append_assoc, sym, ap, ◌∙◌, arith}
 use Rattle.std.proofs.lemmas.List.{take_more_set, drop-set-lt}
 use Rattle.std.specs.Prelude.{slice_index_or, slice_set}
-use Rattle.pals_base.specs.declared.values.PortValue.{PortValue}
-use Rattle.pals_base.specs.declared.values.PortValue.TheVariants.{Absent}
+use Rattle.pals_base.specs.declared.basic_types.PortValue.{PortValue}
+use Rattle.pals_base.specs.declared.basic_types.PortValue.TheVariants.{Absent}
 use Rattle.pals_base.specs.SingleStep.{held_of, holding}
 use Rattle.pals_base.proofs.StepSequences.{holding-none}
 
@@ -16,7 +16,6 @@ holding-more zero held (i ∷ inputs) v rest e = ap (λ h. holding h (i ∷ inpu
 holding-more (suc at) [] inputs v rest e = cc
 holding-more (suc at) (w ∷ held) [] v rest e = ap (λ h. holding h []) e ∙ ap (λ h. v ∷ h) (sym (holding-none rest))
 holding-more (suc at) (w ∷ held) (i ∷ inputs) v rest e = holding-more at held inputs v rest e
-
 
 -- a place written: what is held up to it, and of the places that are left
 pub holding-set : (at : ℕ) (held : List ℤ) (inputs : List PortValue) (before v : ℤ) → at < length held

@@ -1,5 +1,5 @@
 pub mod ActionMeanings
 pub mod StateIndependence
-pub mod TransitionsAndInputs
+pub mod TransitionSearch
 pub mod StepEnds
 pub mod HeldInputs

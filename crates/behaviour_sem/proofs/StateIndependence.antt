@@ -1,19 +1,19 @@
 -- No expression and no action reads the state or the halt of its frame.
 use Rattle.std.proofs.Common.{◌≡◌, ℤ, List, [], ◌∷◌, ◌++◌, length, refl, ap, ◌∙◌}
 use Rattle.std.specs.Prelude.{Bool, not, if◌then◌else◌, Result, Ok, Err, slice_set}
-use Rattle.pals_base.specs.declared.values.Trap.{Trap}
+use Rattle.pals_base.specs.declared.basic_types.Trap.{Trap}
 use Rattle.pals_base.specs.declared.frames.Frame.{Frame}
-use Rattle.pals_base.specs.declared.values.PortValue.{PortValue}
-use Rattle.pals_base.specs.declared.values.PortValue.TheVariants.{Present}
+use Rattle.pals_base.specs.declared.basic_types.PortValue.{PortValue}
+use Rattle.pals_base.specs.declared.basic_types.PortValue.TheVariants.{Present}
 use Rattle.pals_base.specs.Arithmetic.{negation_of, magnitude_of}
 use Rattle.pals_base.specs.ExpressionValues.{eval, eval_rest, on_value, combined, is_true, truth}
 use Rattle.pals_base.specs.Actions.{Effect, act, acts, act_first, for_each, with_vars, without_loop}
 use Rattle.pals_base.specs.ForRanges.{numbers}
 use Rattle.pals_base.specs.SingleStep.{opens}
-use Rattle.pals_base.specs.PlainTrees.{Expression, Literal, Variable, PortRead, Fresh, Neg, Abs, Not, Chain, Operands}
-use Rattle.pals_base.specs.PlainTrees.{NoMore, Then, Action, Assign, Emit, If, For, Actions, Nothing, Do, Branches}
-use Rattle.pals_base.specs.PlainTrees.{NoBranch, Where, Trigger, Dispatch, Always, When}
-use Rattle.behaviour_sem.specs.proof.ReadableFrames.{frame_of}
+use Rattle.pals_base.specs.ExpressionAndActionTrees.{Expression, Literal, Variable, PortRead, Fresh, Neg, Abs, Not, Chain, Operands}
+use Rattle.pals_base.specs.ExpressionAndActionTrees.{NoMore, Then, Action, Assign, Emit, If, For, Actions, Nothing, Do, Branches}
+use Rattle.pals_base.specs.ExpressionAndActionTrees.{NoBranch, Where, Trigger, Dispatch, Always, When}
+use Rattle.behaviour_sem.specs.proof.EvaluationFrames.{frame_of}
 use Rattle.behaviour_sem.specs.proof.ActionExecution.{effect}
 
 -- equal goings on

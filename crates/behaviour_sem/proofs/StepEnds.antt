@@ -1,9 +1,9 @@
 -- How a step ends, by whether the frame was halted and what its reaction comes to.
 use Rattle.std.proofs.Common.{◌≡◌, ℤ, List, refl, sym, ap, ◌∙◌}
 use Rattle.std.specs.Prelude.{true, false, map, Option, Some, None, Result, is_some}
-use Rattle.pals_base.specs.declared.values.Trap.{Trap}
+use Rattle.pals_base.specs.declared.basic_types.Trap.{Trap}
 use Rattle.pals_base.specs.declared.frames.Frame.{Frame}
-use Rattle.pals_base.specs.declared.values.PortValue.{PortValue}
+use Rattle.pals_base.specs.declared.basic_types.PortValue.{PortValue}
 use Rattle.pals_base.specs.declared.behaviour.BehaviourParts.{BehaviourParts}
 use Rattle.pals_base.specs.SingleStep.{Fired, fire, holding, silence, is_present, reaction, unless_halted, outcome}
 use Rattle.behaviour_sem.specs.proof.PartialSteps.{reacted}

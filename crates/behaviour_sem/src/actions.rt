@@ -1,7 +1,7 @@
 //! What actions do to the variables and to this step's outputs.
 ghost use Rattle.std.specs.Prelude.{◌≡◌, length, slice_set};
 ghost use Rattle.pals_base.specs.Actions.{act, acts};
-ghost use Rattle.pals_base.specs.PlainTrees.{For};
+ghost use Rattle.pals_base.specs.ExpressionAndActionTrees.{For};
 ghost use Rattle.pals_base.specs.proof.TreeViews.{action_of, actions_along, branches_along};
 ghost use Rattle.behaviour_sem.specs.proof.ActionExecution.{Runs, RunsFirst, turn};
 

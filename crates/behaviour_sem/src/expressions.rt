@@ -3,7 +3,7 @@ ghost use Rattle.std.specs.Prelude.{◌≡◌, pos, map, slice_index_or, false};
 ghost use Rattle.pals_base.specs.ExpressionValues.{eval, eval_rest, applied, is_true, truth};
 ghost use Rattle.pals_base.specs.SingleStep.{is_present};
 ghost use Rattle.pals_base.specs.proof.TreeViews.{tree_of, operands_along};
-ghost use Rattle.behaviour_sem.specs.proof.ReadableFrames.{seen, fresh};
+ghost use Rattle.behaviour_sem.specs.proof.EvaluationFrames.{seen, fresh};
 
 use crate::step_inputs::StepInputs;
 use pals_base::{Expr, Op, Operand, PortValue, Trap, abs, add, modulo, mul, neg, quot, rem, sub};

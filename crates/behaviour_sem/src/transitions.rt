@@ -2,7 +2,7 @@
 ghost use Rattle.std.specs.Prelude.{◌≡◌, length, slice_get, Some};
 ghost use Rattle.pals_base.specs.SingleStep.{completes, opens, along, settled};
 ghost use Rattle.pals_base.specs.proof.TreeViews.{trigger_of};
-ghost use Rattle.behaviour_sem.specs.proof.ReadableFrames.{seen, fresh};
+ghost use Rattle.behaviour_sem.specs.proof.EvaluationFrames.{seen, fresh};
 ghost use Rattle.behaviour_sem.specs.proof.TransitionMoves.{goes, move, dispatch_from};
 ghost use Rattle.behaviour_sem.specs.proof.PartialSteps.{Leads, reacted};
 

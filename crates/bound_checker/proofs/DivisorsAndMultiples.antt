@@ -1,4 +1,4 @@
--- Common divisors and multiples.
+-- The greatest common divisor by Euclid's steps, and the least common multiple that it gives.
 use Rattle.std.proofs.Common.{◌≡◌, ℕ, ◌+◌, ◌-◌, ◌*◌, ◌/◌, ◌%◌, ◌<◌, subst, sym, ap, ◌∙◌, arith}
 use Rattle.std.specs.Int.{◌∣◌}
 use Rattle.std.proofs.Math.Nat.{mul_comm, dvd-mod_iff, dvd-sub, dvd-mul_left, dvd-mul_right, dvd-mul_right_of_dvd}

@@ -8,11 +8,11 @@ use Rattle.std.proofs.lemmas.Bool.{cases_lt}
 use Rattle.std.proofs.lemmas.Nat.{mul-le, mod_below}
 use Rattle.std.proofs.Math.Nat.{dvd_of_mod-eq-zero, mod-eq-zero_of_dvd, dvd_trans, dvd-sub, le_of_dvd, mod-eq_of_lt}
 use Rattle.std.proofs.Math.Nat.{min-eq_left, min-eq_right}
-use Rattle.pals_base.specs.declared.period_bound.Gamma.{Gamma}
-use Rattle.pals_base.specs.PeriodBound.{least_period}
+use Rattle.pals_base.specs.declared.period_bound_and_releases.Gamma.{Gamma}
+use Rattle.pals_base.specs.PeriodBoundAndReleases.{least_period}
 use Rattle.pals_base.specs.declared.limits.TheConstants.{HOUR}
 use Rattle.bound_checker.specs.proof.OverflowLimits.{IsWithinHour, IsRate}
-use Rattle.bound_checker.specs.ShortestPeriods.{greatest_rate, IsSuited, IsLeastMultiple, HasNoMultiple}
+use Rattle.bound_checker.specs.LeastMultiples.{greatest_rate, IsSuited, IsLeastMultiple, HasNoMultiple}
 use Rattle.bound_checker.specs.proof.DivisorsAndMultiples.{IsLeastCommonMultiple}
 use Rattle.bound_checker.specs.proof.RateMultiples.{HasMultiplesOf}
 

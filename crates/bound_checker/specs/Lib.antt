@@ -1,2 +1,2 @@
-pub mod ShortestPeriods
+pub mod LeastMultiples
 pub mod proof

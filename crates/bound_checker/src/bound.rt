@@ -1,6 +1,6 @@
-//! What a period has to meet.
+//! The backoff and the least period that the bounds give, and whether a period is no shorter.
 ghost use Rattle.std.specs.Prelude.{◌≡◌, ◌≤◌, ◌↔◌, IsTrue};
-ghost use Rattle.pals_base.specs.PeriodBound.{backoff, least_period};
+ghost use Rattle.pals_base.specs.PeriodBoundAndReleases.{backoff, least_period};
 ghost use Rattle.pals_base.specs.declared.limits.TheConstants.{RATE};
 ghost use Rattle.bound_checker.specs.proof.OverflowLimits.{IsWithinHour};
 

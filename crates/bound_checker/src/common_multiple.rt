@@ -1,4 +1,4 @@
-//! Common divisors and multiples.
+//! The greatest common divisor and the least common multiple of two numbers.
 ghost use Rattle.std.specs.Prelude.{◌*◌, ◌^◌, ◌<◌};
 ghost use Rattle.bound_checker.specs.proof.DivisorsAndMultiples.{IsGreatestCommonDivisor, IsLeastCommonMultiple};
 

@@ -1,8 +1,8 @@
-//! What the bound gives. Each law is the contract of a function that does nothing.
+//! Laws of the bound: which steps are sent, and that messages arrive between the starts of rounds.
 ghost use Rattle.std.specs.Prelude.{◌≡◌, ℕ, ◌+◌, ◌-◌, ◌*◌, ◌<◌, ◌≤◌, List};
-ghost use Rattle.pals_base.specs.declared.period_bound.Gamma.{Gamma};
-ghost use Rattle.pals_base.specs.PeriodBound.{least_period, step_period, sent_steps, release_offset};
-ghost use Rattle.bound_checker.specs.ShortestPeriods.{IsLeastMultiple, HasNoMultiple};
+ghost use Rattle.pals_base.specs.declared.period_bound_and_releases.Gamma.{Gamma};
+ghost use Rattle.pals_base.specs.PeriodBoundAndReleases.{least_period, step_period, sent_steps, release_offset};
+ghost use Rattle.bound_checker.specs.LeastMultiples.{IsLeastMultiple, HasNoMultiple};
 ghost use Rattle.bound_checker.specs.proof.MessageTimes.{IsStarted, IsSent, IsCarried};
 
 /// At least one and at most all of a component's steps are sent.

@@ -6,7 +6,7 @@
 mod bound;
 mod common_multiple;
 pub mod laws;
-mod shortest_period;
+mod least_multiples;
 
 pub use bound::{backoff, least_period, meets};
-pub use shortest_period::least_multiple;
+pub use least_multiples::least_multiple;

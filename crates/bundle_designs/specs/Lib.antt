@@ -1,4 +1,4 @@
-pub mod BundleMeanings
+pub mod AcceptedAndRefusedPackages
 pub mod Bundles
 pub mod ParsedBundles
 pub mod CanonicalTexts

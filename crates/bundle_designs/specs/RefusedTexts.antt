@@ -1,4 +1,4 @@
--- A bundle whose design text is refused.
+-- What is written of a bundle whose design text is refused: that no line divides it, or the first fault of its text.
 use Rattle.std.specs.Prelude.{◌≡◌, ◌≢◌, ℕ, List, ◌++◌, ◌⊎◌}
 use Rattle.aadl_parse.specs.declared.text_fault.TextFault.{TextFault}
 use Rattle.aadl_parse.specs.declared.text_fault.TextFault.TheVariants.{Memory}

@@ -2,12 +2,12 @@
 ghost use Rattle.std.specs.Prelude.{IfOk, IfErr};
 ghost use Rattle.aadl_tree.specs.proof.PackageViews.{placed};
 ghost use Rattle.design_laws.specs.PackageDesigns.{IsDesignIn};
-ghost use Rattle.bundle_designs.specs.BundleMeanings.{IsAccepted};
+ghost use Rattle.bundle_designs.specs.AcceptedAndRefusedPackages.{IsAccepted};
 ghost use Rattle.bundle_designs.specs.proof.Refusals.{IsPackageRefusal, IsRefusal};
 
 use crate::parsed_bundle::{ParsedBundle, parse_bundle};
 use crate::refusal::Refusal;
-use crate::refused_design::{refused_instance, refused_package};
+use crate::refused_package::{refused_instance, refused_package};
 use aadl_instance::flatten;
 use aadl_tree::PackageTree;
 use model_checks::{CheckFault, check};

@@ -9,7 +9,7 @@ mod bundle;
 mod canonical_text;
 mod parsed_bundle;
 mod refusal;
-mod refused_design;
+mod refused_package;
 mod refused_text;
 
 pub use accepted_bundle::{Accepted, accept};

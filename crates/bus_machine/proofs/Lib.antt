@@ -1,10 +1,10 @@
 pub mod StoppedCounterRuns
 pub mod ListsAndOldestCopies
 pub mod InputAgreement
-pub mod NodeLocalAgreement
-pub mod AgreementChanges
-pub mod NodeEventAgreement
+pub mod NodeEventLocalAgreement
+pub mod StateChangeAgreement
+pub mod NodeEventBusAgreement
 pub mod MessageAndRunAgreement
 pub mod TargetExamples
-pub mod QuantitiesAndSentRounds
+pub mod NodeReplacement
 pub mod SentRounds

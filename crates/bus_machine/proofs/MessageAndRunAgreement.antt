@@ -10,8 +10,8 @@ use Rattle.std.proofs.lemmas.List.Elements.{All-append}
 use Rattle.std.proofs.lemmas.Option.{slice_get_within, slice_get-get_or, get_or_from_slice_get}
 use Rattle.list_lemmas.proofs.Options.{some_by_test}
 use Rattle.list_lemmas.proofs.ElementPositions.{get_or-map_constant}
-use Rattle.pals_base.specs.declared.values.PortValue.{PortValue}
-use Rattle.pals_base.specs.declared.values.LinkNo.{LinkNo}
+use Rattle.pals_base.specs.declared.basic_types.PortValue.{PortValue}
+use Rattle.pals_base.specs.declared.basic_types.LinkNo.{LinkNo}
 use Rattle.pals_base.specs.UpwardNumbers.{upwards}
 use Rattle.pals_base.proofs.UpwardNumbers.{length-upwards, get_or-map_upwards}
 use Rattle.pals_model.specs.declared.design.Component.{Component}
@@ -33,9 +33,9 @@ use Rattle.bus_machine.specs.Plans.{input_of, component_at, no_component, plan_o
 use Rattle.bus_machine.specs.Nodes.{NodeState, opening_node, sent_rounds}
 use Rattle.bus_machine.specs.NodeEvents.{slot_at, arrived, with_message, received}
 use Rattle.bus_machine.specs.LinkEvents.{is_in_flight, arriving, tuple_in, once_more, repeated}
-use Rattle.bus_machine.specs.States.{BusState, opening, node_at, no_node, flight_at, with_node, with_flight}
+use Rattle.bus_machine.specs.BusStates.{BusState, opening, node_at, no_node, flight_at, with_node, with_flight}
 use Rattle.bus_machine.specs.Runs.{Run}
-use Rattle.bus_machine.specs.MissedStarts.{missing_link, rounds_sent_on}
+use Rattle.bus_machine.specs.MissedMessages.{missing_link, rounds_sent_on}
 use Rattle.bus_machine.specs.Machine.{BusEvent, Start, Step, Finish, Send, Arrive, Drop, Repeat, arrival, early_stop}
 use Rattle.bus_machine.specs.Machine.{after_arrive, after, is_allowed}
 use Rattle.bus_machine.specs.Replay.{opens, goes_on}
@@ -43,8 +43,8 @@ use Rattle.bus_machine.specs.Agreement.{IsInRound, PhaseAgrees, NodeAgrees, Slot
 use Rattle.bus_machine.specs.proof.AgreementLaws.{IsRunOf, OpeningAgrees, StepKeepsAgreement, ReplayAgrees}
 use Rattle.bus_machine.proofs.ListsAndOldestCopies.{All-without_oldest, oldest_is_one}
 use Rattle.bus_machine.proofs.InputAgreement.{SlotsAgree, length_sources}
-use Rattle.bus_machine.proofs.AgreementChanges.{with_stop_agrees, with_flight_agrees, with_node_agrees, slots_of}
-use Rattle.bus_machine.proofs.NodeEventAgreement.{one_copy, start_keeps, step_keeps, finish_keeps_all, send_keeps}
+use Rattle.bus_machine.proofs.StateChangeAgreement.{with_stop_agrees, with_flight_agrees, with_node_agrees, slots_of}
+use Rattle.bus_machine.proofs.NodeEventBusAgreement.{one_copy, start_keeps, step_keeps, finish_keeps_all, send_keeps}
 
 -- ---- a copy in flight
 -- a link on which a copy is in flight is the design's

@@ -5,7 +5,7 @@ use Rattle.std.specs.Fmt.{digits}
 use Rattle.std.specs.Prelude.{◌≡◌, ◌++◌, List, [], ◌∷◌, None, true}
 use Rattle.pals_base.specs.SingleStep.{fire}
 use Rattle.pals_runs.specs.declared.journal.JournalEntry.{JournalEntry}
-use Rattle.bus_machine.specs.States.{BusState, opening}
+use Rattle.bus_machine.specs.BusStates.{BusState, opening}
 use Rattle.bus_machine.specs.Runs.{Run}
 use Rattle.bus_machine.specs.Machine.{BusEvent, is_allowed, after}
 use Rattle.bus_machine.specs.Replay.{Replays, opens, goes_on, entries}

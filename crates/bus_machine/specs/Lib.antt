@@ -1,10 +1,10 @@
 pub mod Plans
 pub mod Nodes
 pub mod NodeEvents
-pub mod EarliestReadings
+pub mod AlarmsAndReleases
 pub mod LinkEvents
-pub mod States
-pub mod MissedStarts
+pub mod BusStates
+pub mod MissedMessages
 pub mod Machine
 pub mod Replay
 pub mod Agreement

@@ -3,8 +3,8 @@ use Rattle.std.specs.Prelude.{ℕ, ◌+◌, nat_eq, nat_lt, nat_le, Bool, true, 
 use Rattle.std.specs.Prelude.{◌∷◌, ◌++◌, length, map, zip, replicate, position, Option, Some, None, is_none}
 use Rattle.std.specs.Prelude.{slice_index_or, slice_set}
 use Rattle.std.specs.Option.{option_map_or}
-use Rattle.pals_base.specs.declared.values.PortValue.{PortValue}
-use Rattle.pals_base.specs.declared.values.PortValue.TheVariants.{Absent}
+use Rattle.pals_base.specs.declared.basic_types.PortValue.{PortValue}
+use Rattle.pals_base.specs.declared.basic_types.PortValue.TheVariants.{Absent}
 use Rattle.pals_base.specs.SingleStep.{Fired, fire}
 use Rattle.pals_base.specs.Tuples.{cut, with_places}
 use Rattle.pals_model.specs.declared.part.Part.{Part}

@@ -1,7 +1,7 @@
--- What a design says to one of its nodes.
+-- What a design says to one of its nodes: its component, its inputs and its out links.
 use Rattle.std.specs.Prelude.{ℕ, nat_eq, List, [], map, filter, Option, Some, None, slice_get, slice_index_or}
 use Rattle.pals_base.specs.declared.behaviour.BehaviourParts.{BehaviourParts}
-use Rattle.pals_base.specs.PeriodBound.{step_period, sent_steps, release_offset}
+use Rattle.pals_base.specs.PeriodBoundAndReleases.{step_period, sent_steps, release_offset}
 use Rattle.pals_model.specs.declared.design.Component.{Component}
 use Rattle.pals_model.specs.declared.design.Link.{Link}
 use Rattle.pals_model.specs.declared.design.Feed.{Feed}
@@ -66,7 +66,6 @@ plan_of design node = plan_for design node (component_at design node)
 
 abbrev pub no_link : Link
 no_link = record { source = record { 0 = 0 }; out_port = 0; target = record { 0 = 0 }; in_port = 0; adaptor = None }
-
 
 abbrev pub link_at : DesignParts → ℕ → Link
 link_at design link = slice_index_or design.links link no_link

@@ -1,4 +1,4 @@
-//! Designs from their texts.
+//! The design of a bundle in which nothing is wrong.
 use bundle_designs::accept;
 use pals_base::Text;
 use pals_model::Design;

@@ -1,5 +1,5 @@
-//! The bus, call by call.
-use crate::bus_calls::{
+//! Tests of the bus, call by call, in worked rows with the journal that they leave.
+use crate::checked_bus_calls::{
     bus_of, count, finish, finish_here, is_in_flight, meet, phase, repeat, send, start, step,
     take_due, tells,
 };

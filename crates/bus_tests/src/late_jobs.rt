@@ -1,5 +1,5 @@
 //! Work of a node that is handed in rounds later.
-use crate::bus_calls::{bus_of, finish, finish_here, leaves, send, start, take_due, tells};
+use crate::checked_bus_calls::{bus_of, finish, finish_here, leaves, send, start, take_due, tells};
 use case_files::example_designs::TWO_COUNTERS;
 use pals_base::{Nanos, NoMemory, NodeNo};
 use pals_bus::Bus;

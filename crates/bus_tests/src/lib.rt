@@ -5,9 +5,9 @@
 #[cfg(test)]
 mod accepted_design;
 #[cfg(test)]
-mod bus_calls;
-#[cfg(test)]
 mod buses;
+#[cfg(test)]
+mod checked_bus_calls;
 #[cfg(test)]
 mod late_jobs;
 #[cfg(test)]

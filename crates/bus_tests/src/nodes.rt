@@ -1,4 +1,4 @@
-//! Nodes, call by call.
+//! Tests of a node, call by call, in worked rows.
 ghost use Rattle.std.specs.Prelude.{◌≡◌, ◌≤◌, IfOk};
 ghost use Rattle.pals_base.specs.declared.limits.TheConstants.{ROUNDS};
 

@@ -1,4 +1,4 @@
--- Texts to which lines are added.
+-- Texts to which lines and blocks of lines are added.
 use Rattle.std.proofs.Common.{◌≡◌, Result, Ok, Err, OnOk, OnErr, ℕ, ◌+◌, ◌<◌, ◌≤◌, List, [], ◌∷◌, ◌++◌, length, take}
 use Rattle.std.proofs.Common.{get_or, All, sym, ap, ◌∙◌, subst, append_assoc}
 use Rattle.std.specs.List.{flat_map}
@@ -6,8 +6,8 @@ use Rattle.std.proofs.lemmas.List.{append-nil, take_all}
 use Rattle.list_lemmas.proofs.ListOperations.{flat_map-take_more}
 use Rattle.pals_base.specs.declared.behaviour.BehaviourParts.{BehaviourParts}
 use Rattle.pals_model.specs.RoundTexts.{line_end, text_of}
-use Rattle.pals_model.proofs.LineLaws.{text_of-append}
-use Rattle.pals_report.specs.proof.PartialWrites.{BeginsWith}
+use Rattle.pals_model.proofs.TextLineLaws.{text_of-append}
+use Rattle.pals_report.specs.proof.TextPrefixes.{BeginsWith}
 use Rattle.pals_report.proofs.TextPrefixes.{last_on_err}
 use Rattle.step_code.specs.declared.instr.Instr.{Instr}
 use Rattle.step_code.specs.declared.instr.CodeParts.{CodeParts}

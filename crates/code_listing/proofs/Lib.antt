@@ -4,10 +4,10 @@ pub mod SpelledNumbers
 pub mod LineGroups
 pub mod PlainNames
 pub mod PortNames
-pub mod ToldInstrs
-pub mod ToldDeclarations
-pub mod ToldComponentBlocks
-pub mod ToldLinks
+pub mod InstructionInjectivity
+pub mod DeclarationInjectivity
+pub mod ComponentInjectivity
+pub mod LinkFeedTapInjectivity
 pub mod UnbrokenLines
-pub mod ToldListings
+pub mod ListingInjectivity
 pub mod ZippedAndNumberedItems

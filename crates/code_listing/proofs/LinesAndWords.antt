@@ -10,7 +10,7 @@ use Rattle.std.proofs.lemmas.List.Splits.{slice_split_none, slice_split_at}
 use Rattle.list_lemmas.proofs.Numbers.{digit-at_least}
 use Rattle.pals_model.specs.RoundTexts.{text_of, is_line_feed}
 use Rattle.pals_model.specs.proof.CompositionLaws.TextLines.{IsLine}
-use Rattle.pals_model.proofs.LineLaws.{text_splits}
+use Rattle.pals_model.proofs.TextLineLaws.{text_splits}
 use Rattle.pals_model.proofs.WordBytes.{is_inner, inner, no_space, no_feed}
 use Rattle.pals_runs.specs.JournalLines.{spaced}
 

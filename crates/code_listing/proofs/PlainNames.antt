@@ -11,7 +11,7 @@ use Rattle.pals_base.specs.declared.behaviour.StateDecl.{StateDecl}
 use Rattle.pals_base.specs.declared.behaviour.BehaviourParts.{BehaviourParts}
 use Rattle.pals_base.specs.Names.{is_word}
 use Rattle.pals_base.specs.BehaviourRules.{IsBehaviour, has_word}
-use Rattle.pals_model.specs.NamesInTexts.{port_name}
+use Rattle.pals_model.specs.ComponentAndLinkNames.{port_name}
 use Rattle.pals_model.specs.RoundTexts.{state_name}
 use Rattle.pals_model.proofs.FirstMatches.{at_element}
 use Rattle.pals_model.proofs.WordBytes.{all_pass, word_inner}

@@ -1,4 +1,4 @@
--- Numbers read from their digits.
+-- Natural numbers and integers are read back from their decimal digits.
 use Rattle.std.proofs.Common.{◌≡◌, ℕ, suc, ◌+◌, ◌-◌, ◌*◌, ◌^◌, ◌<◌, ◌≤◌, nat_eq, nat_le, Bool, true, false, ℤ, pos}
 use Rattle.std.proofs.Common.{negsuc, List, [], ◌∷◌, length, fold, refl, ap, ◌∙◌, arith, ne_eqb}
 use Rattle.std.specs.Prelude.{decimal, IsTrue}

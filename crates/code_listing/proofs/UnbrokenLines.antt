@@ -9,7 +9,7 @@ use Rattle.pals_base.specs.declared.behaviour.PortDecl.{PortDecl}
 use Rattle.pals_base.specs.declared.behaviour.VarDecl.{VarDecl}
 use Rattle.pals_base.specs.declared.behaviour.StateDecl.{StateDecl}
 use Rattle.pals_base.specs.declared.behaviour.BehaviourParts.{BehaviourParts}
-use Rattle.pals_base.specs.PeriodBound.{sent_steps, release_offset}
+use Rattle.pals_base.specs.PeriodBoundAndReleases.{sent_steps, release_offset}
 use Rattle.pals_model.specs.declared.design.Component.{Component}
 use Rattle.pals_model.specs.declared.design.Link.{Link}
 use Rattle.pals_model.specs.declared.design.Feed.{Feed}
@@ -30,12 +30,12 @@ use Rattle.code_listing.specs.Listings.{mnemonic, operands, instr_line, instr_li
 use Rattle.code_listing.specs.Listings.{lines_of_all, listing_lines, range_line, period_and_bounds_lines}
 use Rattle.code_listing.proofs.LinesAndWords.{is_plain, is_one_line, decimal_plain, signed_plain}
 use Rattle.code_listing.proofs.PlainNames.{HasPlainNames, names_are_plain, state_plain}
-use Rattle.code_listing.proofs.ToldComponentBlocks.{behind_states, behind_vars, behind_outs, behind_ins, path_line}
-use Rattle.code_listing.proofs.ToldComponentBlocks.{tail_lines, lines_are}
-use Rattle.code_listing.proofs.ToldDeclarations.{kind_plain}
-use Rattle.code_listing.proofs.ToldInstrs.{words_plain}
-use Rattle.code_listing.proofs.ToldLinks.{link_words, link_line-is, link_plain, feed_words, feed_line-is, feed_plain}
-use Rattle.code_listing.proofs.ToldLinks.{tap_words, tap_line-is, tap_plain}
+use Rattle.code_listing.proofs.ComponentInjectivity.{behind_states, behind_vars, behind_outs, behind_ins, path_line}
+use Rattle.code_listing.proofs.ComponentInjectivity.{tail_lines, lines_are}
+use Rattle.code_listing.proofs.DeclarationInjectivity.{kind_plain}
+use Rattle.code_listing.proofs.InstructionInjectivity.{words_plain}
+use Rattle.code_listing.proofs.LinkFeedTapInjectivity.{link_words, link_line-is, link_plain, feed_words, feed_line-is, feed_plain}
+use Rattle.code_listing.proofs.LinkFeedTapInjectivity.{tap_words, tap_line-is, tap_plain}
 
 -- ---- a component
 a_number : (word : List ℕ) (n : ℕ) → is_plain word ≡ true → (rest : List (List ℕ)) → All IsLine rest

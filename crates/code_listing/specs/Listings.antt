@@ -10,10 +10,10 @@ use Rattle.pals_base.specs.declared.behaviour.PortDecl.{PortDecl}
 use Rattle.pals_base.specs.declared.behaviour.VarDecl.{VarDecl}
 use Rattle.pals_base.specs.declared.behaviour.StateDecl.{StateDecl}
 use Rattle.pals_base.specs.declared.behaviour.BehaviourParts.{BehaviourParts}
-use Rattle.pals_base.specs.PeriodBound.{sent_steps, release_offset}
+use Rattle.pals_base.specs.PeriodBoundAndReleases.{sent_steps, release_offset}
 use Rattle.pals_model.specs.declared.design.Component.{Component}
 use Rattle.pals_model.specs.declared.design.DesignParts.{DesignParts}
-use Rattle.pals_model.specs.NamesInTexts.{port_name}
+use Rattle.pals_model.specs.ComponentAndLinkNames.{port_name}
 use Rattle.pals_model.specs.RoundTexts.{state_name, text_of}
 use Rattle.pals_runs.specs.JournalLines.{spaced}
 use Rattle.pals_report.specs.CheckReports.{link_line, feed_line, tap_line}

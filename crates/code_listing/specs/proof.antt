@@ -1,2 +1,2 @@
 -- Definitions of laws.
-pub mod ToldDesigns
+pub mod ListingInjectivity

@@ -1,7 +1,7 @@
 //! The lines on a component: its rate, what it declares, its states and its code.
 ghost use Rattle.std.specs.Prelude.{◌≡◌, ◌++◌, codes, map, All, OnOk, OnErr};
 ghost use Rattle.pals_model.specs.RoundTexts.{line_end, text_of};
-ghost use Rattle.pals_report.specs.proof.PartialWrites.{BeginsWith};
+ghost use Rattle.pals_report.specs.proof.TextPrefixes.{BeginsWith};
 ghost use Rattle.pals_report.specs.proof.LineWords.{word_text};
 ghost use Rattle.code_listing.specs.Listings.{kind_word, number_line, initial_line, rate_lines, port_line};
 ghost use Rattle.code_listing.specs.Listings.{variable_line, declared_lines, state_line, state_lines, code_lines};

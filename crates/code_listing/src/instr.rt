@@ -2,7 +2,7 @@
 ghost use Rattle.std.specs.Prelude.{◌≡◌, [], ◌∷◌, ◌++◌, decimal, All, OnOk, OnErr};
 ghost use Rattle.pals_model.specs.RoundTexts.{line_end, text_of};
 ghost use Rattle.pals_runs.specs.JournalLines.{spaced};
-ghost use Rattle.pals_report.specs.proof.PartialWrites.{BeginsWith};
+ghost use Rattle.pals_report.specs.proof.TextPrefixes.{BeginsWith};
 ghost use Rattle.pals_report.specs.proof.LineWords.{word_text};
 ghost use Rattle.code_listing.specs.Listings.{mnemonic, instr_line, instr_lines};
 ghost use Rattle.code_listing.specs.NumberRanges.{InstrFits};

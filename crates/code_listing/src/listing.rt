@@ -1,7 +1,7 @@
-//! The whole listing.
+//! The whole listing of a design and its codes: its bounds, its components, and its links, feeds and taps.
 ghost use Rattle.std.specs.Prelude.{◌≡◌, ◌++◌, OnOk, OnErr};
 ghost use Rattle.pals_model.specs.RoundTexts.{text_of};
-ghost use Rattle.pals_report.specs.proof.PartialWrites.{BeginsWith};
+ghost use Rattle.pals_report.specs.proof.TextPrefixes.{BeginsWith};
 ghost use Rattle.code_listing.specs.Listings.{lines_of_all, listing_lines, listing};
 ghost use Rattle.code_listing.specs.NumberRanges.{AllFit};
 

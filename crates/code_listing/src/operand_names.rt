@@ -1,6 +1,6 @@
 //! The names of ports, states and slots behind the numbers of instructions.
 ghost use Rattle.std.specs.Prelude.{◌≡◌, slice_get};
-ghost use Rattle.pals_model.specs.NamesInTexts.{port_name};
+ghost use Rattle.pals_model.specs.ComponentAndLinkNames.{port_name};
 ghost use Rattle.pals_model.specs.RoundTexts.{state_name};
 ghost use Rattle.pals_report.specs.proof.LineWords.{word_text};
 ghost use Rattle.code_listing.specs.Listings.{slot_name};

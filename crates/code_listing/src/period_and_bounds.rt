@@ -1,7 +1,7 @@
 //! The first line of a listing, and the lines of the design's period and bounds.
 ghost use Rattle.std.specs.Prelude.{◌≡◌, ◌++◌, OnOk, OnErr};
 ghost use Rattle.pals_model.specs.RoundTexts.{line_end, text_of};
-ghost use Rattle.pals_report.specs.proof.PartialWrites.{BeginsWith};
+ghost use Rattle.pals_report.specs.proof.TextPrefixes.{BeginsWith};
 ghost use Rattle.code_listing.specs.Listings.{range_line, period_and_bounds_lines};
 
 use pals_base::{Nanos, NoMemory};

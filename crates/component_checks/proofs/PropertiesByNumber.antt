@@ -11,7 +11,7 @@ use Rattle.aadl_names.specs.declared.recognised_properties.PropertyName.TheVaria
 use Rattle.aadl_names.specs.ReferenceResolution.{type_in, implementation_in, implementation_at, subcomponents_of}
 use Rattle.aadl_names.specs.ReferenceResolution.{connections_of, type_number, type_of, referred, target_of}
 use Rattle.aadl_uses.specs.declared.thread_locations.SubAt.{SubAt}
-use Rattle.aadl_uses.specs.Uses.{sub_at, below}
+use Rattle.aadl_uses.specs.ContainmentAndUse.{sub_at, below}
 use Rattle.aadl_uses.specs.proof.ImplementationTypes.{type_number_at}
 use Rattle.annex_resolve.proofs.ResolvedTermsAndSums.{take_next}
 use Rattle.component_checks.specs.declared.component_properties.ComponentProperties.{ComponentProperties}

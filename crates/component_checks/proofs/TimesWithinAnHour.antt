@@ -5,7 +5,7 @@ use Rattle.std.specs.Option.{option_and_then}
 use Rattle.std.proofs.lemmas.Bool.Decides.{nat_tests}
 use Rattle.std.proofs.lemmas.Nat.{mul-lt}
 use Rattle.std.proofs.lemmas.Option.{none-some, same_Some}
-use Rattle.pals_base.specs.declared.period_bound.Gamma.{Gamma}
+use Rattle.pals_base.specs.declared.period_bound_and_releases.Gamma.{Gamma}
 use Rattle.bound_checker.specs.proof.OverflowLimits.{IsWithinHour}
 use Rattle.pals_base.specs.declared.limits.TheConstants.{HOUR}
 use Rattle.component_checks.specs.BoundsAndRates.{within_hour, range_within, not_zero, in_order, skew_of, range_of}

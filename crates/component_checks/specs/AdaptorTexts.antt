@@ -10,10 +10,8 @@ use Rattle.pals_base.specs.declared.allowed_adaptors.Adaptor.TheVariants.{Averag
 abbrev pub is_digit : ℕ → Bool
 is_digit c = nat_le 48 c && nat_le c 57
 
-
 abbrev pub is_first_digit : ℕ → Bool
 is_first_digit c = nat_le 49 c && nat_le c 57
-
 
 -- a number of one or two digits, the first not 0
 abbrev pub position_number : List ℕ → Option ℕ
@@ -22,11 +20,9 @@ position_number (d ∷ []) = if is_first_digit d then Some (d - 48) else None
 position_number (c ∷ d ∷ []) = if is_first_digit c && is_digit d then Some (10 * (c - 48) + (d - 48)) else None
 position_number (c ∷ d ∷ e ∷ rest) = None
 
-
 abbrev pub at_position : Option ℕ → Option Adaptor
 at_position None = None
 at_position (Some n) = Some (At n)
-
 
 abbrev pub adaptor_named : List ℕ → Option Adaptor
 adaptor_named text =

@@ -1,7 +1,7 @@
 -- What is wrong with the root: its period and the bounds, each missing, reversed or 0, and the period below the bound.
 use Rattle.std.specs.Prelude.{ℕ, Bool, false, not, nat_eq, nat_lt, List, [], ◌++◌, Option, Some, None}
 use Rattle.std.specs.Option.{option_and_then, is_some}
-use Rattle.pals_base.specs.declared.period_bound.Gamma.{Gamma}
+use Rattle.pals_base.specs.declared.period_bound_and_releases.Gamma.{Gamma}
 use Rattle.aadl_tree.specs.Values.{Association}
 use Rattle.aadl_tree.specs.Declarations.{Implementation, PackageTree}
 use Rattle.aadl_names.specs.declared.recognised_properties.PropertyName.{PropertyName}

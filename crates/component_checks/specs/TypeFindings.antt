@@ -1,4 +1,4 @@
--- The types of ports, variables and first values.
+-- What is wrong with the types of ports, variables and first values.
 use Rattle.std.specs.Prelude.{ℕ, Bool, not, ◌||◌, List, [], ◌++◌, flat_map, codes, Option, Some, None, if◌then◌else◌}
 use Rattle.std.specs.Option.{is_some}
 use Rattle.std.specs.Str.{bytes_eq}

@@ -1,4 +1,4 @@
-//! The numbers of a design, and what refuses each.
+//! The skew, ranges, bounds and rates of a design, each none where it is missing or refused.
 ghost use Rattle.std.specs.Prelude.{◌≡◌};
 ghost use Rattle.component_checks.specs.BoundsAndRates.{within_hour, range_within, not_zero, in_order, skew_of};
 ghost use Rattle.component_checks.specs.BoundsAndRates.{range_of, gamma_by, divides, is_rate, rate_of};

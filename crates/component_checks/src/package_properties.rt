@@ -9,9 +9,9 @@ ghost use Rattle.component_checks.specs.proof.ComponentProperties as spec;
 ghost use Rattle.component_checks.specs.proof.ComponentProperties.{timed_by};
 
 use crate::chain_properties::ChainProperties;
-use crate::chain_property_lists::{all_of_connections, carried_at};
+use crate::chain_property_tables::{all_of_connections, carried_at};
 use crate::component_properties::ComponentProperties;
-use crate::component_property_lists::{all_of_subs, all_of_types, all_own, numbered, numbered_in};
+use crate::component_property_tables::{all_of_subs, all_of_types, all_own, numbered, numbered_in};
 use aadl_uses::{SubAt, Uses};
 use pals_base::{Items, NoMemory};
 use std::alloc::Global;

@@ -9,8 +9,8 @@ ghost use Rattle.component_checks.specs.RootFindings as spec;
 
 use crate::package_properties::Properties;
 use crate::property_lookup::root_property;
+use crate::thread_findings::add_named;
 use crate::thread_rates::root_period;
-use crate::threads::add_named;
 use crate::times::{range_within, shown, time_within};
 use crate::{add_bound_findings, gamma_by};
 use aadl_names::PropertyName;

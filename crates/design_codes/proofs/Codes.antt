@@ -8,7 +8,7 @@ use Rattle.step_code.specs.declared.instr.CodeParts.{CodeParts}
 use Rattle.step_code.specs.proof.CodeMeaning.{Means}
 use Rattle.step_compiler.specs.LaidOutCode.{IsLaidOut}
 use Rattle.bus_machine.specs.Plans.{component_at}
-use Rattle.pals_bus.specs.proof.OpeningBusAndNodeValues.{code_at, no_code}
+use Rattle.pals_bus.specs.proof.StepCodesOfNodes.{code_at, no_code}
 use Rattle.design_codes.specs.OverlongCodes.{length_of}
 
 -- each is laid out for its component's behaviour, means what that does, and is no longer than a code may be

@@ -2,7 +2,7 @@
 #![tactic(auto)]
 
 ghost use Rattle.std.specs.Prelude.{IfOk, IfErr};
-ghost use Rattle.pals_bus.specs.proof.OpeningBusAndNodeValues.{AreCodes};
+ghost use Rattle.pals_bus.specs.proof.StepCodesOfNodes.{AreCodes};
 ghost use Rattle.step_compiler.specs.LaidOutCode.{AreLaidOut};
 ghost use Rattle.design_codes.specs.OverlongCodes.{AreShort, IsCause};
 ghost use Rattle.design_codes.specs.DesignBehaviours.{behaviours};

@@ -2,8 +2,8 @@
 use Rattle.std.proofs.Common.{◌≡◌, ◌∙◌, ℕ, ◌≤◌, Bool, List, refl, sym, ap, subst}
 use Rattle.std.proofs.lemmas.Option.{same_Some}
 use Rattle.list_lemmas.proofs.ListOperations.{map-map}
-use Rattle.pals_base.specs.PeriodBound.{least_period}
-use Rattle.pals_base.specs.declared.period_bound.Gamma.{Gamma}
+use Rattle.pals_base.specs.PeriodBoundAndReleases.{least_period}
+use Rattle.pals_base.specs.declared.period_bound_and_releases.Gamma.{Gamma}
 use Rattle.pals_model.specs.declared.design.Component.{Component}
 use Rattle.pals_model.specs.declared.design.Link.{Link}
 use Rattle.pals_model.specs.declared.design.Feed.{Feed}
@@ -13,8 +13,8 @@ use Rattle.pals_model.specs.DesignRules.{IsDesign}
 use Rattle.pals_model.specs.DesignRules as model
 use Rattle.aadl_tree.specs.Declarations.{PackageTree}
 use Rattle.aadl_uses.specs.ThreadLocations.{thread_at}
-use Rattle.aadl_instance.specs.FlattenedDesign.{InstanceParts, IsFlat}
-use Rattle.aadl_instance.specs.Instances.{chain_at}
+use Rattle.aadl_instance.specs.InstancesByPaths.{InstanceParts, IsFlat}
+use Rattle.aadl_instance.specs.InstancesByNumbers.{chain_at}
 use Rattle.component_checks.specs.ThreadRatesAndFindings.{thread_rate, greatest_rate}
 use Rattle.model_violations.specs.IgnoredProperties.{ignored_names}
 use Rattle.design_laws.specs.proof.PackageNames.{AreNamed}
@@ -30,8 +30,8 @@ use Rattle.design_laws.proofs.DesignComponents as composing
 use Rattle.design_laws.proofs.DesignComponents.{components, is_small, thread_of, components_keep, components_few}
 use Rattle.design_laws.proofs.DesignComponents.{components_differ, greatest_is}
 use Rattle.design_laws.proofs.ChainEndPorts.{IsComponentAt}
-use Rattle.design_laws.proofs.DesignLinkRules.{links, feeds, taps, whole, links_keep, feeds_keep, taps_keep}
-use Rattle.design_laws.proofs.ShownInstancesAndRules.{of_shown, to_shown}
+use Rattle.design_laws.proofs.DesignLinksFeedsAndTaps.{links, feeds, taps, whole, links_keep, feeds_keep, taps_keep}
+use Rattle.design_laws.proofs.ShownInstances.{of_shown, to_shown}
 
 -- ---- the design
 module _ {tree : PackageTree ℕ} {name : List ℕ} {parts : InstanceParts} (flat : IsFlat tree name parts) (used : ℕ → Bool)

@@ -4,7 +4,7 @@ use Rattle.std.proofs.Common.{subst}
 use Rattle.std.proofs.lemmas.Option.{same_Some}
 use Rattle.std.specs.Prelude.{slice_get}
 use Rattle.list_lemmas.proofs.ListOperations.{append_is_nil_right}
-use Rattle.pals_base.specs.PeriodBound.{least_period}
+use Rattle.pals_base.specs.PeriodBoundAndReleases.{least_period}
 use Rattle.pals_base.specs.declared.behaviour.BehaviourParts.{BehaviourParts}
 use Rattle.pals_model.specs.declared.design.Component.{Component}
 use Rattle.pals_model.specs.declared.design.DesignParts.{DesignParts}
@@ -19,7 +19,7 @@ use Rattle.design_laws.proofs.BoundsAndRates.{leaves_time}
 use Rattle.component_checks.specs.ThreadRatesAndFindings.{root_period, thread_rate, greater_rate, greatest_rate}
 use Rattle.component_checks.specs.RootFindings.{root_gamma, at_root, place_of, missing_findings, order_findings}
 use Rattle.aadl_names.specs.declared.recognised_properties.PropertyName.TheVariants.{Period}
-use Rattle.aadl_instance.specs.FlattenedDesign.{InstanceParts, IsFlat}
+use Rattle.aadl_instance.specs.InstancesByPaths.{InstanceParts, IsFlat}
 use Rattle.design_laws.specs.proof.PackageNames.{NamesDiffer, AreNamed}
 use Rattle.model_violations.specs.Violations.{ShownInstance, shown_by, rates_of, AreViolations}
 use Rattle.design_laws.specs.proof.AcceptedInstances.{IsShown, NothingFound, HasDesign}

@@ -6,16 +6,16 @@ use Rattle.std.proofs.Math.Nat.{div-add-mod, mul-mod_left}
 use Rattle.std.proofs.lemmas.Bool.{false≢true, leb-true, ltb-false, le-leb, and_from, and_parts}
 use Rattle.std.proofs.lemmas.Bool.Decides.{nat_tests}
 use Rattle.std.proofs.lemmas.Option.{cond_some}
-use Rattle.pals_base.specs.declared.period_bound.Gamma.{Gamma}
+use Rattle.pals_base.specs.declared.period_bound_and_releases.Gamma.{Gamma}
 use Rattle.pals_base.specs.declared.limits.TheConstants.{HOUR, RATE}
-use Rattle.pals_base.specs.PeriodBound.{least_period}
+use Rattle.pals_base.specs.PeriodBoundAndReleases.{least_period}
 use Rattle.pals_model.specs.DesignRules.{IsGamma}
 use Rattle.component_checks.specs.BoundsAndRates.{not_zero, in_order, skew_of, range_of, divides, is_rate, rate_of}
 use Rattle.component_checks.specs.BoundsAndRates.{gamma_by}
 use Rattle.component_checks.specs.PeriodAndAdaptorFindings.{bound_findings, period_findings, name_and_number}
 use Rattle.annex_resolve.specs.declared.violation.TheConstants.{NOT_DIVISOR, RATE_TOO_HIGH, PERIOD_TOO_SHORT}
 use Rattle.annex_resolve.specs.FindingRecords.{finding, found_if}
-use Rattle.model_violations.proofs.RateBounds.{bounds_of}
+use Rattle.model_violations.proofs.RatesWithinLimits.{bounds_of}
 use Rattle.design_laws.proofs.EmptyFindingLists.{not_wrong}
 
 -- ---- what a test lets through

@@ -14,16 +14,16 @@ use Rattle.aadl_tree.specs.Annexes.{AnnexTree}
 use Rattle.aadl_tree.specs.Declarations.{Feature, Implementation, PackageTree}
 use Rattle.aadl_names.specs.ReferenceResolution.{implementation_at, ports_of, ports_at}
 use Rattle.aadl_names.specs.PackageFaults.{goes_in}
-use Rattle.aadl_uses.specs.Uses.{component_at}
+use Rattle.aadl_uses.specs.ContainmentAndUse.{component_at}
 use Rattle.aadl_uses.specs.ThreadLocations.{thread_at}
 use Rattle.aadl_chains.specs.Chains.{Port, port_of, is_in}
 use Rattle.aadl_instance.specs.declared.chain.ChainEnd.TheVariants.{Thread}
-use Rattle.aadl_instance.specs.Instances.{same_direction, node_at, goes_as, port_number}
+use Rattle.aadl_instance.specs.InstancesByNumbers.{same_direction, node_at, goes_as, port_number}
 use Rattle.annex_resolve.specs.ExpressionTypesAndFindings.{kind_in}
 use Rattle.annex_resolve.specs.BehavioursAndFindings.{behaviour_of}
 use Rattle.component_checks.specs.TypeFindings as types
 use Rattle.component_checks.specs.ThreadRatesAndFindings.{thread_rate}
-use Rattle.model_violations.specs.ChainTargets.{thread_in, flat, end_kind, end_rate}
+use Rattle.model_violations.specs.ChainEnds.{thread_in, flat, end_kind, end_rate}
 use Rattle.model_violations.specs.PortsAndVariables as values
 use Rattle.model_violations.specs.PortsAndVariables.{ins_in, outs_in, named_of}
 use Rattle.model_violations.specs.ThreadBehaviours.{first_annex, behaviour_by, behaviour_in}

@@ -12,14 +12,14 @@ use Rattle.pals_base.specs.declared.behaviour.Kind.{Kind}
 use Rattle.pals_base.specs.declared.behaviour.Kind.TheVariants.{Integer, Boolean}
 use Rattle.aadl_tree.specs.Names.{Identifier, same_name}
 use Rattle.aadl_tree.specs.Declarations.{Feature, Subcomponent, ConnectionEnd, Implementation, PackageTree}
-use Rattle.aadl_names.specs.declared.port_place.NumberedPort.{NumberedPort}
-use Rattle.aadl_names.specs.declared.port_place.NumberedPort.TheVariants.{Own, Inner}
+use Rattle.aadl_names.specs.declared.numbered_port.NumberedPort.{NumberedPort}
+use Rattle.aadl_names.specs.declared.numbered_port.NumberedPort.TheVariants.{Own, Inner}
 use Rattle.aadl_names.specs.ReferenceResolution.{implementation_at, subcomponents_of, referred, target_of, ports_of}
 use Rattle.aadl_names.specs.ReferenceResolution.{ports_at, port_named, sub_named, inner_ports, inner_end_port, end_port_by}
 use Rattle.aadl_names.specs.ReferenceResolution.{end_port}
-use Rattle.aadl_uses.specs.Uses.{sub_at, below, number_at_path, component_at}
+use Rattle.aadl_uses.specs.ContainmentAndUse.{sub_at, below, number_at_path, component_at}
 use Rattle.aadl_chains.specs.Chains.{Port, ConnectionAt, port_at, Goes, Leads, port_of}
-use Rattle.aadl_instance.specs.FlattenedDesign.{InstanceParts, IsFlat}
+use Rattle.aadl_instance.specs.InstancesByPaths.{InstanceParts, IsFlat}
 use Rattle.annex_resolve.specs.declared.violation.TheConstants.{BAD_TYPE}
 use Rattle.annex_resolve.specs.ExpressionTypesAndFindings.{kind_in, same_kind, fits}
 use Rattle.design_laws.proofs.EmptyFindingLists.{none_at, is_right}

@@ -7,9 +7,9 @@ use Rattle.indexmap.specs.IndexSet.{insert_key}
 use Rattle.std.proofs.lemmas.Bool.{cases_lt}
 use Rattle.aadl_uses.specs.proof.ContainmentGraphs.{Graph, targets_in, IsWithin}
 use Rattle.aadl_uses.specs.proof.ContainmentOrders.{is_there, IsSequence, IsPlaced, ArePlaced}
-use Rattle.aadl_uses.proofs.ContainmentSequences.{misses_by, placed_not, placed_new, none_placed, placed_more, one_more}
-use Rattle.aadl_uses.proofs.ContainmentSequences.{all_placed, no_sequence}
-use Rattle.design_laws.specs.proof.ContainmentLists.{IsAcyclic, HasOrder}
+use Rattle.aadl_uses.proofs.ContainmentOrders.{misses_by, placed_not, placed_new, none_placed, placed_more, one_more}
+use Rattle.aadl_uses.proofs.ContainmentOrders.{all_placed, no_sequence}
+use Rattle.design_laws.specs.proof.ReachOrderAndPaths.{IsAcyclic, HasOrder}
 use Rattle.design_laws.proofs.DistinctNumbers.{insert_distinct}
 
 -- ---- a declaration

@@ -12,7 +12,7 @@ use Rattle.aadl_tree.specs.Declarations.{Feature, Subcomponent, Connection, Type
 use Rattle.aadl_tree.specs.Declarations.{Declaration, type, implementation, PackageTree}
 use Rattle.aadl_names.specs.declared.fault.PackageFault.{PackageFault}
 use Rattle.aadl_names.specs.declared.fault.PackageFault.TheVariants.{Twice}
-use Rattle.aadl_names.specs.declared.spelled_name.SpelledName.{SpelledName}
+use Rattle.aadl_names.specs.declared.declared_name.SpelledName.{SpelledName}
 use Rattle.aadl_names.specs.Spelling.{spelled_implementation}
 use Rattle.aadl_names.specs.DuplicateNames.{entry_of}
 use Rattle.aadl_names.specs.BehaviourAnnexes.{behaviours, variables_of, states_of}
@@ -22,8 +22,8 @@ use Rattle.aadl_names.specs.DuplicatesByNamespace.{twice_in_first, member_entrie
 use Rattle.aadl_names.specs.DuplicatesByNamespace.{implementation_entry, twice_names}
 use Rattle.aadl_names.specs.PackageFaults.{behaviour_faults, unknown_reference, unknown_end}
 use Rattle.aadl_names.proofs.ListMembers.{is_here, among_all, from_all}
-use Rattle.design_laws.proofs.NameFaultCoverage.{Covered, covered_none, covered_append, covered_if, covered_each, Named}
-use Rattle.design_laws.proofs.NameFaultCoverage.{named_append, named_map, named_filter_map, covered_twice}
+use Rattle.design_laws.proofs.FaultCoverageRules.{Covered, covered_none, covered_append, covered_if, covered_each, Named}
+use Rattle.design_laws.proofs.FaultCoverageRules.{named_append, named_map, named_filter_map, covered_twice}
 use Rattle.design_laws.proofs.CoveredNameFaults.{behaviour_has}
 use Rattle.design_laws.proofs.PossibleNameFaults.{of_identifier, of_identifiers, of_associations, of_variable, of_state}
 use Rattle.design_laws.proofs.PossibleNameFaults.{of_tree, of_annex, of_feature, of_subcomponent, of_connection}

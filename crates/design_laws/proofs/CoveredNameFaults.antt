@@ -16,17 +16,17 @@ use Rattle.aadl_names.specs.declared.fault.PackageFault.{PackageFault}
 use Rattle.aadl_names.specs.declared.fault.PackageFault.TheVariants.{Twice}
 use Rattle.aadl_names.specs.declared.recognised_properties.PropertyHolder.{PropertyHolder}
 use Rattle.aadl_names.specs.declared.recognised_properties.PropertyHolder.TheVariants as holders
-use Rattle.aadl_names.specs.declared.port_place.NumberedPort.{NumberedPort}
+use Rattle.aadl_names.specs.declared.numbered_port.NumberedPort.{NumberedPort}
 use Rattle.aadl_names.specs.BehaviourAnnexes.{behaviour_in, behaviours}
 use Rattle.aadl_names.specs.ReferenceResolution.{target_of, is_thread}
 use Rattle.aadl_names.specs.RecognisedProperties.{listed, association_name, association_at, counts, counted, misshapen}
 use Rattle.aadl_names.specs.RecognisedProperties.{association_entry, shape_fault, property_entries, list_faults}
 use Rattle.aadl_names.specs.PackageFaults as p
 use Rattle.aadl_names.proofs.ListMembers.{is_here, among_all}
-use Rattle.design_laws.proofs.NameFaultCoverage.{from_filter, from_filter_map, Covered, covered_among, covered_none}
-use Rattle.design_laws.proofs.NameFaultCoverage.{covered_itself, covered_kind, covered_wrong, covered_kinds}
-use Rattle.design_laws.proofs.NameFaultCoverage.{covered_append, covered_front, covered_back, covered_if, covered_each}
-use Rattle.design_laws.proofs.NameFaultCoverage.{covered_flat, named_map, covered_twice}
+use Rattle.design_laws.proofs.FaultCoverageRules.{from_filter, from_filter_map, Covered, covered_among, covered_none}
+use Rattle.design_laws.proofs.FaultCoverageRules.{covered_itself, covered_kind, covered_wrong, covered_kinds}
+use Rattle.design_laws.proofs.FaultCoverageRules.{covered_append, covered_front, covered_back, covered_if, covered_each}
+use Rattle.design_laws.proofs.FaultCoverageRules.{covered_flat, named_map, covered_twice}
 use Rattle.design_laws.proofs.PossibleNameFaults.{of_identifier, of_identifiers, of_association, of_associations}
 use Rattle.design_laws.proofs.PossibleNameFaults.{of_variable, of_state, of_tree, of_content, of_annex, of_feature}
 use Rattle.design_laws.proofs.PossibleNameFaults.{of_subcomponent, of_connection, none_of, of_type, of_implementation}

@@ -13,17 +13,17 @@ use Rattle.aadl_tree.specs.Annexes.{Transition, AnnexTree}
 use Rattle.aadl_tree.specs.Declarations.{Implementation, PackageTree}
 use Rattle.aadl_names.specs.declared.fault.PackageFault.{PackageFault}
 use Rattle.aadl_names.specs.declared.fault.PackageFault.TheVariants.{Unknown}
-use Rattle.aadl_names.specs.NameUsesInAnnexes.{NameRoles}
+use Rattle.aadl_names.specs.NameUseFaults.{NameRoles}
 use Rattle.aadl_names.specs.BehaviourAnnexes as names
 use Rattle.aadl_names.specs.PackageFaults.{is_among, known_in, state_uses, guard_uses, effect_uses, transition_uses}
 use Rattle.aadl_names.specs.PackageFaults.{behaviour_faults}
-use Rattle.aadl_names.proofs.PortDuplicates.{same_name-swapped}
+use Rattle.aadl_names.proofs.DuplicatesBesidePorts.{same_name-swapped}
 use Rattle.annex_resolve.specs.declared.states.StateAt.{StateAt}
 use Rattle.annex_resolve.specs.BehavioursAndFindings.{states_of, first_number, state_number, transitions_of}
 use Rattle.design_laws.specs.proof.FittingAnnexNames.{is_declared}
 use Rattle.design_laws.proofs.PairwiseDistinctNames.{all_none}
-use Rattle.design_laws.proofs.PartitionedPairs.{all_true}
-use Rattle.design_laws.proofs.ThreadMemberNames.{same_states}
+use Rattle.design_laws.proofs.ElementAndPairLemmas.{all_true}
+use Rattle.design_laws.proofs.BehaviourNames.{same_states}
 
 -- ---- the first that passes is one of them, where some passes
 abbrev place : {X : Type 0} → (X → Bool) → List X → ℕ

@@ -20,12 +20,12 @@ use Rattle.aadl_tree.specs.Annexes.{VariableDeclaration, StateDeclaration, Annex
 use Rattle.aadl_tree.specs.Declarations.{Implementation, PackageTree}
 use Rattle.aadl_names.specs.BehaviourAnnexes as names
 use Rattle.aadl_names.specs.ReferenceResolution.{implementation_at, ports_of}
-use Rattle.aadl_uses.specs.Uses.{number_at_path}
+use Rattle.aadl_uses.specs.ContainmentAndUse.{number_at_path}
 use Rattle.aadl_uses.specs.ThreadsBelow.{IsThreadOf, IsThreadAt, PathBefore}
 use Rattle.aadl_names.specs.BehaviourAnnexes.{first_behaviour}
 use Rattle.aadl_uses.specs.ThreadLocations.{spelled_path, thread_at}
 use Rattle.aadl_instance.specs.BehaviourSizes.{count_in, variable_count, state_count}
-use Rattle.aadl_instance.specs.FlattenedDesign.{InstanceParts, IsFlat}
+use Rattle.aadl_instance.specs.InstancesByPaths.{InstanceParts, IsFlat}
 use Rattle.annex_resolve.specs.ExpressionTypesAndFindings.{kind_named}
 use Rattle.annex_resolve.specs.BehavioursAndFindings.{state_at, states_in, states_of, declared, behaviour_of}
 use Rattle.component_checks.specs.RootFindings.{root_findings}
@@ -35,7 +35,7 @@ use Rattle.model_violations.specs.PortsAndVariables.{named_of, var_of, values_of
 use Rattle.model_violations.specs.ThreadBehaviours.{first_annex, behaviour_by, behaviour_in}
 use Rattle.model_violations.proofs.PortAndVariableLists.{ports_both}
 use Rattle.design_laws.specs.proof.PackageNames.{AreNamed}
-use Rattle.design_laws.proofs.PartitionedPairs.{all_unmapped}
+use Rattle.design_laws.proofs.ElementAndPairLemmas.{all_unmapped}
 use Rattle.design_laws.proofs.PairwiseDistinctNames.{all_none}
 use Rattle.design_laws.proofs.BoundsAndRates.{IsRateOf}
 use Rattle.model_violations.specs.UsedDeclarations.{IsUse}

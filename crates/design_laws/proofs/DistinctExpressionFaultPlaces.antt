@@ -9,9 +9,9 @@ use Rattle.aadl_tree.specs.Expressions as e
 use Rattle.aadl_names.specs.declared.fault.PackageFault.TheVariants.{Unknown, WrongKind}
 use Rattle.aadl_names.specs.declared.name_roles.Role.{Role}
 use Rattle.aadl_names.specs.declared.name_roles.Usage.{Usage}
-use Rattle.aadl_names.specs.NameUsesInAnnexes.{NameRoles, allows, use_as, uses, reading, primary_uses, factor_uses}
-use Rattle.aadl_names.specs.NameUsesInAnnexes.{term_uses, factors_uses, sum_uses, terms_uses, relation_uses}
-use Rattle.aadl_names.specs.NameUsesInAnnexes.{expression_uses, relations_uses}
+use Rattle.aadl_names.specs.NameUseFaults.{NameRoles, allows, use_as, uses, reading, primary_uses, factor_uses}
+use Rattle.aadl_names.specs.NameUseFaults.{term_uses, factors_uses, sum_uses, terms_uses, relation_uses}
+use Rattle.aadl_names.specs.NameUseFaults.{expression_uses, relations_uses}
 use Rattle.aadl_names.proofs.ListMembers.{is_here}
 use Rattle.design_laws.proofs.DistinctFaultPlaces.{OnePerPlace, clear_none, clear_one, clear_front, clear_back, clear_tail}
 use Rattle.design_laws.proofs.DistinctFaultPlaces.{clear_append, clear_unless}

@@ -17,7 +17,7 @@ use Rattle.aadl_tree.specs.Declarations.{Feature, Subcomponent, Connection, Type
 use Rattle.aadl_tree.specs.Declarations.{Declaration, type, implementation, PackageTree, declaration_parts}
 use Rattle.aadl_tree.specs.Declarations.{package_parts}
 use Rattle.aadl_tree.specs.proof.GivenTrees.{IsGiven}
-use Rattle.aadl_names.specs.declared.spelled_name.SpelledName.{SpelledName}
+use Rattle.aadl_names.specs.declared.declared_name.SpelledName.{SpelledName}
 use Rattle.aadl_names.specs.DuplicateNames.{entry_of, twice}
 use Rattle.aadl_names.specs.BehaviourAnnexes.{behaviours, variables_of, states_of}
 use Rattle.aadl_names.specs.ReferenceResolution.{is_thread, type_in, type_numbered, type_number, features_of, ports_of}

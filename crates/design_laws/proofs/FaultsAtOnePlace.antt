@@ -9,7 +9,7 @@ use Rattle.aadl_names.specs.FirstFaults.{place_of, number_of}
 use Rattle.aadl_names.specs.PackageFaults.{package_faults}
 use Rattle.aadl_names.proofs.RisingPlaces.{places_rise}
 use Rattle.design_laws.proofs.PlacedNames.{Rise}
-use Rattle.design_laws.proofs.NameFaultCoverage.{IsWrongKind, Covered, covered_append}
+use Rattle.design_laws.proofs.FaultCoverageRules.{IsWrongKind, Covered, covered_append}
 use Rattle.design_laws.proofs.PossibleNameFaults.{possible}
 use Rattle.design_laws.proofs.CoveredNameFaults.{wrong_covered}
 use Rattle.design_laws.proofs.CoveredDuplicates.{twice_covered}

@@ -7,26 +7,26 @@ use Rattle.aadl_tree.specs.declared.declarations.Direction.{Direction}
 use Rattle.aadl_tree.specs.declared.declarations.Direction.TheVariants as directions
 use Rattle.aadl_tree.specs.Declarations.{Connection, PackageTree}
 use Rattle.aadl_names.specs.declared.fault.PackageFault.{PackageFault}
-use Rattle.aadl_names.specs.declared.port_place.NumberedPort.{NumberedPort}
+use Rattle.aadl_names.specs.declared.numbered_port.NumberedPort.{NumberedPort}
 use Rattle.aadl_names.specs.proof.FirstFaultSoFar.{found}
 use Rattle.aadl_names.specs.ReferenceResolution.{implementation_at, connections_of}
 use Rattle.aadl_uses.specs.proof.PackageContainment.{containment}
 use Rattle.aadl_uses.specs.proof.FirstRecursion.{FirstIn}
-use Rattle.aadl_uses.specs.Uses.{IsInUse}
+use Rattle.aadl_uses.specs.ContainmentAndUse.{IsInUse}
 use Rattle.aadl_uses.specs.declared.connections_by_target.ConnectionPorts.{ConnectionPorts}
 use Rattle.aadl_uses.specs.SecondConnections.{IsDuplicate, target_in}
 use Rattle.aadl_uses.specs.proof.FirstConnections.{is_before, first_into}
-use Rattle.aadl_uses.specs.Wiring.{connection_ports_at}
-use Rattle.aadl_uses.proofs.FirstConnectionTables.{is_second-tells, no_second}
+use Rattle.aadl_uses.specs.PortsOfConnections.{connection_ports_at}
+use Rattle.aadl_uses.proofs.FirstConnections.{is_second-tells, no_second}
 use Rattle.aadl_uses.specs.proof.ContainmentOrders.{IsOrder}
 use Rattle.aadl_chains.specs.proof.PortsJoinedOutside.{opposite, LeadsFrom, leads_from}
 use Rattle.aadl_chains.proofs.JoinedOutsideByConnection.{leads_to, leads_found}
 use Rattle.aadl_chains.specs.ChainFaults.{IsEndFault}
-use Rattle.aadl_chains.specs.proof.DeclaredEnds.{ArePermitted}
+use Rattle.aadl_chains.specs.proof.PermittedConnections.{ArePermitted}
 use Rattle.aadl_chains.specs.proof.ConnectionsOnChains.{IsOnChain}
-use Rattle.aadl_chains.specs.proof.ConnectionFaults.{IsFoundAt, IsFoundIn, dead_end, second}
-use Rattle.aadl_chains.proofs.EndFaults.{both_found, nothing_at, ways_tell, no_source, no_target, end_fault}
-use Rattle.aadl_chains.proofs.EndFaults.{found_fault, wire_if}
+use Rattle.aadl_chains.specs.proof.ConnectionEndFaults.{IsFoundAt, IsFoundIn, dead_end, second}
+use Rattle.aadl_chains.proofs.ConnectionEndFaults.{both_found, nothing_at, ways_tell, no_source, no_target, end_fault}
+use Rattle.aadl_chains.proofs.ConnectionEndFaults.{found_fault, wire_if}
 use Rattle.design_laws.proofs.FaultSearches.{Finds, none_found, alike_found, Below, found_below, first_in}
 use Rattle.design_laws.proofs.PortsReachingThreads.{inside}
 use Rattle.design_laws.proofs.PortsLeadingOut.{is_used, outside}

@@ -10,7 +10,7 @@ use Rattle.aadl_names.specs.ReferenceResolution.{is_thread, ports_of}
 use Rattle.aadl_names.proofs.ListMembers.{is_here}
 use Rattle.std.proofs.lemmas.List.Elements.{Contains-append_left, Contains-append_right}
 use Rattle.list_lemmas.proofs.Elements.{Contains-nil, Contains-cons_cases}
-use Rattle.aadl_uses.specs.Uses.{component_at}
+use Rattle.aadl_uses.specs.ContainmentAndUse.{component_at}
 use Rattle.aadl_uses.specs.ThreadsBelow.{Lists, MoreThan, IsThreadOf, IsThreadAt, PathBefore}
 use Rattle.aadl_uses.proofs.ThreadCounts.{more_threads}
 use Rattle.aadl_uses.specs.proof.OrderedLists.{Among}
@@ -23,7 +23,7 @@ use Rattle.aadl_instance.specs.declared.limits.Limit.{Limit}
 use Rattle.aadl_instance.specs.declared.limits.Limit.TheVariants.{Components, Links, Ports, Variables, States, Path}
 use Rattle.aadl_instance.specs.proof.Limits.{line_of, IsExceeded}
 use Rattle.aadl_instance.proofs.FaultPrecedence.{limit_lines}
-use Rattle.design_laws.proofs.LinkOrderAndNames.{other_target}
+use Rattle.design_laws.proofs.LinkOrderAndRootPortNames.{other_target}
 
 told_more : (a b : ℕ) → (a < b) ⊎ (a < b → ⊥)
 told_more a b = by (cases_lt a b)

@@ -9,22 +9,22 @@ use Rattle.aadl_uses.specs.proof.ThreadCounts.{thread_marks}
 use Rattle.aadl_uses.proofs.PackageContainment.{within}
 use Rattle.aadl_uses.proofs.ThreadCounts.{threads_listed}
 use Rattle.aadl_uses.proofs.FirstRecursion.{no_way_back}
-use Rattle.aadl_chains.specs.proof.DeclaredEnds.{ArePermitted}
+use Rattle.aadl_chains.specs.proof.PermittedConnections.{ArePermitted}
 use Rattle.aadl_chains.proofs.PermittedConnections.{declared}
 use Rattle.aadl_chains.specs.LinksFeedsAndTaps.{CarriedChain, IsLink, IsFeed, IsTap, TargetBefore, PortBefore}
 use Rattle.aadl_chains.specs.proof.Walks.{OneEach}
 use Rattle.aadl_uses.specs.proof.ContainmentGraphs.{LeadsBack}
-use Rattle.design_laws.specs.proof.ContainmentLists.{HasOrder}
+use Rattle.design_laws.specs.proof.ReachOrderAndPaths.{HasOrder}
 use Rattle.aadl_chains.specs.proof.PortsJoinedInside.{is_thread_at}
 use Rattle.aadl_chains.proofs.LinkLimits.{one_each}
 use Rattle.aadl_instance.specs.proof.Limits.{name_of}
 use Rattle.aadl_instance.proofs.Roots.{is_root_at, root_declared, root_no_thread}
 use Rattle.aadl_instance.proofs.FaultPrecedence.{silent_five, all_silent, limit_fault, root_fault, root_silent}
 use Rattle.design_laws.proofs.ContainmentOrders.{order}
-use Rattle.design_laws.proofs.PathLists.{paths}
+use Rattle.design_laws.proofs.MarkedPaths.{paths}
 use Rattle.design_laws.specs.proof.SoundPackages.{IsSound}
-use Rattle.design_laws.proofs.FirstFaultOrSound.{each_package_begins}
-use Rattle.design_laws.specs.proof.PackageOutcomes.{HasFirstFault, HasInstance}
+use Rattle.design_laws.proofs.FirstFaultOrSoundPackage.{each_package_begins}
+use Rattle.design_laws.specs.proof.FirstFaultOrInstance.{HasFirstFault, HasInstance}
 use Rattle.design_laws.proofs.LinkAndFeedLists.{links, feeds}
 use Rattle.design_laws.proofs.TapLists.{taps}
 use Rattle.design_laws.proofs.FirstExceededLimits.{FirstOrNone, first}

@@ -6,7 +6,7 @@ use Rattle.aadl_tree.specs.Declarations.{Subcomponent, PackageTree}
 use Rattle.aadl_names.specs.declared.fault.PackageFault.{PackageFault}
 use Rattle.aadl_names.specs.declared.fault.PackageFault.TheVariants.{Recursive}
 use Rattle.aadl_names.specs.ReferenceResolution.{implementation_at, subcomponents_of}
-use Rattle.aadl_uses.specs.Uses.{sub_at}
+use Rattle.aadl_uses.specs.ContainmentAndUse.{sub_at}
 use Rattle.aadl_uses.specs.Recursion.{IsRecursive}
 use Rattle.aadl_uses.specs.proof.PackageContainment.{containment, targets_in}
 use Rattle.aadl_uses.specs.proof.FirstRecursion.{FirstIn}

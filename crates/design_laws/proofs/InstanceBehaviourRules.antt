@@ -12,7 +12,7 @@ use Rattle.design_laws.proofs.InstanceBehaviours.{ThreadLaw}
 use Rattle.std.proofs.Props.{props}
 use Rattle.std.proofs.Math.Logic.{∥∥₁_elim}
 use Rattle.pals_base.specs.BehaviourRules.{IsAcyclic}
-use Rattle.design_laws.proofs.ShownInstancesAndRules.{of_shown, to_shown}
+use Rattle.design_laws.proofs.ShownInstances.{of_shown, to_shown}
 
 pub have_rules : ThreadLaw → (tree : PackageTree ℕ) (s : ShownInstance) → AreNamed tree → IsShown tree s → NothingFound tree s
     → All (HasRules tree) s.threads
@@ -21,7 +21,6 @@ have_rules law tree s named i nothing =
     let found = all_parts tree (shown_by tree i.parts) there.used there.none in
     of_shown (λ (x : ShownInstance). All (HasRules tree) x.threads) tree s i
     (ruling.have_rules i.flat there.used there.is_use found.declarations named law)
-
 
 -- all threads of an instance keep the rules, where no more is known than that a package without a fault has the
 -- instance

@@ -20,14 +20,14 @@ use Rattle.aadl_names.specs.ReferenceResolution.{is_thread, is_system, is_root, 
 use Rattle.aadl_names.specs.ReferenceResolution.{type_numbered, type_number, ports_of, target_of, referred}
 use Rattle.aadl_names.specs.PackageFaults.{package_faults}
 use Rattle.aadl_names.specs.Spelling.{spelled_implementation}
-use Rattle.aadl_uses.specs.Uses.{sub_at, below, number_at_path, component_at}
+use Rattle.aadl_uses.specs.ContainmentAndUse.{sub_at, below, number_at_path, component_at}
 use Rattle.aadl_uses.specs.ThreadsBelow.{IsThreadAt}
 use Rattle.aadl_uses.specs.declared.thread_locations.SubAt.{SubAt}
 use Rattle.aadl_uses.specs.ThreadLocations.{sub_in, subs_along, thread_at}
-use Rattle.aadl_instance.specs.FlattenedDesign.{InstanceParts, IsFlat}
+use Rattle.aadl_instance.specs.InstancesByPaths.{InstanceParts, IsFlat}
 use Rattle.component_checks.specs.PropertyLookup.{sub_of, innermost}
 use Rattle.component_checks.specs.TypeFindings.{port_findings}
-use Rattle.model_violations.specs.ChainTargets.{component_of}
+use Rattle.model_violations.specs.ChainEnds.{component_of}
 use Rattle.model_violations.specs.ThreadBehaviours as threads
 use Rattle.design_laws.specs.proof.PackageNames.{HasWords, NamesDiffer, AreNamed}
 use Rattle.design_laws.proofs.PairwiseDistinctNames.{where_true}

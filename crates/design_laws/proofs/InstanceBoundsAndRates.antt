@@ -13,8 +13,8 @@ use Rattle.list_lemmas.proofs.ElementPositions.{flat_map-nil_at}
 use Rattle.list_lemmas.proofs.ListOperations.{append_is_nil_right, append_is_nil_left}
 use Rattle.list_lemmas.proofs.Numbers.{nat_eq-swapped, nat_eq-self}
 use Rattle.list_lemmas.proofs.Options.{some_by_test}
-use Rattle.pals_base.specs.declared.period_bound.Gamma.{Gamma}
-use Rattle.pals_base.specs.PeriodBound.{least_period}
+use Rattle.pals_base.specs.declared.period_bound_and_releases.Gamma.{Gamma}
+use Rattle.pals_base.specs.PeriodBoundAndReleases.{least_period}
 use Rattle.pals_model.specs.DesignRules.{IsGamma}
 use Rattle.aadl_tree.specs.declared.declarations.Category.{Category}
 use Rattle.aadl_tree.specs.Values.{Association}
@@ -32,11 +32,11 @@ use Rattle.aadl_names.specs.PackageFaults.{may_contain, names_faults, subcompone
 use Rattle.aadl_names.specs.PackageFaults.{heading_faults, variables_faults, stray_faults, port_faults, outer_faults}
 use Rattle.aadl_names.specs.PackageFaults.{annex_faults, is_same_number, package_faults}
 use Rattle.aadl_names.specs.PackageFaults as naming
-use Rattle.aadl_uses.specs.Uses.{sub_at, below, number_at_path}
+use Rattle.aadl_uses.specs.ContainmentAndUse.{sub_at, below, number_at_path}
 use Rattle.aadl_uses.specs.declared.thread_locations.SubAt.{SubAt}
 use Rattle.aadl_uses.specs.ThreadLocations.{sub_in, subs_along, thread_at}
 use Rattle.aadl_uses.specs.proof.OrderedLists.{Among}
-use Rattle.aadl_instance.specs.FlattenedDesign.{InstanceParts, IsFlat}
+use Rattle.aadl_instance.specs.InstancesByPaths.{InstanceParts, IsFlat}
 use Rattle.annex_resolve.specs.FindingRecords.{found_if}
 use Rattle.design_laws.proofs.EmptyFindingLists.{is_right, not_wrong}
 use Rattle.component_checks.specs.BoundsAndRates.{within_hour, range_within, not_zero, in_order, gamma_by}

@@ -12,8 +12,8 @@ pub mod DeclaredNameOrder
 pub mod IdentifiersAreWords
 pub mod DistinctPackageNames
 pub mod PackageNames
-pub mod PartitionedPairs
-pub mod ThreadMemberNames
+pub mod ElementAndPairLemmas
+pub mod BehaviourNames
 pub mod KindsAndFirstValues
 pub mod DeclaredStates
 pub mod SoundThreadBehaviour
@@ -25,7 +25,7 @@ pub mod PathTexts
 pub mod MatchedLists
 pub mod DesignComponents
 pub mod NoViolations
-pub mod ShownInstancesAndRules
+pub mod ShownInstances
 pub mod UniqueLists
 pub mod AsymmetricOrders
 pub mod UniqueSorts
@@ -36,19 +36,19 @@ pub mod PortAndThreadNumbers
 pub mod ChainTypes
 pub mod ChainEndPorts
 pub mod LinksFromChains
-pub mod SingleLinkRules
-pub mod LinkOrderAndNames
+pub mod LinkFeedAndTapRules
+pub mod LinkOrderAndRootPortNames
 pub mod UniqueChainStarts
-pub mod DesignLinkRules
+pub mod DesignLinksFeedsAndTaps
 pub mod AcceptedInstances
-pub mod DesignsOfShownInstances
+pub mod DesignExistenceAndRules
 pub mod DistinctFaultPlaces
 pub mod DistinctExpressionFaultPlaces
 pub mod DistinctActionFaultPlaces
 pub mod PossibleNameFaults
 pub mod DistinctAnnexFaultPlaces
 pub mod DistinctPackageFaultPlaces
-pub mod NameFaultCoverage
+pub mod FaultCoverageRules
 pub mod CoveredNameFaults
 pub mod CoveredDuplicates
 pub mod FaultsAtOnePlace
@@ -58,21 +58,21 @@ mod InsertionSort
 mod DistinctNumbers
 mod ReachedDeclarations
 mod ContainmentOrders
-mod PathLists
+mod MarkedPaths
 mod FaultSearches
 mod FirstRecursion
 mod PortsReachingThreads
 mod PortsLeadingOut
 mod FirstConnectionFault
-mod FirstFaultOrSound
-mod IncomingLinks
+mod FirstFaultOrSoundPackage
+mod IncomingLinkOrFeed
 mod LinkAndFeedLists
 mod OutPortSources
 mod TapLists
 mod FirstExceededLimits
 pub mod FirstFaultOrInstance
-mod MemoryFreeLists
-mod MemoryFreeAnnexes
-pub mod MemoryFreeFaults
+mod ListsWithoutMemoryFault
+mod AnnexesWithoutMemoryFault
+pub mod PackagesWithoutMemoryFault
 pub mod SortedFindings
 pub mod InstanceBehaviourRules

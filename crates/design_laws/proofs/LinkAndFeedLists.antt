@@ -9,17 +9,17 @@ use Rattle.aadl_uses.specs.ThreadsBelow.{Lists, IsThreadAt, PathBefore}
 use Rattle.aadl_uses.specs.proof.ContainmentOrders.{IsOrder}
 use Rattle.aadl_chains.specs.proof.PortsJoinedInside.{is_thread_at}
 use Rattle.aadl_chains.specs.Chains.{is_in}
-use Rattle.aadl_chains.specs.proof.DeclaredEnds.{ArePermitted}
+use Rattle.aadl_chains.specs.proof.PermittedConnections.{ArePermitted}
 use Rattle.aadl_chains.specs.LinksFeedsAndTaps.{CarriedChain, IsLink, IsFeed, TargetBefore}
 use Rattle.aadl_chains.specs.proof.Walks.{OneEach}
 use Rattle.aadl_instance.specs.declared.chain_search.Incoming.{Incoming}
-use Rattle.aadl_instance.specs.Instances.{chain_in}
+use Rattle.aadl_instance.specs.InstancesByNumbers.{chain_in}
 use Rattle.aadl_instance.specs.proof.ChainsSoFar.{AreInto}
 use Rattle.aadl_instance.proofs.ChainsSoFar.{into_start, into_thread, into_skip, into_link, into_feed, links_whole}
 use Rattle.aadl_instance.proofs.ChainsSoFar.{feeds_whole, thread_listed}
 use Rattle.aadl_instance.proofs.AddedChains.{out_added}
 use Rattle.aadl_instance.proofs.ChainEndNumbers.{stands}
-use Rattle.design_laws.proofs.IncomingLinks.{HasIncoming, HasNoIncoming, comes}
+use Rattle.design_laws.proofs.IncomingLinkOrFeed.{HasIncoming, HasNoIncoming, comes}
 
 module _ (tree : PackageTree ℕ) (root : ℕ) (sound : ArePermitted tree) (one : OneEach tree root)
     (no_thread : is_thread_at tree root ≡ false)

@@ -18,9 +18,9 @@ use Rattle.aadl_uses.specs.ThreadsBelow.{IsThreadAt}
 use Rattle.aadl_chains.specs.Chains.{Port, ConnectionAt, Leads, port_of, is_in, IsStart, IsEnd}
 use Rattle.aadl_instance.specs.declared.chain.ChainEnd.TheVariants.{Thread, Root}
 use Rattle.aadl_chains.specs.LinksFeedsAndTaps.{CarriedChain, Carries}
-use Rattle.aadl_instance.specs.FlattenedDesign.{InstanceParts, IsFlat}
+use Rattle.aadl_instance.specs.InstancesByPaths.{InstanceParts, IsFlat}
 use Rattle.aadl_chains.specs.LinksFeedsAndTaps as walks
-use Rattle.aadl_instance.specs.Instances.{node_at, port_number, port_name, end_by, end_in, chain_at}
+use Rattle.aadl_instance.specs.InstancesByNumbers.{node_at, port_number, port_name, end_by, end_in, chain_at}
 use Rattle.annex_resolve.specs.ExpressionTypesAndFindings.{kind_in}
 use Rattle.model_violations.specs.ConnectionsAndCarriers.{connection_of, adaptor_text}
 use Rattle.model_violations.specs.ChainFindings.{rated}

@@ -1,4 +1,4 @@
--- What names stand for fits in loops too.
+-- A scope that fits a behaviour fits it within one more loop.
 use Rattle.std.proofs.Common.{◌≡◌, ℕ, ◌+◌, Bool, true, false, cond, List, [], ◌∷◌, ◌++◌, Option, Some, None, refl}
 use Rattle.std.proofs.Common.{subst, arith, inl, inr, ◌⊎◌}
 use Rattle.std.specs.Prelude.{find}
@@ -11,7 +11,7 @@ use Rattle.annex_resolve.specs.declared.scope.Scope.{Scope}
 use Rattle.annex_resolve.specs.declared.scope.DeclaredName.{DeclaredName}
 use Rattle.annex_resolve.specs.declared.scope.Meaning.{Meaning}
 use Rattle.annex_resolve.specs.declared.scope.Meaning.TheVariants.{InPort, OutPort, Variable, LoopVariable}
-use Rattle.annex_resolve.specs.NamesAndFindings.{with_loop}
+use Rattle.annex_resolve.specs.NameMeanings.{with_loop}
 use Rattle.design_laws.specs.proof.FittingAnnexNames.{FitsMeaning, FitsScope}
 
 one_found : {A : Type 0} (b : Bool) (y e : A) → cond b (Some y) None ≡ Some e → y ≡ e

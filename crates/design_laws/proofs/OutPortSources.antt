@@ -1,14 +1,15 @@
--- The walk down to a thread ends, since what a declaration contains stands before it in an order.
+-- A thread gives to an out port of a component, or no chain leads to it: the search downward ends, since what a
+-- declaration contains stands before it in an order.
 use Rattle.std.proofs.Common.{◌≡◌, ◌⊎◌, inl, inr, ℕ, zero, suc, ◌<◌, Bool, true, false, List, [], ◌∷◌, ◌++◌, reverse}
 use Rattle.std.proofs.Common.{Option, Some, None, refl, sym, ap, subst, ◌∙◌, arith}
 use Rattle.std.proofs.lemmas.Bool.{true≢false}
 use Rattle.std.proofs.lemmas.List.{reverse-reverse}
 use Rattle.std.specs.Option.{option_and_then}
 use Rattle.aadl_tree.specs.Declarations.{Implementation, PackageTree}
-use Rattle.aadl_names.specs.declared.port_place.NumberedPort.{NumberedPort}
-use Rattle.aadl_names.specs.declared.port_place.NumberedPort.TheVariants.{Own}
+use Rattle.aadl_names.specs.declared.numbered_port.NumberedPort.{NumberedPort}
+use Rattle.aadl_names.specs.declared.numbered_port.NumberedPort.TheVariants.{Own}
 use Rattle.aadl_names.specs.ReferenceResolution.{implementation_at}
-use Rattle.aadl_uses.specs.Uses.{number_at_path}
+use Rattle.aadl_uses.specs.ContainmentAndUse.{number_at_path}
 use Rattle.aadl_uses.specs.proof.PackageContainment.{containment}
 use Rattle.aadl_uses.specs.ThreadsBelow.{IsThreadAt}
 use Rattle.aadl_uses.specs.proof.ThreadCounts.{is_thread_in}
@@ -16,7 +17,7 @@ use Rattle.aadl_uses.specs.proof.IncomingConnections.{connection_into}
 use Rattle.aadl_uses.specs.proof.ContainmentOrders.{IsOrder}
 use Rattle.aadl_chains.specs.proof.PortsJoinedInside.{is_thread_at, is_in_at}
 use Rattle.aadl_chains.specs.Chains.{Port, ConnectionAt, Leads, IsStart}
-use Rattle.aadl_chains.specs.proof.DeclaredEnds.{ArePermitted}
+use Rattle.aadl_chains.specs.proof.PermittedConnections.{ArePermitted}
 use Rattle.aadl_chains.specs.proof.Walks.{OneEach}
 use Rattle.aadl_chains.specs.proof.TracedChains.{IsGiver}
 use Rattle.aadl_chains.proofs.FirstIncomingConnections.{inner_of}

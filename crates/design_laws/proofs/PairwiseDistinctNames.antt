@@ -14,9 +14,9 @@ use Rattle.list_lemmas.proofs.ListOperations.{append_is_nil_left, append_is_nil_
 use Rattle.list_lemmas.proofs.PairwiseProperties.{Pairs}
 use Rattle.aadl_names.specs.declared.fault.PackageFault.{PackageFault}
 use Rattle.aadl_names.specs.declared.fault.PackageFault.TheVariants.{Twice}
-use Rattle.aadl_names.specs.declared.spelled_name.SpelledName.{SpelledName}
+use Rattle.aadl_names.specs.declared.declared_name.SpelledName.{SpelledName}
 use Rattle.aadl_names.specs.DuplicateNames.{again, twice}
-use Rattle.aadl_names.proofs.PortDuplicates.{same_name-swapped}
+use Rattle.aadl_names.proofs.DuplicatesBesidePorts.{same_name-swapped}
 
 -- ---- names compare as equal both ways
 pub same_itself : (a : List ℕ) → same_name a a ≡ true

@@ -19,13 +19,13 @@ use Rattle.aadl_tree.specs.Declarations.{Subcomponent, Connection, Implementatio
 use Rattle.aadl_names.specs.DuplicateNames.{entry_of}
 use Rattle.aadl_names.specs.ReferenceResolution.{implementation_at, subcomponents_of, referred, ports_of}
 use Rattle.aadl_names.specs.DuplicatesByNamespace.{port_entries, member_entries}
-use Rattle.aadl_uses.specs.Uses.{sub_at, below, number_at_path}
+use Rattle.aadl_uses.specs.ContainmentAndUse.{sub_at, below, number_at_path}
 use Rattle.aadl_uses.specs.ThreadsBelow.{path_before}
 use Rattle.aadl_uses.specs.ThreadLocations.{name_at, names_along, dotted_names, spelled_path}
 use Rattle.aadl_uses.proofs.PathOrder.{never_before}
 use Rattle.design_laws.specs.proof.PackageNames.{IsNamed, HasWords, NamesDiffer}
 use Rattle.design_laws.proofs.PairwiseDistinctNames.{one_name, Differs}
-use Rattle.design_laws.proofs.PartitionedPairs.{pairs_at, pairs_first, pairs_second, pairs_unmapped, all_true}
+use Rattle.design_laws.proofs.ElementAndPairLemmas.{pairs_at, pairs_first, pairs_second, pairs_unmapped, all_true}
 use Rattle.design_laws.proofs.SoundInstanceParts.{declared_at}
 
 -- ---- words have no dots

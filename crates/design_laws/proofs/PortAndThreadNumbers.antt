@@ -12,7 +12,7 @@ use Rattle.aadl_uses.specs.ThreadsBelow.{PathBefore, path_before}
 use Rattle.aadl_uses.proofs.PathOrder.{one_way_paths}
 use Rattle.aadl_chains.specs.LinksFeedsAndTaps.{same_path}
 use Rattle.aadl_chains.proofs.SamePaths.{same_path-true, same_path-self}
-use Rattle.aadl_instance.specs.Instances.{node_at}
+use Rattle.aadl_instance.specs.InstancesByNumbers.{node_at}
 use Rattle.design_laws.proofs.InstanceBehaviours.{first_is}
 
 -- ---- what passes a test, by the number of those before it

@@ -6,11 +6,11 @@ use Rattle.list_lemmas.proofs.ElementPositions.{slice_get-some}
 use Rattle.aadl_tree.specs.declared.declarations.Direction.{Direction}
 use Rattle.aadl_tree.specs.Declarations.{PackageTree}
 use Rattle.aadl_uses.specs.proof.PackageContainment.{containment}
-use Rattle.aadl_uses.specs.Uses.{IsInUse}
+use Rattle.aadl_uses.specs.ContainmentAndUse.{IsInUse}
 use Rattle.aadl_uses.specs.declared.connections_by_target.ConnectionPorts.{ConnectionPorts}
-use Rattle.aadl_uses.specs.Wiring.{connection_ports_at}
+use Rattle.aadl_uses.specs.PortsOfConnections.{connection_ports_at}
 use Rattle.aadl_uses.specs.proof.ContainmentOrders.{IsOrder}
-use Rattle.aadl_uses.proofs.ContainmentSequences.{of_any, not_of_any}
+use Rattle.aadl_uses.proofs.ContainmentOrders.{of_any, not_of_any}
 use Rattle.aadl_chains.specs.declared.port_set.PortAt.{PortAt}
 use Rattle.aadl_chains.specs.proof.PortSets.{with_port}
 use Rattle.aadl_chains.specs.proof.PortsJoinedInside.{IsInside}

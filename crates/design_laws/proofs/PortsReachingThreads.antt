@@ -6,7 +6,7 @@ use Rattle.aadl_tree.specs.declared.declarations.Direction.{Direction}
 use Rattle.aadl_tree.specs.Declarations.{PackageTree}
 use Rattle.aadl_uses.specs.proof.PackageContainment.{containment}
 use Rattle.aadl_uses.specs.declared.connections_by_target.ConnectionPorts.{ConnectionPorts}
-use Rattle.aadl_uses.specs.Wiring.{connection_ports_at}
+use Rattle.aadl_uses.specs.PortsOfConnections.{connection_ports_at}
 use Rattle.aadl_uses.specs.proof.ContainmentOrders.{IsOrder}
 use Rattle.aadl_chains.specs.declared.port_set.PortAt.{PortAt}
 use Rattle.aadl_chains.specs.proof.PortSets.{with_port}

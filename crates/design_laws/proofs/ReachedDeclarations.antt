@@ -10,7 +10,7 @@ use Rattle.aadl_uses.specs.proof.ContainmentGraphs.{Graph, targets_in, below_in,
 use Rattle.aadl_uses.proofs.GraphSearches.{added_none, added_skip, added_more, Searched, searched_first, searched_past}
 use Rattle.aadl_uses.proofs.GraphSearches.{searched_more, searched_end}
 use Rattle.aadl_uses.proofs.RecursionSuspects.{leads_by}
-use Rattle.design_laws.specs.proof.ContainmentLists.{HasReach}
+use Rattle.design_laws.specs.proof.ReachOrderAndPaths.{HasReach}
 use Rattle.design_laws.proofs.DistinctNumbers.{insert_distinct, distinct_one}
 
 -- ---- a list with what targets name

@@ -1,15 +1,15 @@
 -- Each instance has the sorted list of all its findings.
 use Rattle.std.proofs.Common.{ℕ, Bool, List}
 use Rattle.aadl_tree.specs.Declarations.{PackageTree}
-use Rattle.aadl_instance.specs.FlattenedDesign.{InstanceParts, IsFlat}
+use Rattle.aadl_instance.specs.InstancesByPaths.{InstanceParts, IsFlat}
 use Rattle.model_violations.specs.UsedDeclarations.{has, IsUse}
 use Rattle.model_violations.specs.Violations.{shown_by, findings, goes_before}
-use Rattle.design_laws.specs.proof.PackageOutcomes.{HasList}
+use Rattle.design_laws.specs.proof.FirstFaultOrInstance.{HasList}
 use Rattle.model_violations.proofs.NumberSets.{is_use}
 use Rattle.model_violations.proofs.FindingOrder.{goes_before_orders}
 use Rattle.design_laws.proofs.InsertionSort.{has_sorted}
 use Rattle.aadl_instance.proofs.Roots.{is_root_at, root_declared}
-use Rattle.design_laws.proofs.FirstFaultOrSound.{uses}
+use Rattle.design_laws.proofs.FirstFaultOrSoundPackage.{uses}
 
 sorted_by : (tree : PackageTree ℕ) (parts : InstanceParts) (used : ℕ → Bool) → IsUse tree parts.root used → HasList tree parts
 sorted_by tree parts used is =

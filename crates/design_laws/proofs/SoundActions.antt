@@ -9,7 +9,7 @@ use Rattle.pals_base.specs.declared.behaviour.Kind.TheVariants.{Integer, Boolean
 use Rattle.pals_base.specs.declared.behaviour.BehaviourParts.{BehaviourParts}
 use Rattle.pals_base.specs.declared.expression_kinds.Kinds.{Kinds}
 use Rattle.pals_base.specs.declared.limits.TheConstants.{TURNS, NESTED_TURNS}
-use Rattle.pals_base.specs.PlainTrees as plain
+use Rattle.pals_base.specs.ExpressionAndActionTrees as plain
 use Rattle.pals_base.specs.TypingRules.{allows, kinds_of, suits_variable, suits_port, is_short, is_sound, are_sound}
 use Rattle.pals_base.specs.TypingRules.{branches_are_sound}
 use Rattle.aadl_tree.specs.Expressions.{Expression}
@@ -21,8 +21,8 @@ use Rattle.annex_resolve.specs.declared.scope.DeclaredName.{DeclaredName}
 use Rattle.annex_resolve.specs.declared.scope.Meaning.{Meaning}
 use Rattle.annex_resolve.specs.declared.scope.Meaning.TheVariants.{InPort, OutPort, Variable, LoopVariable}
 use Rattle.annex_resolve.specs.declared.violation.TheConstants.{BAD_TYPE, LOOP_TOO_LONG}
-use Rattle.annex_resolve.specs.NamesAndFindings.{entry_named, kind_of, sets, sends, may_set, may_send, given, given_to}
-use Rattle.annex_resolve.specs.NamesAndFindings.{with_loop}
+use Rattle.annex_resolve.specs.NameMeanings.{entry_named, kind_of, sets, sends, may_set, may_send, given, given_to}
+use Rattle.annex_resolve.specs.NameMeanings.{with_loop}
 use Rattle.annex_resolve.specs.FindingRecords.{found_if}
 use Rattle.annex_resolve.specs.ExpressionTypesAndFindings.{fits, misfit, same_kind, whole_types, expression_kind}
 use Rattle.annex_resolve.specs.ExpressionTypesAndFindings.{expression_types, kind_named}

@@ -1,4 +1,5 @@
--- Where an instance has no fault and nothing is found in it, nothing is wrong with any part of it.
+-- Where an instance has no fault and nothing is found in it, nothing is wrong with any part of it, nor with the
+-- first behaviour of a thread.
 use Rattle.std.proofs.Common.{◌≡◌, ◌∙◌, inl, inr, ℕ, zero, suc, ◌+◌, Bool, true, List, [], ◌∷◌, ◌++◌, Some, refl, sym}
 use Rattle.std.proofs.Common.{ap, subst, arith, Contains, map}
 use Rattle.std.specs.Prelude.{flat_map, slice_get}
@@ -14,10 +15,10 @@ use Rattle.aadl_names.specs.declared.fault.PackageFault.TheVariants.{TooMany, Wr
 use Rattle.aadl_names.specs.ReferenceResolution.{implementation_at, type_number, is_thread}
 use Rattle.aadl_names.specs.PackageFaults.{package_faults, behaviour_faults, annex_faults, declaration_faults}
 use Rattle.aadl_names.specs.PackageFaults.{wrong_names}
-use Rattle.aadl_uses.specs.Uses.{number_at_path, component_at}
+use Rattle.aadl_uses.specs.ContainmentAndUse.{number_at_path, component_at}
 use Rattle.aadl_chains.proofs.PermittedConnections.{implementation_in-some}
 use Rattle.aadl_instance.specs.Faults.{IsOver, FoundIn}
-use Rattle.aadl_instance.specs.FlattenedDesign.{InstanceParts, IsFlat}
+use Rattle.aadl_instance.specs.InstancesByPaths.{InstanceParts, IsFlat}
 use Rattle.design_laws.proofs.EmptyFindingLists.{none_at}
 use Rattle.design_laws.proofs.PairwiseDistinctNames.{where_true}
 use Rattle.model_violations.specs.IgnoredProperties.{is_number, is_root_type}
@@ -163,7 +164,6 @@ first_faults tree x (c ∷ bs) b is thread none =
     subst (λ (d : ℕ × AnnexTree ℕ). behaviour_faults tree x d.1 ≡ []) same
     (of_thread (is_thread x.category) (behaviour_faults tree x c.1) (others bs) (others (c ∷ bs)) thread none)
 
-
 pub declaration_clean : (tree : PackageTree ℕ) (root n : ℕ) (d : Declaration ℕ) → package_faults tree root ≡ []
     → slice_get tree.declarations n ≡ Some d → declaration_faults tree root (n, d) ≡ []
 unfolding wrong_names
@@ -173,7 +173,6 @@ declaration_clean tree root n d none is =
     let here = none_at (declaration_faults tree root) 0 tree.declarations all n d is in
     let zero' : 0 + n ≡ n = omega arith in
     subst (λ k. declaration_faults tree root (k, d) ≡ []) zero' here
-
 
 pub first_clean : (tree : PackageTree ℕ) (root n : ℕ) (x : Implementation ℕ) (b : ℕ × AnnexTree ℕ)
     → package_faults tree root ≡ []

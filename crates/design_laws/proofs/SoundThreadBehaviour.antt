@@ -17,7 +17,7 @@ use Rattle.model_violations.specs.PortsAndVariables.{ins_in, outs_in, variables_
 use Rattle.model_violations.specs.ThreadBehaviours.{first_annex, annex_rules, behaviour_by, implementation_findings}
 use Rattle.design_laws.specs.proof.PackageNames.{HasWords, NamesDiffer}
 use Rattle.design_laws.specs.proof.ThreadBehaviours.{Behaves}
-use Rattle.design_laws.proofs.ThreadMemberNames.{IsPort, values_apart, values_words, states_apart, states_words}
+use Rattle.design_laws.proofs.BehaviourNames.{IsPort, values_apart, values_words, states_apart, states_words}
 use Rattle.design_laws.proofs.KindsAndFirstValues.{ins_typed, outs_typed, variables_typed, variables_first, scope_fits}
 use Rattle.design_laws.proofs.DeclaredStates.{all_declared}
 use Rattle.design_laws.proofs.SoundInstanceParts.{first_clean}

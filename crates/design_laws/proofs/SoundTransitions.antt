@@ -10,20 +10,20 @@ use Rattle.std.proofs.lemmas.Option.{slice_get-map}
 use Rattle.list_lemmas.proofs.ElementPositions.{slice_get-some}
 use Rattle.list_lemmas.proofs.ListOperations.{append_is_nil}
 use Rattle.pals_base.specs.declared.behaviour.BehaviourParts.{BehaviourParts}
-use Rattle.pals_base.specs.PlainTrees as plain
+use Rattle.pals_base.specs.ExpressionAndActionTrees as plain
 use Rattle.pals_base.specs.TypingRules.{are_sound}
 use Rattle.pals_base.specs.SingleStep.{completes, is_complete, is_dispatch, leaving}
 use Rattle.pals_base.specs.BehaviourRules.{has_condition, is_edge, dispatch_count, is_always, ends_unguarded, has_ways}
 use Rattle.pals_base.specs.BehaviourRules.{IsAcyclic}
 use Rattle.pals_base.specs.UpwardNumbers.{upwards}
-use Rattle.pals_base.proofs.WaysAndCycles.{incomplete_within}
+use Rattle.pals_base.proofs.TransitionWaysAndCycles.{incomplete_within}
 use Rattle.pals_base.proofs.UpwardNumbers.{slice_get-map_upwards, list_all_upwards}
 use Rattle.aadl_tree.specs.Annexes.{Guard, dispatch, otherwise, when, Transition}
 use Rattle.aadl_tree.specs.Actions.{Block}
 use Rattle.annex_resolve.specs.declared.scope.Scope.{Scope}
 use Rattle.annex_resolve.specs.declared.states.StateAt.{StateAt}
-use Rattle.annex_resolve.specs.declared.departures.Departure.{Departure}
-use Rattle.annex_resolve.specs.declared.departures.GuardCase.{GuardCase}
+use Rattle.annex_resolve.specs.declared.outgoing_transitions.Departure.{Departure}
+use Rattle.annex_resolve.specs.declared.outgoing_transitions.GuardCase.{GuardCase}
 use Rattle.annex_resolve.specs.declared.violation.TheConstants.{DISPATCH_COUNT, NO_OTHERWISE, CYCLE_WITHOUT_COMPLETE}
 use Rattle.annex_resolve.specs.FindingRecords.{found_if}
 use Rattle.annex_resolve.specs.IncompleteStateCycles.{is_on_cycle}

@@ -3,8 +3,8 @@ use Rattle.std.proofs.Common.{◌≡◌, inl, inr, ℕ, zero, suc, ◌+◌, Bool
 use Rattle.std.proofs.Common.{Some, None, refl, sym, ap, subst, ◌∙◌, arith}
 use Rattle.std.proofs.lemmas.Option.{same_Some}
 use Rattle.aadl_tree.specs.Declarations.{PackageTree}
-use Rattle.aadl_names.specs.declared.port_place.NumberedPort.{NumberedPort}
-use Rattle.aadl_names.specs.declared.port_place.NumberedPort.TheVariants.{Own, Inner}
+use Rattle.aadl_names.specs.declared.numbered_port.NumberedPort.{NumberedPort}
+use Rattle.aadl_names.specs.declared.numbered_port.NumberedPort.TheVariants.{Own, Inner}
 use Rattle.aadl_names.specs.ReferenceResolution.{implementation_at, ports_at}
 use Rattle.aadl_uses.specs.proof.PackageContainment.{containment}
 use Rattle.aadl_uses.specs.ThreadsBelow.{Lists}
@@ -12,7 +12,7 @@ use Rattle.aadl_uses.specs.proof.IncomingConnections.{connection_into}
 use Rattle.aadl_uses.specs.proof.ContainmentOrders.{IsOrder}
 use Rattle.aadl_chains.specs.proof.PortsJoinedInside.{is_thread_at, is_in_at}
 use Rattle.aadl_chains.specs.Chains.{Port, Leads}
-use Rattle.aadl_chains.specs.proof.DeclaredEnds.{ArePermitted}
+use Rattle.aadl_chains.specs.proof.PermittedConnections.{ArePermitted}
 use Rattle.aadl_chains.proofs.ConnectionsOnChains.{is_in-at, next_at}
 use Rattle.aadl_chains.specs.LinksFeedsAndTaps.{CarriedChain, IsTap, PortBefore}
 use Rattle.aadl_chains.specs.proof.Walks.{OneEach}
@@ -21,7 +21,7 @@ use Rattle.aadl_chains.proofs.FirstIncomingConnections.{entered, inner_of}
 use Rattle.aadl_chains.proofs.LinksByWalks.{tap_from, tap_met}
 use Rattle.aadl_chains.proofs.TracedChains.{no_tap, no_tap_over, ends_by}
 use Rattle.aadl_instance.specs.declared.chain.Chain.{Chain}
-use Rattle.aadl_instance.specs.Instances.{chain_in}
+use Rattle.aadl_instance.specs.InstancesByNumbers.{chain_in}
 use Rattle.aadl_instance.specs.proof.ChainsSoFar.{AreTapsTo}
 use Rattle.aadl_instance.proofs.ChainsSoFar.{taps_none, taps_more, taps_skip, taps_whole}
 use Rattle.aadl_instance.proofs.AddedChains.{in_tap}

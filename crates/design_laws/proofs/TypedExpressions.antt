@@ -9,7 +9,7 @@ use Rattle.pals_base.specs.declared.behaviour.Kind.{Kind}
 use Rattle.pals_base.specs.declared.behaviour.Kind.TheVariants.{Integer, Boolean}
 use Rattle.pals_base.specs.declared.behaviour.BehaviourParts.{BehaviourParts}
 use Rattle.pals_base.specs.declared.expression_kinds.Kinds.{Kinds}
-use Rattle.pals_base.specs.PlainTrees as plain
+use Rattle.pals_base.specs.ExpressionAndActionTrees as plain
 use Rattle.pals_base.specs.TypingRules.{only, allows, port_kinds, declared_or, kinds_of, kinds_along, operator_kinds}
 use Rattle.pals_base.specs.TypingRules.{numbers_at, truths_at}
 use Rattle.aadl_tree.specs.declared.expressions.Sign.{Sign}
@@ -29,7 +29,7 @@ use Rattle.annex_resolve.specs.declared.scope.DeclaredName.{DeclaredName}
 use Rattle.annex_resolve.specs.declared.scope.Meaning.{Meaning}
 use Rattle.annex_resolve.specs.declared.scope.Meaning.TheVariants.{InPort, OutPort, Variable, LoopVariable}
 use Rattle.annex_resolve.specs.declared.violation.TheConstants.{BAD_TYPE}
-use Rattle.annex_resolve.specs.NamesAndFindings.{entry_named, read_of, value_of, freshness_of, or_zero}
+use Rattle.annex_resolve.specs.NameMeanings.{entry_named, read_of, value_of, freshness_of, or_zero}
 use Rattle.annex_resolve.specs.ExpressionTypesAndFindings.{fits, misfit, is_equality, read_kind, primary_kind}
 use Rattle.annex_resolve.specs.ExpressionTypesAndFindings.{factor_kind, term_kind, total_kind, relation_kind}
 use Rattle.annex_resolve.specs.ExpressionTypesAndFindings.{expression_kind, primary_types, factor_types, term_types}

@@ -6,19 +6,19 @@ use Rattle.std.proofs.lemmas.Bool.{cases_order}
 use Rattle.std.proofs.lemmas.Option.{slice_get-map}
 use Rattle.aadl_tree.specs.Declarations.{Connection, Implementation, PackageTree}
 use Rattle.aadl_names.specs.declared.fault.PackageFault.TheVariants.{TwoSources}
-use Rattle.aadl_names.specs.declared.port_place.NumberedPort.{NumberedPort}
+use Rattle.aadl_names.specs.declared.numbered_port.NumberedPort.{NumberedPort}
 use Rattle.aadl_names.specs.ReferenceResolution.{implementation_at, connections_of}
-use Rattle.aadl_uses.specs.Uses.{IsInUse}
+use Rattle.aadl_uses.specs.ContainmentAndUse.{IsInUse}
 use Rattle.aadl_uses.specs.declared.connections_by_target.ConnectionPorts.{ConnectionPorts}
-use Rattle.aadl_uses.specs.Wiring.{ports_of_connection, wires_of, connection_ports_at}
+use Rattle.aadl_uses.specs.PortsOfConnections.{ports_of_connection, wires_of, connection_ports_at}
 use Rattle.aadl_uses.specs.SecondConnections.{target_in}
 use Rattle.aadl_chains.specs.Chains.{Port, ConnectionAt, Leads, IsStart}
 use Rattle.aadl_chains.specs.ChainFaults.{IsSecondEnd}
 use Rattle.aadl_chains.proofs.PermittedConnections.{declared}
-use Rattle.aadl_chains.specs.proof.SoundConnections.{AreFaultless}
+use Rattle.aadl_chains.specs.proof.FaultlessConnections.{AreFaultless}
 use Rattle.aadl_chains.proofs.ChainsFromEnds.{one_into, none_into_start}
-use Rattle.aadl_chains.proofs.SoundConnections.{sound_by}
-use Rattle.aadl_instance.specs.FlattenedDesign.{InstanceParts, IsFlat}
+use Rattle.aadl_chains.proofs.FaultlessConnections.{sound_by}
+use Rattle.aadl_instance.specs.InstancesByPaths.{InstanceParts, IsFlat}
 use Rattle.design_laws.proofs.SoundInstanceParts.{not_found, names_clean}
 
 -- a connection that goes into a port is there

@@ -18,7 +18,7 @@ use Rattle.component_checks.specs.AdaptorTexts.{adaptor_named}
 use Rattle.component_checks.specs.ThreadRatesAndFindings.{root_period, thread_rate}
 use Rattle.component_checks.specs.RootFindings.{root_gamma}
 use Rattle.model_violations.specs.ConnectionsAndCarriers.{connection_of, adaptor_text}
-use Rattle.model_violations.specs.ChainTargets.{component_of}
+use Rattle.model_violations.specs.ChainEnds.{component_of}
 use Rattle.model_violations.specs.ThreadBehaviours.{behaviour_in}
 use Rattle.model_violations.specs.IgnoredProperties.{ignored_names}
 use Rattle.model_violations.specs.Violations.{ShownInstance}

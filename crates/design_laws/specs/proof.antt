@@ -4,6 +4,6 @@ pub mod PackageNames
 pub mod ThreadBehaviours
 pub mod AcceptedInstances
 pub mod PortKinds
-pub mod PackageOutcomes
-pub mod ContainmentLists
+pub mod FirstFaultOrInstance
+pub mod ReachOrderAndPaths
 pub mod SoundPackages

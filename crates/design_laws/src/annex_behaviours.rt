@@ -1,4 +1,5 @@
-//! What the findings of an annex leave out. The law is the contract of a function that does nothing.
+//! An annex in which nothing is found has the parts of a behaviour. The law is the contract of a function that does
+//! nothing.
 ghost use Rattle.std.specs.Prelude.{◌≡◌, ℕ, []};
 ghost use Rattle.pals_base.specs.BehaviourRules.{IsBehaviour};
 ghost use Rattle.aadl_tree.specs.Annexes.{AnnexTree};

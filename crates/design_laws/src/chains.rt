@@ -1,8 +1,9 @@
-//! What is known of chains. Each law is the contract of a function that does nothing.
+//! All ports on a chain have one type, and chains that end at one port begin at one port. Each law is the contract
+//! of a function that does nothing.
 ghost use Rattle.std.specs.Prelude.{◌≡◌, ℕ, [], Bool, List};
 ghost use Rattle.aadl_tree.specs.Declarations.{PackageTree};
 ghost use Rattle.aadl_chains.specs.Chains.{Port, ConnectionAt, Leads, IsStart};
-ghost use Rattle.aadl_instance.specs.FlattenedDesign.{InstanceParts, IsFlat};
+ghost use Rattle.aadl_instance.specs.InstancesByPaths.{InstanceParts, IsFlat};
 ghost use Rattle.model_violations.specs.UsedDeclarations.{IsUse};
 ghost use Rattle.model_violations.specs.Violations.{shown_by, used_findings};
 ghost use Rattle.design_laws.specs.proof.PortKinds.{port_kind};

@@ -1,4 +1,5 @@
-//! What the findings of an instance leave out. Each law is the contract of a function that does nothing.
+//! An instance whose list of all that is wrong is empty has no findings, and the behaviours of its threads keep
+//! their rules. Each law is the contract of a function that does nothing.
 ghost use Rattle.std.specs.Prelude.{ℕ, [], All};
 ghost use Rattle.aadl_tree.specs.Declarations.{PackageTree};
 ghost use Rattle.design_laws.specs.proof.PackageNames.{AreNamed};

@@ -7,9 +7,9 @@
 pub mod annex_behaviours;
 pub mod chains;
 pub mod designs;
+pub mod instance_existence;
 pub mod instances;
 pub mod names;
-pub mod package_outcomes;
 pub mod packages;
 pub mod rates_and_bounds;
 pub mod thread_behaviours;

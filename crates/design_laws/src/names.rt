@@ -1,4 +1,5 @@
-//! What is known of the names of a package. Each law is the contract of a function that does nothing.
+//! The names of a package are words, and those of one implementation differ. Each law is the contract of a function
+//! that does nothing.
 ghost use Rattle.std.specs.Prelude.{◌≡◌, ℕ, [], Some, slice_get};
 ghost use Rattle.aadl_tree.specs.declared.package.PackageTree as source;
 ghost use Rattle.aadl_tree.specs.Declarations.{PackageTree, Implementation, implementation};

@@ -1,7 +1,7 @@
 //! What a package means below the root of a name is one, and keeps the rules of designs. Each law is the contract of a
 //! function that does nothing.
 ghost use Rattle.std.specs.Prelude.{◌≡◌, ◌≤◌, ℕ, List, []};
-ghost use Rattle.pals_base.specs.PeriodBound.{least_period};
+ghost use Rattle.pals_base.specs.PeriodBoundAndReleases.{least_period};
 ghost use Rattle.pals_model.specs.declared.design.DesignParts.{DesignParts};
 ghost use Rattle.pals_model.specs.DesignRules.{IsDesign, greatest_rate};
 ghost use Rattle.aadl_tree.specs.declared.package.PackageTree as source;
@@ -10,7 +10,7 @@ ghost use Rattle.aadl_tree.specs.proof.GivenTrees.{IsGiven};
 ghost use Rattle.aadl_tree.specs.proof.PackageViews.{placed};
 ghost use Rattle.aadl_names.specs.declared.fault.PackageFault.{PackageFault};
 ghost use Rattle.aadl_instance.specs.Faults.{IsFault};
-ghost use Rattle.aadl_instance.specs.FlattenedDesign.{InstanceParts, IsFlat};
+ghost use Rattle.aadl_instance.specs.InstancesByPaths.{InstanceParts, IsFlat};
 ghost use Rattle.annex_resolve.specs.declared.violation.Violation.{Violation};
 ghost use Rattle.model_violations.specs.Violations.{ShownInstance, shown_by, AreViolations};
 ghost use Rattle.design_laws.specs.PackageDesigns.{IsDesignIn};

@@ -1,11 +1,12 @@
-//! What the findings on numbers leave out. Each law is the contract of a function that does nothing.
+//! Bounds, rates, periods and adaptors on which nothing is found are those of a design. Each law is the contract of
+//! a function that does nothing.
 ghost use Rattle.std.specs.Prelude.{◌≡◌, ℕ, ◌%◌, ◌≤◌, List, [], true, Option, Some, option_map};
 ghost use Rattle.std.specs.Option.{option_and_then};
 ghost use Rattle.pals_base.specs.declared.behaviour.Kind.{Kind};
-ghost use Rattle.pals_base.specs.declared.period_bound.Gamma.{Gamma};
+ghost use Rattle.pals_base.specs.declared.period_bound_and_releases.Gamma.{Gamma};
 ghost use Rattle.pals_base.specs.declared.limits.TheConstants.{RATE};
 ghost use Rattle.pals_base.specs.AllowedAdaptors.{divides_or_divided, is_allowed};
-ghost use Rattle.pals_base.specs.PeriodBound.{least_period};
+ghost use Rattle.pals_base.specs.PeriodBoundAndReleases.{least_period};
 ghost use Rattle.pals_model.specs.DesignRules.{IsGamma};
 ghost use Rattle.component_checks.specs.BoundsAndRates.{skew_of, range_of, rate_of, gamma_by};
 ghost use Rattle.component_checks.specs.PeriodAndAdaptorFindings.{period_findings, pair_findings, bound_findings};

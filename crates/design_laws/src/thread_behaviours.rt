@@ -1,4 +1,4 @@
-//! What the findings of a thread leave out. The law is the contract of a function that does nothing.
+//! A thread in which nothing is found has a behaviour. The law is the contract of a function that does nothing.
 ghost use Rattle.std.specs.Prelude.{◌≡◌, ℕ, [], true, flat_map, Some, slice_get};
 ghost use Rattle.aadl_tree.specs.Declarations.{PackageTree, Implementation, implementation};
 ghost use Rattle.aadl_names.specs.PackageFaults.{package_faults};

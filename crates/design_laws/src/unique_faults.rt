@@ -1,4 +1,5 @@
-//! What tells faults apart. Each law is the contract of a function that does nothing.
+//! A package has one first fault at most, and of the faults in its names one of a kind at a place. Each law is the
+//! contract of a function that does nothing.
 ghost use Rattle.std.specs.Prelude.{◌≡◌, ℕ, List, Contains};
 ghost use Rattle.aadl_tree.specs.Declarations.{PackageTree};
 ghost use Rattle.aadl_tree.specs.TextTreesAndFaults.{IsTreeOf};

@@ -5,11 +5,11 @@ use Rattle.std.specs.Prelude.{All, Contains}
 use Rattle.std.proofs.lemmas.Int.{fold-int_max_bounds, fold-int_max_reached, fold-int_min_bounds, fold-int_min_reached}
 use Rattle.std.proofs.lemmas.List.Elements.{All-cons, All-contains}
 use Rattle.list_lemmas.proofs.Elements.{Contains-head, Contains-cons}
-use Rattle.pals_base.specs.declared.values.PortValue.{PortValue}
-use Rattle.pals_base.specs.declared.values.PortValue.TheVariants.{Absent, Present}
+use Rattle.pals_base.specs.declared.basic_types.PortValue.{PortValue}
+use Rattle.pals_base.specs.declared.basic_types.PortValue.TheVariants.{Absent, Present}
 use Rattle.pals_base.specs.declared.allowed_adaptors.Adaptor.TheVariants.{Min, Max}
 use Rattle.pals_base.specs.Adaptors.{present, joined, of_present, least_of, greatest_of}
-use Rattle.input_adaptors.specs.proof.GroupsAndExtremes.{IsLeast, IsGreatest}
+use Rattle.input_adaptors.specs.proof.PlacesAndGroupValues.{IsLeast, IsGreatest}
 
 -- ---- a number is among the present ones exactly where a port has it
 pub Contains-from_present : (ports : List PortValue) (v : ℤ) → Contains (present ports) v → Contains ports (Present v)

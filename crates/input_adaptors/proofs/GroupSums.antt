@@ -1,7 +1,7 @@
 -- The sum and the mean of the numbers of a group that are there.
 use Rattle.std.proofs.Common.{◌≡◌, ap, refl, suc, ◌+◌, ◌-◌, ℤ, pos, ◌+ℤ◌, List, [], ◌∷◌, length, fold}
 use Rattle.pals_base.specs.Adaptors.{of_present, average_of}
-use Rattle.input_adaptors.specs.proof.PortsAsNumbers.{mean_of}
+use Rattle.input_adaptors.specs.proof.PortValuesAsNumbers.{mean_of}
 use Rattle.input_adaptors.proofs.PresentNumbers.{zero-+ℤ}
 
 pub mean_of_sum : (vs : List ℤ) → mean_of (fold ◌+ℤ◌ (pos 0) vs) (length vs) ≡ of_present average_of vs

@@ -5,11 +5,11 @@ use Rattle.std.proofs.Common.{length, fold, arith}
 use Rattle.std.specs.Prelude.{All, Contains}
 use Rattle.std.proofs.lemmas.Int.{ints}
 use Rattle.std.proofs.lemmas.List.Elements.{All-head, All-tail}
-use Rattle.pals_base.specs.declared.values.PortValue.{PortValue}
-use Rattle.pals_base.specs.declared.values.PortValue.TheVariants.{Present}
+use Rattle.pals_base.specs.declared.basic_types.PortValue.{PortValue}
+use Rattle.pals_base.specs.declared.basic_types.PortValue.TheVariants.{Present}
 use Rattle.pals_base.specs.declared.allowed_adaptors.Adaptor.TheVariants.{Average}
 use Rattle.pals_base.specs.Adaptors.{present, joined, of_present, average_of, least_of, greatest_of}
-use Rattle.input_adaptors.specs.proof.GroupsAndExtremes.{IsAboveSome, IsBelowSome}
+use Rattle.input_adaptors.specs.proof.PlacesAndGroupValues.{IsAboveSome, IsBelowSome}
 use Rattle.input_adaptors.proofs.Quotient.{quotient_above, quotient_below}
 use Rattle.input_adaptors.proofs.Extremes.{Contains-from_present, Contains-least, Contains-greatest, All-above_least}
 use Rattle.input_adaptors.proofs.Extremes.{All-below_greatest}

@@ -1,5 +1,4 @@
--- For the functions of `group`: the present numbers of a list of ports, and the least, greatest, latest and mean of
--- them.
+-- For the functions of `group`: the present numbers of a list of ports, and the least, greatest and latest of them.
 use Rattle.std.proofs.Common.{◌≡◌, ◌∙◌, ap, sym, refl, ℕ, ◌+◌, ◌<◌, ◌≤◌, ◌*◌, ◌^◌, ◌-◌, ℤ, pos, neg_ℤ, ◌+ℤ◌, ◌≤ℤ◌, List}
 use Rattle.std.proofs.Common.{[], ◌∷◌, ◌++◌, length, take, get_or, fold, Option, Some, None, arith}
 use Rattle.std.specs.List.{reduce, filter_map, last_or}
@@ -10,10 +9,10 @@ use Rattle.std.proofs.lemmas.List.{append-nil, take_more, length_push}
 use Rattle.std.proofs.lemmas.List.Sums.{fold_push}
 use mir.Syntax.{w64}
 use mir.Val.{SFits}
-use Rattle.pals_base.specs.declared.values.PortValue.{PortValue}
-use Rattle.pals_base.specs.declared.values.PortValue.TheVariants.{Absent, Present}
+use Rattle.pals_base.specs.declared.basic_types.PortValue.{PortValue}
+use Rattle.pals_base.specs.declared.basic_types.PortValue.TheVariants.{Absent, Present}
 use Rattle.pals_base.specs.Adaptors.{present, of_present, latest_of, greatest_of, least_of}
-use Rattle.input_adaptors.specs.proof.PortsAsNumbers.{number_of, port_of}
+use Rattle.input_adaptors.specs.proof.PortValuesAsNumbers.{number_of, port_of}
 
 -- ---- as a chain of iterators gives them
 pub filter_map-number_of : (ports : List PortValue) → filter_map number_of ports ≡ present ports

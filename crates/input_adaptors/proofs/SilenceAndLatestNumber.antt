@@ -6,12 +6,12 @@ use Rattle.std.specs.Prelude.{slice_get, slice_index_or, All, Contains}
 use Rattle.std.proofs.lemmas.Bool.{cases_lt}
 use Rattle.std.proofs.lemmas.List.{get_or_past}
 use Rattle.std.proofs.lemmas.List.Elements.{All-head, All-tail, All-get_or}
-use Rattle.pals_base.specs.declared.values.PortValue.{PortValue}
-use Rattle.pals_base.specs.declared.values.PortValue.TheVariants.{Absent, Present}
+use Rattle.pals_base.specs.declared.basic_types.PortValue.{PortValue}
+use Rattle.pals_base.specs.declared.basic_types.PortValue.TheVariants.{Absent, Present}
 use Rattle.pals_base.specs.declared.allowed_adaptors.Adaptor.{Adaptor}
 use Rattle.pals_base.specs.declared.allowed_adaptors.Adaptor.TheVariants.{Repeat, First, Last, At, Latest, Max, Min, Average}
 use Rattle.pals_base.specs.Adaptors.{joined, present, of_present, latest_of, greatest_of, least_of, average_of}
-use Rattle.input_adaptors.specs.proof.GroupsAndExtremes.{IsLatest, MakesNumber}
+use Rattle.input_adaptors.specs.proof.PlacesAndGroupValues.{IsLatest, MakesNumber}
 use Rattle.input_adaptors.proofs.Extremes.{Contains-present}
 
 -- ---- none present

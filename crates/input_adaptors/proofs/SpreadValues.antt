@@ -11,13 +11,13 @@ use Rattle.std.proofs.lemmas.List.{length-replicate, get_or-replicate, get_or-se
 use Rattle.std.proofs.lemmas.List.{get_or_append_left, get_or-append_right, get_or_past}
 use Rattle.std.proofs.Math.Nat.{div-add-mod, mod-lt}
 use Rattle.list_lemmas.proofs.ElementPositions.{get_or-replicate_constant}
-use Rattle.pals_base.specs.declared.values.PortValue.{PortValue}
-use Rattle.pals_base.specs.declared.values.PortValue.TheVariants.{Absent}
+use Rattle.pals_base.specs.declared.basic_types.PortValue.{PortValue}
+use Rattle.pals_base.specs.declared.basic_types.PortValue.TheVariants.{Absent}
 use Rattle.pals_base.specs.declared.allowed_adaptors.Adaptor.{Adaptor}
 use Rattle.pals_base.specs.declared.allowed_adaptors.Adaptor.TheVariants.{Repeat, First, Last, At, Latest, Max, Min, Average}
 use Rattle.pals_base.specs.Adaptors.{adapt, spread, placed}
 use Rattle.pals_base.specs.AllowedAdaptors.{is_allowed, may_spread, may_join}
-use Rattle.input_adaptors.specs.proof.GroupsAndExtremes.{TakesPlace}
+use Rattle.input_adaptors.specs.proof.PlacesAndGroupValues.{TakesPlace}
 use Rattle.input_adaptors.proofs.TupleLengthsAndGroups.{adapt-faster, length-spread, length-spread_all}
 
 placed_there : (n m j : ℕ) (v : PortValue) → j < m → j + 1 ≡ n → slice_index_or (placed n m v) j Absent ≡ v

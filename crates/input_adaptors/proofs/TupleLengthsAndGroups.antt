@@ -9,13 +9,13 @@ use Rattle.std.proofs.lemmas.List.{length-append, length-map, length-set, length
 use Rattle.std.proofs.lemmas.List.{drop-drop, take-append-drop}
 use Rattle.std.proofs.lemmas.List.Elements.{All-nil, All-cons}
 use Rattle.std.proofs.Math.Nat.{div-add-mod, mod-eq_of_lt}
-use Rattle.pals_base.specs.declared.values.PortValue.{PortValue}
-use Rattle.pals_base.specs.declared.values.PortValue.TheVariants.{Absent}
+use Rattle.pals_base.specs.declared.basic_types.PortValue.{PortValue}
+use Rattle.pals_base.specs.declared.basic_types.PortValue.TheVariants.{Absent}
 use Rattle.pals_base.specs.declared.allowed_adaptors.Adaptor.{Adaptor}
 use Rattle.pals_base.specs.declared.allowed_adaptors.Adaptor.TheVariants.{Repeat, First, Last, At, Latest, Max, Min, Average}
 use Rattle.pals_base.specs.Adaptors.{adapt, groups, joined, spread, placed}
 use Rattle.pals_base.specs.AllowedAdaptors.{is_allowed, divides_or_divided}
-use Rattle.input_adaptors.specs.proof.GroupsAndExtremes.{group_at}
+use Rattle.input_adaptors.specs.proof.PlacesAndGroupValues.{group_at}
 
 -- ---- which side of the table
 pub adapt-faster : (a : Adaptor) (p q : ℕ) (tuple : List PortValue) → p < q

@@ -1,3 +1,3 @@
 -- What the theorem of the program does not rest on: definitions of contracts below it, of laws, and of proofs.
-pub mod PortsAsNumbers
-pub mod GroupsAndExtremes
+pub mod PortValuesAsNumbers
+pub mod PlacesAndGroupValues

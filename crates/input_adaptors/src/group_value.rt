@@ -3,8 +3,8 @@ ghost use Rattle.std.specs.Prelude.{◌≡◌, ◌*◌, ◌-◌, ◌^◌, pos, n
 ghost use Rattle.std.specs.List.{reduce};
 ghost use Rattle.std.specs.Int.{int_max, int_min};
 ghost use Rattle.pals_base.specs.Adaptors.{joined, present, of_present, average_of};
-ghost use Rattle.pals_base.specs.declared.values.PortValue.TheVariants.{Absent};
-ghost use Rattle.input_adaptors.specs.proof.PortsAsNumbers.{number_of, port_of, mean_of};
+ghost use Rattle.pals_base.specs.declared.basic_types.PortValue.TheVariants.{Absent};
+ghost use Rattle.input_adaptors.specs.proof.PortValuesAsNumbers.{number_of, port_of, mean_of};
 
 use pals_base::{Adaptor, PortValue};
 

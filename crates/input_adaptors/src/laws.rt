@@ -1,14 +1,14 @@
 //! What holds of every adaptor. Each law is the contract of a function that does nothing.
 ghost use Rattle.std.specs.Prelude.{◌≡◌, ◌≢◌, ℕ, ◌+◌, ◌*◌, ◌/◌, ◌<◌, ◌≤◌, ℤ, List, length, flat_map, slice_get, All};
 ghost use Rattle.std.specs.Prelude.{Contains, IsTrue, Option};
-ghost use Rattle.pals_base.specs.declared.values.PortValue.{PortValue};
-ghost use Rattle.pals_base.specs.declared.values.PortValue.TheVariants.{Absent, Present};
+ghost use Rattle.pals_base.specs.declared.basic_types.PortValue.{PortValue};
+ghost use Rattle.pals_base.specs.declared.basic_types.PortValue.TheVariants.{Absent, Present};
 ghost use Rattle.pals_base.specs.declared.allowed_adaptors.Adaptor.{Adaptor};
 ghost use Rattle.pals_base.specs.declared.allowed_adaptors.Adaptor.TheVariants.{Latest, Max, Min, Average};
 ghost use Rattle.pals_base.specs.Adaptors.{adapt, groups, joined};
 ghost use Rattle.pals_base.specs.AllowedAdaptors.{is_allowed, divides_or_divided};
-ghost use Rattle.input_adaptors.specs.proof.GroupsAndExtremes.{group_at, TakesPlace, MakesNumber, IsAboveSome};
-ghost use Rattle.input_adaptors.specs.proof.GroupsAndExtremes.{IsBelowSome, IsLeast, IsGreatest, IsLatest};
+ghost use Rattle.input_adaptors.specs.proof.PlacesAndGroupValues.{group_at, TakesPlace, MakesNumber, IsAboveSome};
+ghost use Rattle.input_adaptors.specs.proof.PlacesAndGroupValues.{IsBelowSome, IsLeast, IsGreatest, IsLatest};
 
 /// Between two rates, one of which divides the other, and where it is allowed, an adaptor takes a
 /// whole tuple of the source to a whole tuple of the target.

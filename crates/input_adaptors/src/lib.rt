@@ -8,7 +8,7 @@ mod to_higher_rate;
 mod to_lower_rate;
 
 ghost use Rattle.std.specs.Prelude.{◌≡◌, ◌/◌, ◌<◌, IfOk, slice_index_or};
-ghost use Rattle.pals_base.specs.declared.values.PortValue.TheVariants.{Absent};
+ghost use Rattle.pals_base.specs.declared.basic_types.PortValue.TheVariants.{Absent};
 ghost use Rattle.pals_base.specs.Adaptors.{adapt};
 
 use pals_base::tuples::place;

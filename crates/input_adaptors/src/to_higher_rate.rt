@@ -1,7 +1,7 @@
 //! To a higher rate: each value of the source over several places of the target.
 ghost use Rattle.std.specs.Prelude.{◌≡◌, ◌<◌, ◌++◌, IfOk, OnOk, flat_map, slice_index_or};
 ghost use Rattle.pals_base.specs.Adaptors.{spread};
-ghost use Rattle.pals_base.specs.declared.values.PortValue.TheVariants.{Absent};
+ghost use Rattle.pals_base.specs.declared.basic_types.PortValue.TheVariants.{Absent};
 
 use pals_base::tuples::place;
 use pals_base::{Adaptor, NoMemory, PortValue, Tuple};

@@ -7,10 +7,10 @@ use Rattle.std.specs.Prelude.{position, slice_index_or, replicate}
 use Rattle.std.proofs.lemmas.List.Elements.{All-take}
 use Rattle.std.proofs.lemmas.Option.{slice_get_within, get_or_from_slice_get, slice_get-map}
 use Rattle.list_lemmas.proofs.ListOperations.{map-map}
-use Rattle.pals_base.specs.declared.values.PortValue.{PortValue}
-use Rattle.pals_base.specs.declared.values.PortValue.TheVariants.{Absent}
+use Rattle.pals_base.specs.declared.basic_types.PortValue.{PortValue}
+use Rattle.pals_base.specs.declared.basic_types.PortValue.TheVariants.{Absent}
 use Rattle.pals_base.specs.declared.behaviour.PortDecl.{PortDecl}
-use Rattle.pals_base.specs.PeriodBound.{sent_steps}
+use Rattle.pals_base.specs.PeriodBoundAndReleases.{sent_steps}
 use Rattle.pals_base.specs.SingleStep.{initial}
 use Rattle.pals_base.specs.Tuples.{cut}
 use Rattle.pals_base.specs.UpwardNumbers.{upwards}
@@ -28,13 +28,13 @@ use Rattle.pals_model.specs.ComponentInputs.{values_at, brought_tuple}
 use Rattle.pals_model.specs.PortKinds.{rate_of, rate_in, out_kind}
 use Rattle.pals_model.specs.Composition.{taps_of}
 use Rattle.pals_model.specs.DesignRules.{IsDesign}
-use Rattle.pals_model.specs.proof.FittingValues.{PortFits, TupleFits, PortsFit, FrameFits, link_kind, EnvFits}
+use Rattle.pals_model.specs.proof.ValuesFitKinds.{PortFits, TupleFits, PortsFit, FrameFits, link_kind, EnvFits}
 use Rattle.pals_model.specs.proof.CompositionLaws.Kinds.{PartFits}
 use Rattle.pals_model.proofs.ShapeLaws.{is_behaviour}
 use Rattle.pals_model.proofs.AllElements.{index_fits}
-use Rattle.pals_model.proofs.KindsOfSteps.{frames_fit, initial_fits}
-use Rattle.pals_model.proofs.KindsOfAdaptors.{absent_fits}
-use Rattle.pals_model.proofs.KindsOfRounds.{cut_fits}
+use Rattle.pals_model.proofs.StepsKeepKinds.{frames_fit, initial_fits}
+use Rattle.pals_model.proofs.AdaptorsKeepKinds.{absent_fits}
+use Rattle.pals_model.proofs.RoundsKeepKinds.{cut_fits}
 use Rattle.pals_runs.specs.declared.plant_pairs.Pair.{Pair}
 use Rattle.plant_fuse.specs.FusedComposition.{ArePairs, is_to_plant, is_to_controller, Inputs, inputs_to, outputs_in, left_by}
 use Rattle.plant_fuse.specs.FusedComposition.{left_before, round_tuple, message_on, messages_before, from_round}
@@ -42,7 +42,7 @@ use Rattle.plant_fuse.specs.FusedComposition.{value_on, value_read, vector_of, f
 use Rattle.plant_fuse.specs.FusedReport.{fused_part}
 use Rattle.plant_fuse.proofs.StepRanks.{is_controller, rank, rank_upto, rank_before, rank_beside, rank_in_round}
 use Rattle.plant_fuse.proofs.StepRanks.{rank_from_round}
-use Rattle.plant_fuse.proofs.PairLinks.{back_rates, forth_is, read_from_target}
+use Rattle.plant_fuse.proofs.PairLinkRates.{back_rates, forth_is, read_from_target}
 use Rattle.plant_fuse.proofs.StepDependencies.{read_at}
 use Rattle.kind_laws.specs.proof.FusedKinds.{SolutionsFit}
 use Rattle.kind_laws.proofs.ElementsByIndex.{upwards_at, places_all, either_fits}

@@ -7,8 +7,8 @@ use Rattle.std.proofs.lemmas.Bool.{and_parts, eqb-true}
 use Rattle.std.proofs.lemmas.List.Elements.{All-nil, All-cons}
 use Rattle.std.proofs.lemmas.Option.{slice_get_within}
 use Rattle.list_lemmas.proofs.ListOperations.{map-map}
-use Rattle.pals_base.specs.declared.values.PortValue.{PortValue}
-use Rattle.pals_base.specs.declared.values.PortValue.TheVariants.{Absent}
+use Rattle.pals_base.specs.declared.basic_types.PortValue.{PortValue}
+use Rattle.pals_base.specs.declared.basic_types.PortValue.TheVariants.{Absent}
 use Rattle.pals_base.specs.declared.behaviour.PortDecl.{PortDecl}
 use Rattle.pals_base.specs.AllowedAdaptors.{suits_kind}
 use Rattle.pals_base.specs.Tuples.{column}
@@ -24,11 +24,11 @@ use Rattle.pals_model.specs.ComponentInputs.{root_of, values_at, link_goes_to, f
 use Rattle.pals_model.specs.ComponentInputs.{source_of, sources_of, read_feed, read_link, brought_tuple, inputs_of}
 use Rattle.pals_model.specs.PortKinds.{rate_of, kind_of, in_kind, root_kind}
 use Rattle.pals_model.specs.DesignRules.{IsDesign, IsLink, IsFeed}
-use Rattle.pals_model.specs.proof.FittingValues.{PortFits, TupleFits, PortsFit, link_kind, EnvFits}
+use Rattle.pals_model.specs.proof.ValuesFitKinds.{PortFits, TupleFits, PortsFit, link_kind, EnvFits}
 use Rattle.pals_model.proofs.FirstMatches.{found_at, at_element}
 use Rattle.pals_model.proofs.RootInputLaws.{feed_has_root, feeds_have_root_kind}
 use Rattle.pals_model.proofs.AllElements.{index_fits}
-use Rattle.pals_model.proofs.KindsOfAdaptors.{absent_fits, adapt_fits}
+use Rattle.pals_model.proofs.AdaptorsKeepKinds.{absent_fits, adapt_fits}
 
 abbrev pub MessagesFit : DesignParts → List (List PortValue) → Type 0
 MessagesFit design messages =

@@ -4,8 +4,8 @@ use Rattle.std.proofs.Common.{sym, subst, arith}
 use Rattle.std.specs.Prelude.{slice_index_or}
 use Rattle.std.proofs.lemmas.Option.{slice_get_within}
 use Rattle.pals_base.specs.declared.frames.Frame.{Frame}
-use Rattle.pals_base.specs.declared.values.PortValue.{PortValue}
-use Rattle.pals_base.specs.declared.values.PortValue.TheVariants.{Absent}
+use Rattle.pals_base.specs.declared.basic_types.PortValue.{PortValue}
+use Rattle.pals_base.specs.declared.basic_types.PortValue.TheVariants.{Absent}
 use Rattle.pals_base.specs.declared.behaviour.Kind.TheVariants.{Integer}
 use Rattle.pals_base.specs.declared.behaviour.PortDecl.{PortDecl}
 use Rattle.pals_base.specs.declared.behaviour.BehaviourParts.{BehaviourParts}
@@ -16,10 +16,10 @@ use Rattle.pals_base.specs.Tuples.{column}
 use Rattle.pals_base.proofs.StepTermination.{fires_well}
 use Rattle.pals_base.proofs.UpwardNumbers.{get_or-map_upwards}
 use Rattle.pals_model.specs.PortKinds.{kind_of}
-use Rattle.pals_model.specs.proof.FittingValues.{PortFits, TupleFits, PortsFit, FrameFits}
+use Rattle.pals_model.specs.proof.ValuesFitKinds.{PortFits, TupleFits, PortsFit, FrameFits}
 use Rattle.pals_model.proofs.AllElements.{map_all, every}
-use Rattle.pals_model.proofs.KindsOfSteps.{firing_fits, outputs_fit}
-use Rattle.pals_model.proofs.KindsOfAdaptors.{integer_fits}
+use Rattle.pals_model.proofs.StepsKeepKinds.{firing_fits, outputs_fit}
+use Rattle.pals_model.proofs.AdaptorsKeepKinds.{integer_fits}
 
 -- ---- a port
 port_by : (ports : List PortDecl) (values : List PortValue) (p : ℕ) (o : Option PortDecl) → PortsFit ports values

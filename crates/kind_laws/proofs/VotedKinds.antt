@@ -9,11 +9,11 @@ use Rattle.std.proofs.lemmas.List.Elements.{All-nil, All-cons, All-head, All-tai
 use Rattle.std.proofs.lemmas.Option.{slice_get_within}
 use Rattle.std.proofs.Math.ListN.{get_or-map}
 use Rattle.pals_base.specs.declared.frames.Frame.{Frame}
-use Rattle.pals_base.specs.declared.values.PortValue.{PortValue}
-use Rattle.pals_base.specs.declared.values.PortValue.TheVariants.{Absent}
+use Rattle.pals_base.specs.declared.basic_types.PortValue.{PortValue}
+use Rattle.pals_base.specs.declared.basic_types.PortValue.TheVariants.{Absent}
 use Rattle.pals_base.specs.declared.behaviour.Kind.{Kind}
 use Rattle.pals_base.specs.declared.behaviour.BehaviourParts.{BehaviourParts}
-use Rattle.pals_base.specs.PeriodBound.{sent_steps}
+use Rattle.pals_base.specs.PeriodBoundAndReleases.{sent_steps}
 use Rattle.pals_base.specs.SingleStep.{HasShape}
 use Rattle.pals_base.specs.UpwardNumbers.{upwards}
 use Rattle.pals_base.proofs.StepTermination.{starts_well}
@@ -27,18 +27,18 @@ use Rattle.pals_model.specs.ComponentInputs.{values_at, inputs_of}
 use Rattle.pals_model.specs.PortKinds.{rate_of, out_kind}
 use Rattle.pals_model.specs.Composition.{no_frame}
 use Rattle.pals_model.specs.DesignRules.{IsDesign}
-use Rattle.pals_model.specs.proof.FittingValues.{PortFits, TupleFits, PortsFit, FrameFits, link_kind, EnvFits}
+use Rattle.pals_model.specs.proof.ValuesFitKinds.{PortFits, TupleFits, PortsFit, FrameFits, link_kind, EnvFits}
 use Rattle.pals_model.proofs.ShapeLaws.{is_behaviour, steps_keep_shape}
 use Rattle.pals_model.proofs.AllElements.{index_fits, find_fits}
-use Rattle.pals_model.proofs.KindsOfSteps.{frames_fit, initial_fits}
-use Rattle.pals_model.proofs.KindsOfAdaptors.{absent_fits}
-use Rattle.pals_model.proofs.KindsOfRounds.{cut_fits}
+use Rattle.pals_model.proofs.StepsKeepKinds.{frames_fit, initial_fits}
+use Rattle.pals_model.proofs.AdaptorsKeepKinds.{absent_fits}
+use Rattle.pals_model.proofs.RoundsKeepKinds.{cut_fits}
 use Rattle.pals_runs.specs.declared.vote_faults.VoteFault.{VoteFault}
 use Rattle.triple_vote.specs.Votes.{same_port, vote, votes}
-use Rattle.triple_vote.specs.Replicas.{is_replicated, copies_of, receivers_in, VotedConfiguration, frame_at, heard_by, first_frame}
-use Rattle.triple_vote.specs.Replicas.{first_tuple, voted_opening, steps_in, replica_steps, tuple_at, is_fault}
-use Rattle.triple_vote.specs.Replicas.{fault_or, own_message, sent_to, vote_of, receives_on, next_voted, voted_composition}
-use Rattle.triple_vote.specs.Replicas.{voted_tap_by, voted_tap}
+use Rattle.triple_vote.specs.VotedComposition.{is_replicated, copies_of, receivers_in, VotedConfiguration, frame_at, heard_by, first_frame}
+use Rattle.triple_vote.specs.VotedComposition.{first_tuple, voted_opening, steps_in, replica_steps, tuple_at, is_fault}
+use Rattle.triple_vote.specs.VotedComposition.{fault_or, own_message, sent_to, vote_of, receives_on, next_voted, voted_composition}
+use Rattle.triple_vote.specs.VotedComposition.{voted_tap_by, voted_tap}
 use Rattle.triple_vote.proofs.ListTablesAndSearches.{found}
 use Rattle.triple_vote.proofs.ReplicaRounds.{has_first, has_three}
 use Rattle.kind_laws.specs.proof.VotedKinds.{FaultFits, FaultsFit, VotesFit, ShownFit}

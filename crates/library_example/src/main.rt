@@ -3,7 +3,7 @@
 #![tactic(auto)]
 
 ghost use Rattle.std.specs.Prelude.{◌≡◌, ◌∷◌, [], OnOk, IsTrue, None};
-ghost use Rattle.pals_base.specs.declared.values.PortValue.TheVariants.{Present};
+ghost use Rattle.pals_base.specs.declared.basic_types.PortValue.TheVariants.{Present};
 ghost use Rattle.sync_product.specs.proof.ProductStates.{advanced};
 ghost use Rattle.bus_machine.specs.Machine.{Arrive};
 ghost use Rattle.bus_machine.specs.Agreement.{Agrees};

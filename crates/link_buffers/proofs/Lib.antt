@@ -1,5 +1,5 @@
 pub mod FirstPassingItem
-pub mod MovedItems
+pub mod ShiftedItems
 pub mod PartitionPoints
 pub mod RingCopies
 pub mod PartitionedLists

@@ -1,6 +1,6 @@
 -- What the theorem of the program does not rest on: definitions of contracts below it, of laws, and of proofs.
 pub mod Flights
-pub mod Halving
+pub mod BinarySearch
 pub mod DueQueues
 pub mod RingCopies
 pub mod ListSearches

@@ -3,8 +3,8 @@ ghost use Rattle.std.specs.Prelude.{◌≡◌, ◌+◌, ◌-◌, ◌≤◌, ◌�
 ghost use Rattle.std.specs.Prelude.{OnOk, OnErr, slice_get, if◌then◌else◌};
 ghost use Rattle.std.specs.Bool.{OnFalse};
 
-use crate::halving::partition_point;
-use crate::ring_middle::{put_at, take_at};
+use crate::binary_search::partition_point;
+use crate::ring_insertion_and_removal::{put_at, take_at};
 use circular_buffer::HeapCircularBuffer;
 use pals_base::{LinkNo, Nanos, NoMemory};
 use std::alloc::Global;

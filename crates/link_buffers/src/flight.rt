@@ -6,7 +6,7 @@ ghost use Rattle.link_buffers.specs.proof.Flights.{flight_of, due_rounds};
 ghost use Rattle.link_buffers.specs.proof.ListSearches.{least};
 
 use crate::ring_entries::{Ring, RingEntry, bound_with, least_due, place_of_oldest};
-use crate::ring_middle::{standing_at, take_at};
+use crate::ring_insertion_and_removal::{standing_at, take_at};
 use pals_base::{Nanos, NoMemory, Tuple};
 use pals_model::FlightCopy;
 use std::alloc::Global;

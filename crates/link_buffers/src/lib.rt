@@ -2,12 +2,12 @@
 //! and a node's queue of the messages that become due.
 #![tactic(auto)]
 
+mod binary_search;
 pub mod due_queue;
 pub mod flight;
-mod halving;
 pub mod laws;
 mod ring_entries;
-mod ring_middle;
+mod ring_insertion_and_removal;
 pub mod slot;
 
 pub use due_queue::{DueEntry, DueQueue};

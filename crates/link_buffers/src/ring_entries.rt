@@ -6,7 +6,7 @@ ghost use Rattle.std.specs.List.{position};
 ghost use Rattle.pals_model.specs.Flights.{is_of};
 ghost use Rattle.link_buffers.specs.proof.RingCopies.{copies_of, AreTopped, AreBelow};
 
-use crate::ring_middle::standing_at;
+use crate::ring_insertion_and_removal::standing_at;
 use circular_buffer::HeapCircularBuffer;
 use pals_base::Nanos;
 use pals_model::FlightCopy;

@@ -12,7 +12,7 @@ pub struct Slot {
 
 impl Model for Slot {
     ghost use Rattle.std.specs.Prelude.{List, Option};
-    ghost use Rattle.pals_base.specs.declared.values.PortValue.{PortValue};
+    ghost use Rattle.pals_base.specs.declared.basic_types.PortValue.{PortValue};
 
     ghost Value = { Option (List PortValue) };
 

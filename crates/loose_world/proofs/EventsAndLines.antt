@@ -5,7 +5,7 @@ use Rattle.std.proofs.Common.{append_assoc, append-nil}
 use Rattle.std.specs.Prelude.{slice_index_or}
 use Rattle.std.proofs.lemmas.List.{take_more}
 use Rattle.pals_model.specs.RoundTexts.{text_of}
-use Rattle.pals_model.proofs.LineLaws.{text_of-append}
+use Rattle.pals_model.proofs.TextLineLaws.{text_of-append}
 use Rattle.pals_runs.specs.declared.events_and_faults.Event.{Event}
 use Rattle.pals_bus.specs.BusValues.{BusValue}
 use Rattle.loose_world.specs.LooseRuns.{InTurn, told_by}

@@ -6,7 +6,7 @@ use Rattle.pals_runs.specs.declared.events_and_faults.Event.{Event}
 use Rattle.pals_runs.specs.declared.events_and_faults.EventFault.{EventFault}
 use Rattle.pals_runs.specs.declared.journal.JournalEntry.{JournalEntry}
 use Rattle.pals_runs.specs.declared.journal.Stop.{Stop}
-use Rattle.bus_machine.specs.States.{opening}
+use Rattle.bus_machine.specs.BusStates.{opening}
 use Rattle.bus_machine.specs.Runs.{Run}
 use Rattle.bus_machine.specs.Machine.{BusEvent, is_allowed, IsStep}
 use Rattle.bus_machine.specs.Replay.{entries}
@@ -16,7 +16,7 @@ use Rattle.pals_bus.specs.LooseEvents.{IsRefused}
 use Rattle.loose_world.specs.declared.loose_run.LooseEnd.{LooseEnd}
 use Rattle.loose_world.specs.declared.loose_run.LooseEnd.TheVariants as end
 use Rattle.loose_world.specs.LooseRuns.{AllHappen, StopsAt, IsRefusedAt, RunsLoosely}
-use Rattle.loose_world.specs.MachineSteps.{AllStep, StepsToStop, StepsToFault}
+use Rattle.loose_world.specs.LooseEventsAsSteps.{AllStep, StepsToStop, StepsToFault}
 use Rattle.loose_world.specs.proof.EventsAsSteps.{StepsTo}
 
 -- the steps of a bus, and what they add to its journal

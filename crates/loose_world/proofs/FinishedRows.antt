@@ -11,20 +11,20 @@ use Rattle.pals_model.specs.declared.design.Component.{Component}
 use Rattle.pals_model.specs.declared.part.Part.{Part}
 use Rattle.pals_model.specs.Composition.{part}
 use Rattle.pals_model.specs.RoundTexts.{row_lines, text_of, report, composed_lines}
-use Rattle.pals_model.proofs.LineLaws.{same_row}
+use Rattle.pals_model.proofs.TextLineLaws.{same_row}
 use Rattle.pals_runs.specs.declared.events_and_faults.Event.{Event}
 use Rattle.bus_machine.specs.Plans.{component_at, no_component}
 use Rattle.bus_machine.specs.Nodes.{NodeState}
-use Rattle.bus_machine.specs.States.{BusState, node_at, no_node, finished_by_all}
+use Rattle.bus_machine.specs.BusStates.{BusState, node_at, no_node, finished_by_all}
 use Rattle.bus_machine.specs.Runs.{Run}
 use Rattle.bus_machine.specs.Agreement.{Agrees}
 use Rattle.bus_machine.specs.proof.AgreementLaws.{IsRunOf}
 use Rattle.bus_machine.specs.WorldTexts.{finished_by, part_shown, rounds_shown, world_rows}
 use Rattle.pals_bus.specs.BusValues.{BusValue}
 use Rattle.loose_world.specs.proof.FinishedRows.{part_of_round, finished, finished_lines, common_lines}
-use Rattle.loose_world.specs.proof.EventEffects.{IsLeftBy}
-use Rattle.loose_world.proofs.RoundCounts.{rounds_are_finished}
-use Rattle.loose_world.proofs.EventEffects.{events_replay}
+use Rattle.loose_world.specs.proof.BusAfterEvents.{IsLeftBy}
+use Rattle.loose_world.proofs.FinishedAndSentRounds.{rounds_are_finished}
+use Rattle.loose_world.proofs.BusAfterEvents.{events_replay}
 
 -- ---- numbers from one on
 past_from : {X : Type 0} (f : ℕ → X) (from m k : ℕ) → m ≤ k → slice_get (map f (upwards from m)) k ≡ None

@@ -9,8 +9,8 @@ use Rattle.pals_bus.specs.proof.OpeningNodes.{opening_bus}
 use Rattle.loose_world.specs.declared.loose_run.LooseEnd.{LooseEnd}
 use Rattle.loose_world.specs.declared.loose_run.LooseEnd.TheVariants as end
 use Rattle.loose_world.specs.LooseRuns.{AllHappen, RunsLoosely}
-use Rattle.loose_world.specs.proof.EventEffects.{IsReplayed}
-use Rattle.loose_world.proofs.EventEffects.{undergoes_loose, left_by_loose, stays_replayed, events_replay}
+use Rattle.loose_world.specs.proof.BusAfterEvents.{IsReplayed}
+use Rattle.loose_world.proofs.BusAfterEvents.{undergoes_loose, left_by_loose, stays_replayed, events_replay}
 
 all_replay : (run : Run) (programs : List CodeParts) (events : List Event) (t : BusValue) (lines : List (List ℕ))
     → IsRunOf run

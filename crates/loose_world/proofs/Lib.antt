@@ -2,13 +2,13 @@ pub mod LinksFromNodes
 pub mod RowLoops
 pub mod EventsAndLines
 pub mod LooseRuns
-pub mod EventEffects
+pub mod BusAfterEvents
 pub mod StepAndSendCounts
-pub mod SentLines
-pub mod RoundCounts
+pub mod SentLinesPerEvent
+pub mod FinishedAndSentRounds
 pub mod FinishedRows
 pub mod SentCopies
-pub mod ReportedWorlds
+pub mod FinishedWorldReports
 pub mod WorldTexts
 pub mod JournalReplays
 pub mod UniqueFaults

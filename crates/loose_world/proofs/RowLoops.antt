@@ -10,7 +10,7 @@ use Rattle.pals_base.specs.UpwardNumbers.{upwards}
 use Rattle.pals_base.proofs.UpwardNumbers.{upwards-more, map_upwards_more}
 use Rattle.pals_model.specs.RoundTexts.{line_end, row_lines, text_of}
 use Rattle.bus_machine.specs.Nodes.{NodeState}
-use Rattle.bus_machine.specs.States.{node_at, no_node, finished_by_all}
+use Rattle.bus_machine.specs.BusStates.{node_at, no_node, finished_by_all}
 use Rattle.pals_bus.specs.BusValues.{BusValue}
 use Rattle.loose_world.specs.proof.FinishedRows.{part_of_round, lines_before}
 

@@ -1,4 +1,4 @@
--- The law that messages are told: directly behind a send, a copy of each of its messages is in flight.
+-- The law that messages are sent: directly behind a send, a copy of each of its messages is in flight.
 use Rattle.std.proofs.Common.{◌≡◌, ℕ, suc, ◌+◌, ◌-◌, ◌<◌, nat_eq, Bool, true, false, cond, List, [], ◌∷◌, ◌++◌, length}
 use Rattle.std.proofs.Common.{slice_get, Option, Some, None, All, refl, sym, ap, ◌∙◌, subst, arith}
 use Rattle.std.specs.Prelude.{filter, find, Contains, if◌then◌else◌}
@@ -7,7 +7,7 @@ use Rattle.std.specs.Option.{option_or}
 use Rattle.std.proofs.lemmas.Bool.{eqb-true, eq-eqb, false≢true}
 use Rattle.std.proofs.lemmas.List.Folds.{find-append}
 use Rattle.std.proofs.lemmas.List.Elements.{All-nil, All-cons, All-map, All-weaker, All-contains}
-use Rattle.pals_base.specs.declared.values.NodeNo.{NodeNo}
+use Rattle.pals_base.specs.declared.basic_types.NodeNo.{NodeNo}
 use Rattle.pals_model.specs.declared.design.Link.{Link}
 use Rattle.pals_model.specs.declared.design.DesignParts.{DesignParts}
 use Rattle.pals_model.specs.declared.flight_copy.FlightCopy.{FlightCopy}
@@ -21,25 +21,25 @@ use Rattle.bus_machine.specs.Plans.{component_at, plan_of}
 use Rattle.bus_machine.specs.Nodes.{NodeState, round_of, sent_rounds}
 use Rattle.bus_machine.specs.NodeEvents.{sent_from, message_from}
 use Rattle.bus_machine.specs.LinkEvents.{sent_copy}
-use Rattle.bus_machine.specs.States.{BusState, node_at, flight_at}
+use Rattle.bus_machine.specs.BusStates.{BusState, node_at, flight_at}
 use Rattle.bus_machine.specs.Runs.{Run}
-use Rattle.bus_machine.specs.MissedStarts.{rounds_sent_on}
+use Rattle.bus_machine.specs.MissedMessages.{rounds_sent_on}
 use Rattle.bus_machine.specs.Machine.{Send, IsStep, flight_after_send, after_send}
 use Rattle.bus_machine.specs.Agreement.{IsCopy, Agrees}
 use Rattle.bus_machine.specs.proof.AgreementLaws.{IsRunOf}
 use Rattle.bus_machine.specs.WorldTexts.{sends_of}
 use Rattle.bus_machine.proofs.MessageAndRunAgreement.{step_keeps_agreement}
 use Rattle.bus_machine.proofs.ListsAndOldestCopies.{numbered_at, oldest_is_one}
-use Rattle.bus_machine.proofs.NodeLocalAgreement.{MaySend}
-use Rattle.bus_machine.proofs.AgreementChanges.{node_set}
-use Rattle.bus_machine.proofs.NodeEventAgreement.{sender_before}
+use Rattle.bus_machine.proofs.NodeEventLocalAgreement.{MaySend}
+use Rattle.bus_machine.proofs.StateChangeAgreement.{node_set}
+use Rattle.bus_machine.proofs.NodeEventBusAgreement.{sender_before}
 use Rattle.pals_bus.specs.BusValues.{BusValue, Happens}
-use Rattle.loose_world.specs.proof.EventEffects.{Undergoes, IsLeftBy, IsReplayed}
-use Rattle.loose_world.specs.proof.SendersAndSentCopies.{senders}
+use Rattle.loose_world.specs.proof.BusAfterEvents.{Undergoes, IsLeftBy, IsReplayed}
+use Rattle.loose_world.specs.proof.EventSenders.{senders}
 use Rattle.loose_world.specs.proof.SentCopies.{HasSent}
-use Rattle.loose_world.proofs.RoundCounts.{rounds_are_sent}
+use Rattle.loose_world.proofs.FinishedAndSentRounds.{rounds_are_sent}
 use Rattle.loose_world.proofs.StepAndSendCounts.{sender_is_there}
-use Rattle.loose_world.proofs.EventEffects.{makes_send, stays_replayed, events_replay}
+use Rattle.loose_world.proofs.BusAfterEvents.{makes_send, stays_replayed, events_replay}
 
 -- ---- the links from a node
 -- a link of the design from this node

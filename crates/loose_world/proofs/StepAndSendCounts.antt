@@ -4,12 +4,12 @@ use Rattle.std.proofs.Common.{None, refl, sym, ap, ap₂, ◌∙◌, subst, arit
 use Rattle.std.specs.Prelude.{nat_lt, is_some, if◌then◌else◌}
 use Rattle.std.proofs.lemmas.Bool.{ltb-false, false≢true}
 use Rattle.std.proofs.lemmas.Option.{slice_get_within}
-use Rattle.bus_machine.proofs.QuantitiesAndSentRounds.{grows_at, stays_at}
+use Rattle.bus_machine.proofs.NodeReplacement.{grows_at, stays_at}
 use Rattle.bus_machine.proofs.SentRounds.{sent_at_start, sent_behind}
 use Rattle.list_lemmas.proofs.Numbers.{add_zero_from}
-use Rattle.pals_base.specs.declared.values.NodeNo.{NodeNo}
-use Rattle.pals_base.specs.declared.values.LinkNo.{LinkNo}
-use Rattle.pals_base.specs.declared.values.PortValue.{PortValue}
+use Rattle.pals_base.specs.declared.basic_types.NodeNo.{NodeNo}
+use Rattle.pals_base.specs.declared.basic_types.LinkNo.{LinkNo}
+use Rattle.pals_base.specs.declared.basic_types.PortValue.{PortValue}
 use Rattle.pals_model.specs.declared.part.Part.{Part}
 use Rattle.pals_model.specs.ComponentInputs.{values_at}
 use Rattle.pals_model.specs.PortKinds.{rate_of, rate_in}
@@ -24,18 +24,18 @@ use Rattle.bus_machine.specs.Nodes.{NodeState, at_rest, sent_rounds}
 use Rattle.bus_machine.specs.NodeEvents.{is_waiting, started, next_step, stepped, running_step, finished, may_send}
 use Rattle.bus_machine.specs.NodeEvents.{sent_from, with_message, arrived, received, after_send as phase_after_send}
 use Rattle.bus_machine.specs.LinkEvents.{arriving}
-use Rattle.bus_machine.specs.States.{BusState, node_at, flight_at, with_node}
+use Rattle.bus_machine.specs.BusStates.{BusState, node_at, flight_at, with_node}
 use Rattle.bus_machine.specs.Runs.{Run}
-use Rattle.bus_machine.specs.MissedStarts.{missing_link}
+use Rattle.bus_machine.specs.MissedMessages.{missing_link}
 use Rattle.bus_machine.specs.Machine.{BusEvent, Start, Step, Finish, Send, Arrive, Drop, Repeat, IsStep, after}
 use Rattle.bus_machine.specs.Machine.{after_start, after_send, after_arrive, on_step, is_allowed}
 use Rattle.bus_machine.specs.Agreement.{PhaseAgrees, Agrees}
 use Rattle.bus_machine.specs.proof.AgreementLaws.{IsRunOf}
-use Rattle.bus_machine.proofs.NodeLocalAgreement.{finish_keeps, MaySend}
-use Rattle.bus_machine.proofs.AgreementChanges.{is_component}
-use Rattle.bus_machine.proofs.NodeEventAgreement.{is_waiting_phase, sender_before}
+use Rattle.bus_machine.proofs.NodeEventLocalAgreement.{finish_keeps, MaySend}
+use Rattle.bus_machine.proofs.StateChangeAgreement.{is_component}
+use Rattle.bus_machine.proofs.NodeEventBusAgreement.{is_waiting_phase, sender_before}
 use Rattle.loose_world.specs.proof.StepAndSendCounts.{steps_in_hand, steps_finished, IsCounted}
-use Rattle.loose_world.specs.proof.EventEffects.{event_of}
+use Rattle.loose_world.specs.proof.BusAfterEvents.{event_of}
 
 -- ---- the two quantities
 abbrev steps_of : Run → ℕ → NodeState → ℕ

@@ -6,21 +6,21 @@ use Rattle.std.proofs.lemmas.List.Elements.{All-head, All-tail, Contains-get_or}
 use Rattle.pals_model.specs.OutgoingLinks.{links_from}
 use Rattle.pals_runs.specs.declared.events_and_faults.Event.{Event}
 use Rattle.pals_runs.specs.declared.events_and_faults.Event.TheVariants as event
-use Rattle.bus_machine.specs.States.{BusState, node_at}
+use Rattle.bus_machine.specs.BusStates.{BusState, node_at}
 use Rattle.bus_machine.specs.Runs.{Run}
 use Rattle.bus_machine.specs.Nodes.{sent_rounds}
 use Rattle.bus_machine.specs.proof.AgreementLaws.{IsRunOf}
 use Rattle.bus_machine.specs.WorldTexts.{sender, sends_of, sent_line, sent_lines}
-use Rattle.pals_report.specs.SentLines.{sent_line as line}
+use Rattle.pals_report.specs.SentMessageLines.{sent_line as line}
 use Rattle.pals_bus.specs.BusValues.{BusValue}
 use Rattle.pals_bus.specs.proof.OpeningNodes.{opening_bus}
 use Rattle.loose_world.specs.SentLines.{message_lines, copy_lines, sent_lines as shown_lines}
 use Rattle.loose_world.specs.LooseRuns.{InTurn, told_by}
-use Rattle.loose_world.specs.proof.EventEffects.{Undergoes, IsLeftBy, IsReplayed}
+use Rattle.loose_world.specs.proof.BusAfterEvents.{Undergoes, IsLeftBy, IsReplayed}
 use Rattle.loose_world.specs.proof.SentCopies.{HasSent}
-use Rattle.loose_world.proofs.RoundCounts.{sent_more, nothing_sent}
-use Rattle.loose_world.proofs.SentLines.{round_lines, event_lines, and_sender, one_event}
-use Rattle.loose_world.proofs.EventEffects.{stays_replayed, opens_replayed}
+use Rattle.loose_world.proofs.FinishedAndSentRounds.{sent_more, nothing_sent}
+use Rattle.loose_world.proofs.SentLinesPerEvent.{round_lines, event_lines, and_sender, one_event}
+use Rattle.loose_world.proofs.BusAfterEvents.{stays_replayed, opens_replayed}
 use Rattle.loose_world.proofs.SentCopies.{sent_of_run}
 
 one_line_each : (f : ℕ → List (List ℕ)) (g : ℕ → List ℕ) (links : List ℕ) → All (λ link. f link ≡ g link ∷ []) links
@@ -29,7 +29,6 @@ one_line_each f g [] all = refl
 one_line_each f g (link ∷ links) all =
     ap₂ (λ xs ys. xs ++ ys) (All-head (λ l. f l ≡ g l ∷ []) link links all)
     (one_line_each f g links (All-tail (λ l. f l ≡ g l ∷ []) link links all))
-
 
 shown : (t : BusValue) (node round : ℕ) → HasSent t node round
     → shown_lines t node ≡ round_lines t.run.design t.run.env node round
@@ -44,12 +43,10 @@ shown t node round sent =
     let copy = sent.copies link (Contains-get_or (links_from design node) k d within) in
     ap (copy_lines design link round) copy.1 ∙ ap (λ tuple. line design link round tuple ∷ []) copy.2)
 
-
 -- the sends of each node so far are those of the nodes before
 abbrev HaveSent : Run → BusState → List ℕ → Type 0
 HaveSent run s before =
     (node : ℕ) → node < length run.design.components → sent_rounds (node_at s node) ≡ sends_of node before
-
 
 told : (run : Run) (s t : BusValue) (e : Event) (before : List ℕ) → IsRunOf run → IsReplayed run s
     → HaveSent run s.state before
@@ -67,7 +64,6 @@ told run s t (event.Arrive link round) before rules replayed sent undergoes = re
 told run s t (event.Drop link round) before rules replayed sent undergoes = refl
 told run s t (event.Repeat link round) before rules replayed sent undergoes = refl
 
-
 all_told : (run : Run) (s t : BusValue) (events : List Event) (lines : List (List ℕ)) (before : List ℕ) → IsRunOf run
     → IsReplayed run s
     → HaveSent run s.state before → InTurn Undergoes s events t lines
@@ -81,7 +77,6 @@ all_told run s t (e ∷ events) lines before rules replayed sent turns =
     (all_told run next t events turns.1 (and_sender before (sender e)) rules behind
     (sent_more run s next e before rules replayed sent turns.2) turns.3)
     ∙ sym (one_event run.design run.env before events (sender e) (sent_lines run.design run.env events))
-
 
 pub lines_are_told : (run : Run) (events : List Event) (t : BusValue) (lines : List (List ℕ)) → IsRunOf run
     → IsLeftBy run events t lines

@@ -8,7 +8,7 @@ use Rattle.pals_runs.specs.declared.events_and_faults.Event.{Event}
 use Rattle.pals_runs.specs.declared.events_and_faults.EventFault.{EventFault}
 use Rattle.pals_runs.specs.declared.journal.JournalEntry.{JournalEntry}
 use Rattle.pals_runs.specs.declared.journal.Stop.{Stop}
-use Rattle.bus_machine.specs.States.{BusState, opening}
+use Rattle.bus_machine.specs.BusStates.{BusState, opening}
 use Rattle.bus_machine.specs.Runs.{Run}
 use Rattle.bus_machine.specs.Machine.{BusEvent, is_allowed, after, IsStep}
 use Rattle.bus_machine.specs.Replay.{entries}
@@ -16,7 +16,7 @@ use Rattle.pals_bus.specs.LooseEvents.{loose_event}
 use Rattle.loose_world.specs.declared.loose_run.LooseEnd.{LooseEnd}
 use Rattle.loose_world.specs.declared.loose_run.LooseEnd.TheVariants as end
 use Rattle.loose_world.specs.LooseRuns.{IsFaultOf}
-use Rattle.loose_world.specs.MachineSteps.{AllStep, ComesTo, StepsToStop, StepsToFault}
+use Rattle.loose_world.specs.LooseEventsAsSteps.{AllStep, ComesTo, StepsToStop, StepsToFault}
 use Rattle.loose_world.specs.proof.EventsAsSteps.{StepsTo}
 use Rattle.loose_world.specs.proof.UniqueEnds.{AreSameEnd}
 use Rattle.loose_world.proofs.UniqueFaults.{one_fault}

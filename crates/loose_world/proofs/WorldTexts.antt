@@ -2,10 +2,10 @@
 use Rattle.std.proofs.Common.{◌≡◌, ℕ, List, [], ◌++◌, false, sym, ap, ap₂, ◌∙◌, subst}
 use Rattle.step_code.specs.declared.instr.CodeParts.{CodeParts}
 use Rattle.pals_model.specs.RoundTexts.{text_of, report}
-use Rattle.pals_model.proofs.LineLaws.{text_of-append}
+use Rattle.pals_model.proofs.TextLineLaws.{text_of-append}
 use Rattle.pals_runs.specs.declared.events_and_faults.Event.{Event}
 use Rattle.pals_runs.specs.declared.journal.Stop.{Stop}
-use Rattle.bus_machine.specs.States.{finished_by_all}
+use Rattle.bus_machine.specs.BusStates.{finished_by_all}
 use Rattle.bus_machine.specs.Runs.{Run}
 use Rattle.bus_machine.specs.Agreement.{Agrees}
 use Rattle.bus_machine.specs.proof.AgreementLaws.{IsRunOf}
@@ -15,8 +15,8 @@ use Rattle.pals_bus.specs.proof.OpeningNodes.{opening_bus}
 use Rattle.loose_world.specs.proof.FinishedRows.{finished_lines, common_lines}
 use Rattle.loose_world.specs.declared.loose_run.LooseEnd.TheVariants as end
 use Rattle.loose_world.specs.LooseRuns.{Tells}
-use Rattle.loose_world.specs.proof.EventEffects.{IsLeftBy, IsReplayed}
-use Rattle.loose_world.proofs.EventEffects.{left_by_loose}
+use Rattle.loose_world.specs.proof.BusAfterEvents.{IsLeftBy, IsReplayed}
+use Rattle.loose_world.proofs.BusAfterEvents.{left_by_loose}
 use Rattle.loose_world.proofs.JournalReplays.{journal_replays}
 use Rattle.loose_world.proofs.FinishedRows.{finished_rows, common_rows}
 use Rattle.loose_world.proofs.ToldLines.{lines_are_told}

@@ -1,4 +1,4 @@
 pub mod SentLines
 pub mod LooseRuns
-pub mod MachineSteps
+pub mod LooseEventsAsSteps
 pub mod proof

@@ -1,13 +1,13 @@
--- The lines of the messages that a node has just sent.
+-- The lines of the messages that a node has just sent, and the links from each node.
 use Rattle.std.specs.Prelude.{◌≡◌, ℕ, ◌-◌, ◌<◌, List, [], ◌∷◌, length, map, flat_map, Option, Some, None}
 use Rattle.std.specs.Prelude.{slice_index_or}
-use Rattle.pals_base.specs.declared.values.LinkNo.{LinkNo}
+use Rattle.pals_base.specs.declared.basic_types.LinkNo.{LinkNo}
 use Rattle.pals_model.specs.declared.design.DesignParts.{DesignParts}
 use Rattle.pals_model.specs.declared.flight_copy.FlightCopy.{FlightCopy}
 use Rattle.pals_model.specs.Flights.{oldest}
 use Rattle.pals_model.specs.OutgoingLinks.{links_from}
-use Rattle.pals_report.specs.SentLines.{sent_line}
-use Rattle.bus_machine.specs.States.{node_at, flight_at}
+use Rattle.pals_report.specs.SentMessageLines.{sent_line}
+use Rattle.bus_machine.specs.BusStates.{node_at, flight_at}
 use Rattle.pals_bus.specs.BusValues.{BusValue}
 
 -- the line of a copy, if there is one

@@ -1,10 +1,10 @@
 -- What the theorem of the program does not rest on: definitions of contracts below it, of laws, and of proofs.
 pub mod FinishedRows
 pub mod StepAndSendCounts
-pub mod EventEffects
-pub mod SendersAndSentCopies
+pub mod BusAfterEvents
+pub mod EventSenders
 pub mod JournalReplays
-pub mod ReportedWorlds
+pub mod FinishedWorldReports
 pub mod WorldLaws
 pub mod EventsAsSteps
 pub mod UniqueEnds

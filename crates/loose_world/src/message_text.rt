@@ -1,7 +1,7 @@
 //! The messages that the nodes of a bus have sent.
 ghost use Rattle.std.specs.Prelude.{◌≡◌, ◌<◌, ◌++◌, length, IfOk, OnOk, OnErr};
 ghost use Rattle.pals_model.specs.RoundTexts.{text_of};
-ghost use Rattle.pals_report.specs.proof.PartialWrites.{BeginsWith};
+ghost use Rattle.pals_report.specs.proof.TextPrefixes.{BeginsWith};
 ghost use Rattle.loose_world.specs.SentLines.{AreOutLinks, message_lines, sent_lines};
 
 use pals_base::{Items, LinkNo, NoMemory, NodeNo};
@@ -20,7 +20,7 @@ pub struct OutLinks {
 
 impl Model for OutLinks {
     ghost use Rattle.std.specs.Prelude.{List};
-    ghost use Rattle.pals_base.specs.declared.values.LinkNo.{LinkNo};
+    ghost use Rattle.pals_base.specs.declared.basic_types.LinkNo.{LinkNo};
 
     ghost Value = { List (List LinkNo) };
 

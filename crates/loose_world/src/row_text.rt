@@ -1,8 +1,8 @@
 //! The rounds that the nodes of a bus have finished.
 ghost use Rattle.std.specs.Prelude.{◌≡◌, ◌++◌, OnOk, OnErr, fold, max};
 ghost use Rattle.pals_model.specs.RoundTexts.{text_of};
-ghost use Rattle.bus_machine.specs.States.{finished_by_all};
-ghost use Rattle.pals_report.specs.proof.PartialWrites.{BeginsWith};
+ghost use Rattle.bus_machine.specs.BusStates.{finished_by_all};
+ghost use Rattle.pals_report.specs.proof.TextPrefixes.{BeginsWith};
 ghost use Rattle.loose_world.specs.proof.FinishedRows.{lines_before, finished, finished_lines, common_lines};
 
 use pals_base::{NoMemory, NodeNo};

@@ -4,7 +4,7 @@ ghost use Rattle.loose_world.specs.proof.WorldLaws.{StepCounts, EventsReplay, Ro
 ghost use Rattle.loose_world.specs.proof.WorldLaws.{FinishedRows, CommonRows, RoundsWithoutNodes, SendsAreInFlight};
 ghost use Rattle.loose_world.specs.proof.WorldLaws.{LinesAreTold, WorldIsTold, TextIsTold, StopIsTold};
 ghost use Rattle.loose_world.specs.proof.JournalReplays.{JournalReplays};
-ghost use Rattle.loose_world.specs.proof.ReportedWorlds.{WorldIsReported, WorldTextIsReported};
+ghost use Rattle.loose_world.specs.proof.FinishedWorldReports.{WorldIsReported, WorldTextIsReported};
 ghost use Rattle.loose_world.specs.proof.EventsAsSteps.{EventsAreSteps};
 ghost use Rattle.loose_world.specs.proof.UniqueEnds.{OneEnd};
 

@@ -8,13 +8,13 @@ use Rattle.std.proofs.Math.Logic.{∥∥₁_elim}
 use Rattle.std.proofs.lemmas.List.Elements.{All-map, All-same, All-weaker}
 use Rattle.aadl_tree.specs.Declarations.{Implementation, PackageTree}
 use Rattle.aadl_names.specs.ReferenceResolution.{implementation_at, is_thread}
-use Rattle.aadl_uses.specs.Uses.{below, number_at_path, component_at}
+use Rattle.aadl_uses.specs.ContainmentAndUse.{below, number_at_path, component_at}
 use Rattle.aadl_uses.specs.ThreadsBelow.{IsThreadAt}
 use Rattle.aadl_uses.specs.declared.thread_locations.ThreadAt.{ThreadAt}
 use Rattle.aadl_uses.specs.ThreadLocations.{thread_at}
 use Rattle.aadl_instance.specs.declared.chain.Chain.{Chain}
-use Rattle.aadl_instance.specs.FlattenedDesign.{InstanceParts, IsFlat}
-use Rattle.aadl_instance.specs.Instances.{IsInstance}
+use Rattle.aadl_instance.specs.InstancesByPaths.{InstanceParts, IsFlat}
+use Rattle.aadl_instance.specs.InstancesByNumbers.{IsInstance}
 use Rattle.model_violations.proofs.ThreadsWithinLimits.{is_small}
 use Rattle.design_laws.proofs.InstanceBehaviours.{component_is}
 use Rattle.model_checks.specs.proof.ThreadSizeLimits.{IsWithinLimits}

@@ -14,7 +14,7 @@ ghost use Rattle.model_checks.specs.proof.CachedBehaviours.{behaviour_at, AreKep
 use aadl_instance::ThreadAt;
 use aadl_uses::Uses;
 use indexmap::IndexMap;
-use model_violations::chain_targets::component_number;
+use model_violations::chain_ends::component_number;
 use model_violations::resolve_implementation;
 use pals_base::{Behaviour, Items, NoMemory, TryClone};
 use std::alloc::Global;

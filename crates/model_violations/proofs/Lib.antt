@@ -3,10 +3,10 @@ pub mod PortAndVariableLists
 pub mod SpellingTables
 pub mod NumberSets
 pub mod ThreadsWithinLimits
-pub mod RateBounds
+pub mod RatesWithinLimits
 pub mod ChainCarriers
 pub mod FindingOrder
-pub mod AllFindings
+pub mod UnsortedFindings
 pub mod MappedOptions
 pub mod NthFilteredItem
 pub mod EqualOrUnknownRates

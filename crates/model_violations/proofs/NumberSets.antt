@@ -10,7 +10,7 @@ use Rattle.indexmap.specs.IndexSet.{insert_key}
 use Rattle.std.proofs.lemmas.Bool.{eqb-true}
 use Rattle.std.proofs.Math.Bool.{or-false}
 use Rattle.aadl_tree.specs.Declarations.{PackageTree}
-use Rattle.aadl_uses.specs.Uses.{IsInUse}
+use Rattle.aadl_uses.specs.ContainmentAndUse.{IsInUse}
 use Rattle.component_checks.proofs.EnumeratedLists.{next_numbered, standing_at}
 use Rattle.model_violations.specs.UsedDeclarations.{has, IsUse}
 

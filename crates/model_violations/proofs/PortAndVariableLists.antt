@@ -1,5 +1,5 @@
--- For `values_and_scope_of`: the lists of an implementation's ports and variables, as they were read, are those that its
--- behaviour is made of.
+-- For `values_and_scope_of`: the lists of an implementation's ports and variables, as they were read, are those that
+-- its behaviour is made of; in ports and out ports are together all ports.
 use Rattle.std.proofs.Common.{◌≡◌, ◌∙◌, ℕ, List, ap, ◌+◌, not, length, filter, refl, arith}
 use Rattle.aadl_tree.specs.Annexes.{AnnexTree}
 use Rattle.aadl_tree.specs.Declarations.{Feature, Implementation, PackageTree}

@@ -10,7 +10,7 @@ use Rattle.std.proofs.lemmas.List.{drop_all}
 use Rattle.list_lemmas.proofs.ListOperations.{drop-next}
 use Rattle.aadl_names.specs.proof.NameTables.{value_of}
 use Rattle.model_violations.specs.IgnoredProperties.{behind, all_behind}
-use Rattle.model_violations.specs.proof.KnownNames.{KnowsAll}
+use Rattle.model_violations.specs.proof.SpellingTables.{KnowsAll}
 
 -- ---- the first of the names that are left
 new_behind : (first : List (List ℕ)) (x : List ℕ) → list_any (same_name x) first ≡ false

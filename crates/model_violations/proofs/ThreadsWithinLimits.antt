@@ -18,12 +18,12 @@ use Rattle.aadl_names.specs.BehaviourAnnexes as names
 use Rattle.aadl_names.specs.ReferenceResolution.{is_root, is_thread, first_number, implementation_at, ports_of}
 use Rattle.aadl_names.specs.BehaviourAnnexes.{first_behaviour}
 use Rattle.aadl_instance.specs.BehaviourSizes.{count_in, variable_count}
-use Rattle.aadl_uses.specs.Uses.{number_at_path, component_at, IsInUse}
+use Rattle.aadl_uses.specs.ContainmentAndUse.{number_at_path, component_at, IsInUse}
 use Rattle.aadl_uses.specs.ThreadsBelow.{IsThreadOf}
 use Rattle.aadl_uses.specs.declared.thread_locations.ThreadAt.{ThreadAt}
 use Rattle.aadl_instance.specs.declared.chain.Chain.{Chain}
-use Rattle.aadl_instance.specs.FlattenedDesign.{InstanceParts, IsFlat}
-use Rattle.aadl_instance.specs.Instances.{IsInstance}
+use Rattle.aadl_instance.specs.InstancesByPaths.{InstanceParts, IsFlat}
+use Rattle.aadl_instance.specs.InstancesByNumbers.{IsInstance}
 use Rattle.annex_resolve.specs.ExpressionTypesAndFindings.{kind_named}
 use Rattle.model_violations.specs.PortsAndVariables.{first_of, variable_of, variables_in, variables_of}
 use Rattle.model_violations.specs.ThreadBehaviours.{IsSmall, first_annex}

@@ -11,7 +11,7 @@ use Rattle.annex_resolve.specs.FindingRecords.{found_if}
 use Rattle.annex_resolve.specs.declared.violation.TheConstants.{NOT_DELAYED, STRAY_ADAPTOR}
 use Rattle.component_checks.specs.PeriodAndAdaptorFindings.{pair_findings}
 use Rattle.component_checks.specs.AdaptorTexts.{adaptor_named}
-use Rattle.model_violations.specs.ChainTargets.{end_name, end_kind, end_rate}
+use Rattle.model_violations.specs.ChainEnds.{end_name, end_kind, end_rate}
 use Rattle.model_violations.specs.ConnectionsAndCarriers.{connection_of, is_delayed, adaptor_text}
 
 -- on the rates at both ends; without one of them nothing is found

@@ -6,8 +6,8 @@ use Rattle.std.specs.Option.{option_and_then, is_some}
 use Rattle.pals_base.specs.declared.behaviour.Kind.{Kind}
 use Rattle.aadl_tree.specs.Names.{Identifier}
 use Rattle.aadl_tree.specs.Declarations.{Feature, Connection, ConnectionEnd, Implementation, PackageTree}
-use Rattle.aadl_names.specs.declared.port_place.NumberedPort.{NumberedPort}
-use Rattle.aadl_names.specs.declared.port_place.NumberedPort.TheVariants.{Own, Inner}
+use Rattle.aadl_names.specs.declared.numbered_port.NumberedPort.{NumberedPort}
+use Rattle.aadl_names.specs.declared.numbered_port.NumberedPort.TheVariants.{Own, Inner}
 use Rattle.aadl_names.specs.ReferenceResolution.{port_named, ports_of, inner_ports, end_port}
 use Rattle.annex_resolve.specs.declared.violation.Violation.{Violation}
 use Rattle.annex_resolve.specs.declared.violation.TheConstants.{DELAYED_ROOT, STRAY_ADAPTOR}

@@ -4,7 +4,7 @@ pub mod IgnoredProperties
 pub mod UsedDeclarations
 pub mod DeclarationFindings
 pub mod Violations
-pub mod ChainTargets
+pub mod ChainEnds
 pub mod ConnectionsAndCarriers
 pub mod ChainFindings
 pub mod ConnectionFindings

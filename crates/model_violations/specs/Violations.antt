@@ -4,8 +4,8 @@ use Rattle.std.specs.List.Sorted.{IsSortedBy, IsStableBy}
 use Rattle.aadl_tree.specs.Declarations.{PackageTree}
 use Rattle.aadl_uses.specs.declared.thread_locations.ThreadAt.{ThreadAt}
 use Rattle.aadl_instance.specs.declared.chain.Chain.{Chain}
-use Rattle.aadl_instance.specs.FlattenedDesign.{InstanceParts}
-use Rattle.aadl_instance.specs.Instances.{chain_at}
+use Rattle.aadl_instance.specs.InstancesByPaths.{InstanceParts}
+use Rattle.aadl_instance.specs.InstancesByNumbers.{chain_at}
 use Rattle.aadl_uses.specs.ThreadLocations.{thread_at}
 use Rattle.annex_resolve.specs.declared.violation.Violation.{Violation}
 use Rattle.component_checks.specs.ThreadRatesAndFindings.{thread_rate, greatest_rate, thread_findings}

@@ -1,5 +1,5 @@
 -- What the theorem of the program does not rest on: definitions of contracts below it, of laws, and of proofs.
-pub mod KnownNames
+pub mod SpellingTables
 pub mod NumberedConnections
 pub mod ThreadRates
 pub mod UnsortedFindings

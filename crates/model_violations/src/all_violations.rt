@@ -17,8 +17,8 @@ use aadl_instance::{Chain, Instance, ThreadAt};
 use annex_resolve::Violation;
 use component_checks::Properties;
 use component_checks::root_findings::add_root_findings;
+use component_checks::thread_findings::add_thread_findings;
 use component_checks::thread_rates::{greatest_rate, thread_rate};
-use component_checks::threads::add_thread_findings;
 use pals_base::{Items, NoMemory};
 use std::alloc::Global;
 

@@ -7,12 +7,12 @@ ghost use Rattle.model_violations.specs.ChainFindings as spec;
 ghost use Rattle.model_violations.specs.proof.ThreadRates.{tree_of, ArePositive};
 
 use crate::carriers::carrier_of;
-use crate::chain_targets::{end_kind, end_name, end_rate};
+use crate::chain_ends::{end_kind, end_name, end_rate};
 use aadl_instance::{Chain, ThreadAt};
 use aadl_tree::Connection;
 use annex_resolve::Violation;
 use annex_resolve::violation::{NOT_DELAYED, STRAY_ADAPTOR};
-use component_checks::threads::add_named;
+use component_checks::thread_findings::add_named;
 use component_checks::{Carrier, ChainProperties, Properties};
 use pals_base::{Adaptor, Items, NoMemory};
 use std::alloc::Global;

@@ -14,14 +14,14 @@ ghost use Rattle.model_violations.specs.DeclarationFindings as spec;
 
 use crate::carriers::Carriers;
 use crate::connection_findings::add_connections_findings;
-use crate::ignored_in_declaration::is_number;
+use crate::ignored_declaration_properties::is_number;
 use crate::resolve_implementation;
 use aadl_names::PropertyHolder;
 use aadl_tree::{Category, Declaration, Implementation, Subcomponent, TypeDeclaration};
-use aadl_uses::{Uses, PackageConnections};
+use aadl_uses::{PackageConnections, Uses};
 use annex_resolve::Violation;
 use component_checks::times::add_times_too_big;
-use component_checks::types::add_port_findings;
+use component_checks::type_findings::add_port_findings;
 use indexmap::IndexSet;
 use pals_base::{Items, NoMemory};
 use std::alloc::Global;

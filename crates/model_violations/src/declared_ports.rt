@@ -6,7 +6,7 @@ ghost use Rattle.model_violations.specs.PortsAndVariables as spec;
 
 use crate::port_or_variable::Declared;
 use aadl_tree::Feature;
-use component_checks::types::{is_in, kind_in};
+use component_checks::type_findings::{is_in, kind_in};
 use pals_base::{Items, NoMemory, Text};
 use std::alloc::Global;
 

@@ -1,7 +1,7 @@
 //! Names, each once, as it is first spelled.
 ghost use Rattle.std.specs.Prelude.{◌≡◌, [], IfOk, OnOk};
 ghost use Rattle.model_violations.specs.IgnoredProperties as spec;
-ghost use Rattle.model_violations.specs.proof.KnownNames as inner;
+ghost use Rattle.model_violations.specs.proof.SpellingTables as inner;
 
 use aadl_names::name_table::NameTable;
 use pals_base::{Items, NoMemory, Text, TryClone};

@@ -5,21 +5,21 @@
 pub mod all_violations;
 pub mod behaviour_values_and_scope;
 pub mod carriers;
+pub mod chain_ends;
 pub mod chain_findings;
-pub mod chain_targets;
 pub mod connection_findings;
 pub mod declaration_findings;
 pub mod declared_ports;
+pub mod declared_variables;
 pub mod distinct_spellings;
-pub mod ignored_in_declaration;
-pub mod ignored_in_list;
-pub mod ignored_in_package;
+pub mod ignored_declaration_properties;
+pub mod ignored_list_properties;
+pub mod ignored_package_properties;
 pub mod port_or_variable;
 pub mod sorted_findings;
 pub mod thread_behaviour;
 pub mod used_declarations;
-pub mod variables;
 
 pub use all_violations::violations;
-pub use ignored_in_package::ignored_names;
+pub use ignored_package_properties::ignored_names;
 pub use thread_behaviour::resolve_implementation;

@@ -14,12 +14,12 @@ ghost use Rattle.model_violations.specs.PortsAndVariables.{variables_of, values_
 
 use crate::behaviour_values_and_scope::values_and_scope_by;
 use crate::declared_ports::{ins_in, outs_in};
-use crate::variables::variables_of;
+use crate::declared_variables::variables_of;
 use aadl_tree::{Annex, AnnexContent, AnnexTree, Implementation};
 use aadl_uses::Uses;
 use annex_resolve::violation::NO_INITIAL;
 use annex_resolve::{DeclaredValues, Scope, Violation, resolve_annex};
-use component_checks::types::add_variables_findings;
+use component_checks::type_findings::add_variables_findings;
 use pals_base::{BehaviourParts, Items, NoMemory};
 use std::alloc::Global;
 
@@ -66,7 +66,12 @@ fn values_and_scope_of(
     let ins = ins_in(alloc, ports)?;
     let outs = outs_in(alloc, ports)?;
     let variables = variables_of(alloc, annex)?;
-    let setting = values_and_scope_by(alloc, ins.as_slice(), outs.as_slice(), variables.as_slice())?;
+    let setting = values_and_scope_by(
+        alloc,
+        ins.as_slice(),
+        outs.as_slice(),
+        variables.as_slice(),
+    )?;
     Ok(setting)
 }
 

@@ -5,7 +5,7 @@ pub mod RoleTables
 pub mod PortEntries
 pub mod TypePortNames
 pub mod FirstBehaviours
-pub mod AnnexBehaviours
+pub mod AnnexFaults
 pub mod NameUses
-pub mod NumberedFindings
+pub mod FaultsByDeclaration
 pub mod NumberedImplementations

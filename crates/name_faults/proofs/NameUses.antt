@@ -1,8 +1,8 @@
--- For `check_behaviour`: what names stand for in a behaviour, in the order of their uses.
+-- For `check_behaviour`: behaviours use names in the same way where names stand for the same.
 use Rattle.std.proofs.Common.{◌≡◌, ℕ, Bool, List, ap, ◌∙◌}
 use Rattle.std.specs.List.{flat_map}
 use Rattle.aadl_tree.specs.Annexes.{Transition}
-use Rattle.aadl_names.specs.NameUsesInAnnexes.{NameRoles}
+use Rattle.aadl_names.specs.NameUseFaults.{NameRoles}
 use Rattle.aadl_names.specs.PackageFaults.{in_order, transition_uses}
 
 -- what is the same for all names is the same

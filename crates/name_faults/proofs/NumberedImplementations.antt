@@ -6,16 +6,16 @@ use Rattle.list_lemmas.proofs.Options.{option_and_then_assoc}
 use Rattle.aadl_tree.specs.Declarations.{Subcomponent, Connection, Implementation, PackageTree}
 use Rattle.aadl_tree.specs.declared.declarations.Direction.{Direction}
 use Rattle.aadl_names.specs.declared.fault.PackageFault.{PackageFault}
-use Rattle.aadl_names.specs.declared.port_place.NumberedPort.{NumberedPort}
-use Rattle.aadl_names.specs.declared.port_place.NumberedPort.TheVariants.{Own, Inner}
+use Rattle.aadl_names.specs.declared.numbered_port.NumberedPort.{NumberedPort}
+use Rattle.aadl_names.specs.declared.numbered_port.NumberedPort.TheVariants.{Own, Inner}
 use Rattle.aadl_names.specs.ReferenceResolution.{implementation_in, implementation_at, subcomponents_of, type_number}
 use Rattle.aadl_names.specs.ReferenceResolution.{type_numbered, referred, target_of, features_of, direction_in}
 use Rattle.aadl_names.specs.ReferenceResolution.{direction_of, with_direction}
 use Rattle.aadl_names.specs.proof.FirstFaultSoFar.{found}
 use Rattle.aadl_names.specs.PackageFaults.{root_type, directed_end_port, joined_faults, connection_faults}
 use Rattle.aadl_uses.specs.declared.connections_by_target.ConnectionPorts.{ConnectionPorts}
-use Rattle.aadl_uses.specs.Uses.{below}
-use Rattle.aadl_uses.specs.Wiring.{ports_of_connection, wires_of, connection_ports_at}
+use Rattle.aadl_uses.specs.ContainmentAndUse.{below}
+use Rattle.aadl_uses.specs.PortsOfConnections.{ports_of_connection, wires_of, connection_ports_at}
 use Rattle.aadl_uses.specs.proof.ImplementationTypes.{type_number_by, type_number_at}
 use Rattle.name_faults.specs.proof.NumberedImplementations.{StandsAt}
 

@@ -8,7 +8,7 @@ use Rattle.aadl_tree.specs.declared.values.Association.{Association}
 use Rattle.aadl_tree.specs.proof.ValueViews.{association_view, associations_view}
 use Rattle.aadl_tree.specs.Values as plain
 use Rattle.aadl_tree.specs.proof.PlaceMaps.{kept_place}
-use Rattle.aadl_names.specs.declared.spelled_name.SpelledName.{SpelledName}
+use Rattle.aadl_names.specs.declared.declared_name.SpelledName.{SpelledName}
 use Rattle.aadl_names.specs.DuplicateNames.{twice}
 use Rattle.aadl_names.specs.RecognisedProperties.{counts, association_entry, property_entries}
 

@@ -2,5 +2,5 @@
 pub mod BehaviourScopes
 pub mod ConditionalValues
 pub mod TypePortNames
-pub mod ExpectedBehaviours
+pub mod AnnexFaults
 pub mod NumberedImplementations

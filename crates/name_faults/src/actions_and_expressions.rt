@@ -8,7 +8,7 @@ ghost use Rattle.aadl_tree.specs.proof.ExpressionViews.{expression_view};
 ghost use Rattle.aadl_tree.specs.proof.ActionViews.{action_view, actions_view, block_view, choice_view, loop_view};
 ghost use Rattle.aadl_tree.specs.proof.PlaceMaps.{kept_place};
 ghost use Rattle.aadl_names.specs.proof.FirstFaultSoFar.{found};
-ghost use Rattle.aadl_names.specs.NameUsesInAnnexes as spec;
+ghost use Rattle.aadl_names.specs.NameUseFaults as spec;
 ghost use Rattle.name_faults.specs.proof.BehaviourScopes.{known_by};
 
 use crate::behaviour_scope::BehaviourScope;

@@ -31,7 +31,7 @@ impl<'t> BehaviourScope<'t> {
     ghost use Rattle.std.specs.Prelude.{◌≡◌, IfOk};
     ghost use Rattle.aadl_tree.specs.proof.NameViews.{identifier_view};
     ghost use Rattle.aadl_tree.specs.proof.PlaceMaps.{kept_place};
-    ghost use Rattle.aadl_names.specs.NameUsesInAnnexes.{either, with_loop};
+    ghost use Rattle.aadl_names.specs.NameUseFaults.{either, with_loop};
     ghost use Rattle.aadl_names.specs.proof.NameTables.{value_of};
     ghost use Rattle.name_faults.specs.proof.BehaviourScopes.{loop_roles, known_by};
 

@@ -13,7 +13,7 @@ ghost use Rattle.aadl_names.specs.ReferenceResolution.{ports_of, type_number, ty
 ghost use Rattle.aadl_names.specs.PackageFaults as spec;
 ghost use Rattle.name_faults.specs.proof.BehaviourScopes.{known_by};
 ghost use Rattle.name_faults.specs.proof.TypePortNames.{HasRolesOf};
-ghost use Rattle.name_faults.specs.proof.ExpectedBehaviours.{annex_uses, still_expected};
+ghost use Rattle.name_faults.specs.proof.AnnexFaults.{annex_uses, still_expected};
 
 use crate::behaviour_sections::transitions_in;
 use crate::thread_category::is_thread;

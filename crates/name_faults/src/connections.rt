@@ -12,11 +12,11 @@ ghost use Rattle.aadl_names.specs.PackageFaults as spec;
 ghost use Rattle.name_faults.specs.proof.NumberedImplementations.{StandsAt};
 
 use crate::check_properties;
-use aadl_names::name_texts::spelled_end;
+use aadl_names::spelling::spelled_end;
 use aadl_names::type_ports::port_direction;
 use aadl_names::{FaultFinder, NumberedPort, PropertyHolder};
 use aadl_tree::{Connection, ConnectionEnd, Direction, Implementation};
-use aadl_uses::{Uses, PackageConnections};
+use aadl_uses::{PackageConnections, Uses};
 use std::alloc::AllocError;
 
 // Which way a port goes that the implementation of a number knows.

@@ -19,9 +19,9 @@ use crate::implementations::check_outside_behaviours;
 use crate::types::check_type;
 use crate::{AllPortNames, names_at};
 use aadl_names::FaultFinder;
-use aadl_names::name_texts::spelled_name;
+use aadl_names::spelling::spelled_name;
 use aadl_tree::{Declaration, Implementation, PackageTree};
-use aadl_uses::{Uses, PackageConnections};
+use aadl_uses::{PackageConnections, Uses};
 use std::alloc::AllocError;
 
 // Whether the number is that of the type of the root.

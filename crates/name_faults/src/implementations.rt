@@ -15,7 +15,7 @@ use crate::check_properties;
 use crate::connections::check_connections;
 use crate::subcomponents::{check_subcomponents, same_category};
 use aadl_names::declarations_by_number::type_numbered;
-use aadl_names::name_texts::spelled_implementation;
+use aadl_names::spelling::spelled_implementation;
 use aadl_names::{FaultFinder, PropertyHolder};
 use aadl_tree::{Category, Implementation, PackageTree};
 use aadl_uses::PackageConnections;

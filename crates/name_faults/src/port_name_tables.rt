@@ -13,7 +13,7 @@ ghost use Rattle.aadl_names.specs.ReferenceResolution.{features_of, type_in, typ
 ghost use Rattle.aadl_names.specs.PackageFaults.{role_in, port_roles};
 ghost use Rattle.name_faults.specs.proof.TypePortNames.{AreNamesOf, AreAllNamesOf, HasRolesOf, names_at};
 
-use crate::space_entries::port_entries;
+use crate::namespace_entries::port_entries;
 use aadl_names::declarations_by_number::type_numbered;
 use aadl_names::duplicate_names::check_twice;
 use aadl_names::earliest_by_name::earliest_of;

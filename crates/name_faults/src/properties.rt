@@ -1,4 +1,4 @@
-//! Lists of properties.
+//! What is wrong with a list of properties: values of another shape, and properties that are given twice.
 #![tactic(auto, using(aadl_names::proofs::FirstFaultSoFar::found_append))]
 
 ghost use Rattle.std.specs.Prelude.{◌≡◌, ◌&&◌, ◌++◌, not, OnOk, IfOk, flat_map};
@@ -14,10 +14,10 @@ ghost use Rattle.aadl_names.specs.RecognisedProperties.{property_entries};
 ghost use Rattle.aadl_names.specs.Spelling as spelling;
 ghost use Rattle.aadl_names.specs.DuplicateNames.{twice};
 
-use crate::shapes::has_shape;
+use crate::property_value_shapes::has_shape;
 use aadl_names::duplicate_names::check_twice;
 use aadl_names::name_comparison::is_spelled;
-use aadl_names::name_texts::spelled_name;
+use aadl_names::spelling::spelled_name;
 use aadl_names::{FaultFinder, PropertyHolder, SpelledName};
 use aadl_tree::{Association, Name, Value};
 use pals_base::Items;

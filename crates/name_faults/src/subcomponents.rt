@@ -14,7 +14,7 @@ ghost use Rattle.name_faults.specs.proof.NumberedImplementations.{StandsAt};
 
 use crate::check_properties;
 use aadl_names::declarations_by_number::implementation_at;
-use aadl_names::name_texts::spelled_reference;
+use aadl_names::spelling::spelled_reference;
 use aadl_names::{FaultFinder, PropertyHolder};
 use aadl_tree::{Category, Implementation, PackageTree, Reference, Subcomponent};
 use aadl_uses::Uses;

@@ -1,4 +1,4 @@
-//! Categories of components.
+//! Whether a category is that of threads.
 ghost use Rattle.std.specs.Prelude.{◌≡◌};
 ghost use Rattle.aadl_names.specs.ReferenceResolution.{is_thread};
 

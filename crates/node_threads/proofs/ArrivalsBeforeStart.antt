@@ -3,17 +3,17 @@ use Rattle.std.proofs.Common.{◌≡◌, ℕ, List, Some, refl, sym, ap, ◌∙�
 use Rattle.std.specs.Prelude.{slice_index_or}
 use Rattle.std.proofs.lemmas.Bool.{false_from_ne_true}
 use Rattle.std.proofs.lemmas.Option.{slice_get-get_or}
-use Rattle.pals_base.specs.declared.values.NodeNo.{NodeNo}
-use Rattle.pals_base.specs.declared.values.LinkNo.{LinkNo}
+use Rattle.pals_base.specs.declared.basic_types.NodeNo.{NodeNo}
+use Rattle.pals_base.specs.declared.basic_types.LinkNo.{LinkNo}
 use Rattle.pals_clock.specs.ClockStates.{ClockState}
 use Rattle.link_buffers.specs.proof.Flights.{is_due}
-use Rattle.bus_machine.specs.States.{flight_at}
+use Rattle.bus_machine.specs.BusStates.{flight_at}
 use Rattle.bus_machine.specs.Machine.{BusEvent, Arrive}
 use Rattle.pals_bus.specs.BusValues.{BusValue, Happens}
 use Rattle.pals_bus.specs.proof.DueMessages.{IsDueTo, TakesDue, takes_none, takes_next}
-use Rattle.run_laws.specs.proof.StepsUnderLock.{IsToStart, IsDueAt}
+use Rattle.run_laws.specs.proof.ClockAnswersAndDueArrivals.{IsToStart, IsDueAt}
 use Rattle.run_laws.specs.Runs.{NoneDue, IsAwaited}
-use Rattle.run_laws.proofs.DueArrivalsAndListPicks.{due_arrives}
+use Rattle.run_laws.proofs.ClockAnswersAndDueArrivals.{due_arrives}
 use Rattle.node_threads.specs.declared.node_end.NodeNote.{NodeNote}
 use Rattle.node_threads.specs.proof.SharedCourses.{CourseValue, course_of, clocks_of, IsToStartIn}
 use Rattle.node_threads.proofs.ChangesUnderLock.{Goes, stays_on, event_goes}

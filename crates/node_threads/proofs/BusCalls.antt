@@ -2,14 +2,14 @@
 use Rattle.std.proofs.Common.{◌≡◌, inl, inr, ℕ, ◌<◌, List, length, Option, Some, refl, sym, ◌∙◌, subst}
 use Rattle.std.specs.Prelude.{Result, Ok, Err, IfOk, IfErr, OnOk, OnErr}
 use Rattle.std.specs.declared.alloc.AllocError.{AllocError}
-use Rattle.pals_base.specs.declared.values.NodeNo.{NodeNo}
+use Rattle.pals_base.specs.declared.basic_types.NodeNo.{NodeNo}
 use Rattle.pals_clock.specs.ClockStates.{ClockState}
 use Rattle.pals_node.specs.proof.NodeValues.{JobValue}
-use Rattle.pals_node.specs.declared.answers.StartEnd.{StartEnd}
-use Rattle.pals_node.specs.declared.answers.StepEnd.{StepEnd}
+use Rattle.pals_node.specs.declared.refusals.StartEnd.{StartEnd}
+use Rattle.pals_node.specs.declared.refusals.StepEnd.{StepEnd}
 use Rattle.pals_node.specs.declared.job.Finished.{Finished}
-use Rattle.pals_node.specs.declared.answers.FinishEnd.{FinishEnd}
-use Rattle.pals_node.specs.declared.answers.SendEnd.{SendEnd}
+use Rattle.pals_node.specs.declared.refusals.FinishEnd.{FinishEnd}
+use Rattle.pals_node.specs.declared.refusals.SendEnd.{SendEnd}
 use Rattle.bus_machine.specs.Runs.{Run}
 use Rattle.bus_machine.specs.Machine.{Start, Step, Finish, Send}
 use Rattle.pals_bus.specs.declared.bus_error.BusError.{BusError}

@@ -13,7 +13,7 @@ use Rattle.pals_clock.specs.declared.clock.Clocks.TheVariants.{Meet, Lists}
 use Rattle.pals_runs.specs.declared.journal.JournalEntry.{JournalEntry}
 use Rattle.bus_machine.specs.declared.node_action.NodeAction.{NodeAction}
 use Rattle.bus_machine.specs.Plans.{plan_of}
-use Rattle.bus_machine.specs.States.{node_at}
+use Rattle.bus_machine.specs.BusStates.{node_at}
 use Rattle.bus_machine.specs.Machine.{BusEvent, IsStep}
 use Rattle.bus_machine.specs.ActionsAndTargets.{target}
 use Rattle.pals_bus.specs.BusValues.{BusValue, Happens}

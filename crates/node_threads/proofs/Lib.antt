@@ -3,10 +3,10 @@ mod NextTargetsAndStarts
 mod ArrivalsBeforeStart
 mod BusCalls
 mod NextReadings
-mod SourceWaits
+mod SentSources
 mod ReadyNodes
 mod CourseOpenings
 mod NodeEnds
 mod RunOutcomes
-mod SendSync
-mod SleeperSeats
+mod ThreadSafety
+mod NodeThreadStates

@@ -1,4 +1,4 @@
--- For `look` and `act`: the target of a node's next action is a reading, and a start is that of the round that the
+-- For `look` and `begin`: the target of a node's next action is a reading, and a start is that of the round that the
 -- node waits for.
 use Rattle.std.proofs.Common.{◌≡◌, ◌≢◌, ℕ, ◌+◌, ◌*◌, ◌<◌, ◌≤◌, nat_lt, Bool, true, false, cond, length, Some, refl, sym}
 use Rattle.std.proofs.Common.{ap, ◌∙◌, subst, arith}
@@ -15,7 +15,7 @@ use Rattle.bus_machine.specs.Agreement.{PhaseAgrees, Agrees}
 use Rattle.bus_machine.specs.proof.AgreementLaws.{IsRunOf}
 use Rattle.bus_machine.specs.Nodes.{NodeState, round_of}
 use Rattle.bus_machine.specs.Plans.{plan_of, component_at}
-use Rattle.bus_machine.specs.States.{BusState, node_at}
+use Rattle.bus_machine.specs.BusStates.{BusState, node_at}
 use Rattle.bus_machine.specs.Runs.{Run}
 use Rattle.bus_machine.specs.ActionsAndTargets.{target, send_is_next, next_in}
 use Rattle.pals_node.specs.proof.NodeInvariants.{IsPlan}

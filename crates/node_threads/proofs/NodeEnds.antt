@@ -6,7 +6,7 @@ use Rattle.std.proofs.lemmas.List.{length_push, get_or_past}
 use Rattle.std.proofs.lemmas.Option.{same_Some, slice_get_within}
 use Rattle.pals_runs.specs.declared.phase.Phase.{Phase}
 use Rattle.pals_runs.specs.declared.phase.Phase.TheVariants.{Waiting, Running, Between, Holding, Done}
-use Rattle.bus_machine.specs.States.{node_at}
+use Rattle.bus_machine.specs.BusStates.{node_at}
 use Rattle.node_threads.specs.declared.node_end.NodeEnd.{NodeEnd}
 use Rattle.node_threads.specs.declared.node_end.NodeEnd.TheVariants as end
 use Rattle.node_threads.specs.declared.node_end.NodeNote.{NodeNote}

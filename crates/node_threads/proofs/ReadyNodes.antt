@@ -1,6 +1,6 @@
--- For `act`: a ready node may start, step or send, whichever is next.
+-- For `begin`: a ready node may start, step or send, whichever is next.
 use Rattle.std.proofs.Common.{◌≡◌, ℕ, Some, ap, subst}
-use Rattle.pals_base.specs.declared.values.NodeNo.{NodeNo}
+use Rattle.pals_base.specs.declared.basic_types.NodeNo.{NodeNo}
 use Rattle.bus_machine.specs.declared.node_action.NodeAction.{NodeAction}
 use Rattle.bus_machine.specs.declared.node_action.NodeAction.TheVariants as action
 use Rattle.bus_machine.specs.NodeEvents.{is_waiting}

@@ -14,7 +14,7 @@ use Rattle.node_threads.specs.declared.node_end.NodeEnd.{NodeEnd}
 use Rattle.node_threads.specs.declared.node_end.NodeEnd.TheVariants as ended
 use Rattle.node_threads.specs.declared.node_end.NodeNote.{NodeNote}
 use Rattle.node_threads.specs.proof.SharedCourses.{CourseValue, AreClocksOf, clocks_of, course_of, IsOf, Stays}
-use Rattle.node_threads.specs.declared.threads.RunEnd.{RunEnd}
+use Rattle.node_threads.specs.declared.threaded_run.RunEnd.{RunEnd}
 use Rattle.node_threads.specs.proof.NodeEndsAndOutcomes.{EndsFit, IsOutcome}
 use Rattle.node_threads.proofs.CourseOpenings.{Begins}
 

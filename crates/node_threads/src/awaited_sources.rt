@@ -1,6 +1,6 @@
 //! What a node with a list waits for before a start.
 ghost use Rattle.std.specs.Prelude.{◌≡◌, ◌<◌, ◌≤◌, length, false, IsTrue};
-ghost use Rattle.bus_machine.specs.States.{node_at};
+ghost use Rattle.bus_machine.specs.BusStates.{node_at};
 ghost use Rattle.bus_machine.specs.Plans.{link_at};
 ghost use Rattle.bus_machine.specs.Nodes.{sent_rounds};
 ghost use Rattle.node_threads.specs.proof.SharedCourses.{HasSent, IsWaiting, IsAwaitedIn, IsSentOn};

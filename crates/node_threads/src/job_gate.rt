@@ -1,4 +1,4 @@
-//! Who is told of each job.
+//! The gate, which is told when a job begins and when it has ended, outside the lock.
 ghost use Rattle.std.specs.Prelude.{◌≡◌};
 
 use pals_base::NodeNo;

@@ -30,7 +30,7 @@ pub struct FakeStarter {
 
 impl Model for FakeStarter {
     ghost use Rattle.std.specs.Prelude.{List};
-    ghost use Rattle.pals_base.specs.declared.values.NodeNo.{NodeNo};
+    ghost use Rattle.pals_base.specs.declared.basic_types.NodeNo.{NodeNo};
 
     ghost Value = { List NodeNo };
 

@@ -7,7 +7,7 @@
 pub mod laws;
 
 ghost use Rattle.std.specs.Prelude.{◌≡◌, ◌+◌, ◌≤◌, ◌↔◌, IsTrue};
-ghost use Rattle.pals_base.specs.PeriodBound.{alarm};
+ghost use Rattle.pals_base.specs.PeriodBoundAndReleases.{alarm};
 ghost use Rattle.pals_base.specs.declared.limits.TheConstants.{HOUR, ROUNDS};
 
 use pals_base::Nanos;

@@ -1,12 +1,11 @@
--- The laws of steps one after another and of halted frames: frames and outputs after several steps, the columns
--- gathered from them, and tuples that are cut short.
+-- The laws of steps one after another, and of halted frames.
 use Rattle.std.proofs.Common.{◌≡◌, ◌∙◌, ℕ, zero, suc, ◌-◌, List, [], ◌∷◌, ◌++◌, length, map, take, replicate, Some}
 use Rattle.std.proofs.Common.{refl, ap}
 use Rattle.std.specs.Prelude.{ℤ}
 use Rattle.std.specs.List.{fold}
-use Rattle.pals_base.specs.declared.values.Trap.{Trap}
+use Rattle.pals_base.specs.declared.basic_types.Trap.{Trap}
 use Rattle.pals_base.specs.declared.frames.Frame.{Frame}
-use Rattle.pals_base.specs.declared.values.PortValue.{PortValue}
+use Rattle.pals_base.specs.declared.basic_types.PortValue.{PortValue}
 use Rattle.pals_base.specs.declared.behaviour.BehaviourParts.{BehaviourParts}
 use Rattle.pals_base.specs.SingleStep.{Fired, fire, holding, silence, unless_halted, reaction, is_present}
 use Rattle.pals_base.specs.StepSequences.{frame_after, outputs}

@@ -11,13 +11,13 @@ use Rattle.std.proofs.lemmas.List.{length-map, length-replicate}
 use Rattle.std.proofs.lemmas.List.Elements.{All-contains, All-filter}
 use Rattle.std.proofs.lemmas.List.Sums.{AllPass-from_list_all, list_all-from_AllPass}
 use Rattle.std.proofs.lemmas.Option.{slice_get_within}
-use Rattle.pals_base.specs.declared.values.Trap.{Trap}
+use Rattle.pals_base.specs.declared.basic_types.Trap.{Trap}
 use Rattle.pals_base.specs.declared.frames.Frame.{Frame}
-use Rattle.pals_base.specs.declared.values.PortValue.{PortValue}
-use Rattle.pals_base.specs.declared.values.PortValue.TheVariants.{Absent}
+use Rattle.pals_base.specs.declared.basic_types.PortValue.{PortValue}
+use Rattle.pals_base.specs.declared.basic_types.PortValue.TheVariants.{Absent}
 use Rattle.pals_base.specs.declared.behaviour.StateDecl.{StateDecl}
 use Rattle.pals_base.specs.declared.behaviour.BehaviourParts.{BehaviourParts}
-use Rattle.pals_base.specs.PlainTrees.{Edge, Trigger, Dispatch, Always, When}
+use Rattle.pals_base.specs.ExpressionAndActionTrees.{Edge, Trigger, Dispatch, Always, When}
 use Rattle.pals_base.specs.ExpressionValues.{on_value}
 use Rattle.pals_base.specs.Actions.{acts}
 use Rattle.pals_base.specs.SingleStep.{Fired, HasShape, holding, is_present, silence, completes, may_begin, is_complete}
@@ -28,7 +28,7 @@ use Rattle.pals_base.specs.BehaviourRules.{has_condition, is_edge, dispatch_coun
 use Rattle.pals_base.specs.BehaviourRules.{IsWay, IsBehaviour}
 use Rattle.pals_base.specs.proof.SettledStates.{settles}
 use Rattle.pals_base.proofs.SettledStates.{rule_at}
-use Rattle.pals_base.proofs.WaysAndCycles.{incomplete_within, settled_unless_cycle, way_is_short}
+use Rattle.pals_base.proofs.TransitionWaysAndCycles.{incomplete_within, settled_unless_cycle, way_is_short}
 use Rattle.pals_base.proofs.EffectLengths.{HasLengths, acts_keeps}
 
 -- ---- lists

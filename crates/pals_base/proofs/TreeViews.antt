@@ -16,7 +16,7 @@ use Rattle.pals_base.specs.declared.behaviour.Act.TheBlock.{items_shown-the_row-
 use Rattle.pals_base.specs.declared.behaviour.Act.TheBlock.{items_hidden-the_row-Branch-1}
 use Rattle.pals_base.specs.declared.behaviour.Act.TheVariants as act
 use Rattle.pals_base.specs.declared.behaviour.Branch.{Branch}
-use Rattle.pals_base.specs.PlainTrees.{Chain, Then, Do, If, For, Where}
+use Rattle.pals_base.specs.ExpressionAndActionTrees.{Chain, Then, Do, If, For, Where}
 use Rattle.pals_base.specs.proof.TreeViews.{tree_of, operands_of, operands_along, action_of, actions_of, actions_along}
 use Rattle.pals_base.specs.proof.TreeViews.{branches_of, branches_along}
 

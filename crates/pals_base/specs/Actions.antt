@@ -1,11 +1,11 @@
 -- What actions do: new variables and this step's outputs, or a trap.
 use Rattle.std.specs.Prelude.{ℕ, ℤ, Bool, if◌then◌else◌, List, [], ◌∷◌, ◌++◌, length, take, Result, Ok, slice_set}
-use Rattle.pals_base.specs.declared.values.Trap.{Trap}
+use Rattle.pals_base.specs.declared.basic_types.Trap.{Trap}
 use Rattle.pals_base.specs.declared.frames.Frame.{Frame}
-use Rattle.pals_base.specs.declared.values.PortValue.{PortValue}
-use Rattle.pals_base.specs.declared.values.PortValue.TheVariants.{Present}
+use Rattle.pals_base.specs.declared.basic_types.PortValue.{PortValue}
+use Rattle.pals_base.specs.declared.basic_types.PortValue.TheVariants.{Present}
 use Rattle.pals_base.specs.ExpressionValues.{eval, on_value, is_true}
-use Rattle.pals_base.specs.PlainTrees.{Action, Assign, Emit, If, For, Actions, Nothing, Do, Branches, NoBranch, Where}
+use Rattle.pals_base.specs.ExpressionAndActionTrees.{Action, Assign, Emit, If, For, Actions, Nothing, Do, Branches, NoBranch, Where}
 use Rattle.pals_base.specs.ForRanges.{numbers}
 
 -- the variables, and what the out ports have in this step so far

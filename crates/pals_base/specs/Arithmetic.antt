@@ -1,8 +1,8 @@
 -- Arithmetic on signed numbers of 64 bits: the exact result, or the trap that it meets.
 use Rattle.std.specs.Prelude.{ℤ, pos, negsuc, zero, suc, neg_ℤ, ◌+ℤ◌, ◌-ℤ◌, ◌*ℤ◌, ◌-◌, ◌^◌, Bool, ◌&&◌, if◌then◌else◌}
 use Rattle.std.specs.Prelude.{Result, Ok, Err, int_le, int_lt, int_div, int_rem}
-use Rattle.pals_base.specs.declared.values.Trap.{Trap}
-use Rattle.pals_base.specs.declared.values.Trap.TheVariants.{Overflow, ZeroDivisor}
+use Rattle.pals_base.specs.declared.basic_types.Trap.{Trap}
+use Rattle.pals_base.specs.declared.basic_types.Trap.TheVariants.{Overflow, ZeroDivisor}
 
 -- a number from -2^63 to 2^63 - 1
 abbrev pub fits : ℤ → Bool

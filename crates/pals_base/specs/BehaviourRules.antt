@@ -7,7 +7,7 @@ use Rattle.pals_base.specs.declared.behaviour.StateDecl.{StateDecl}
 use Rattle.pals_base.specs.declared.behaviour.VarDecl.{VarDecl}
 use Rattle.pals_base.specs.declared.behaviour.PortDecl.{PortDecl}
 use Rattle.pals_base.specs.Names.{is_word, AreDistinct}
-use Rattle.pals_base.specs.PlainTrees.{Edge, Trigger, Dispatch, Always, When}
+use Rattle.pals_base.specs.ExpressionAndActionTrees.{Edge, Trigger, Dispatch, Always, When}
 use Rattle.pals_base.specs.TypingRules.{allows, literal_kinds, kinds_of, are_sound}
 use Rattle.pals_base.specs.SingleStep.{may_begin, is_complete, is_dispatch, leaving}
 use Rattle.pals_base.specs.UpwardNumbers.{upwards}

@@ -6,12 +6,10 @@ abbrev pub counted_from : ℤ → ℕ → List ℤ
 counted_from low zero = []
 counted_from low (suc n) = low ∷ counted_from (low +ℤ pos 1) n
 
-
 -- how many numbers lie from low to low + d, none where d is negative
 abbrev pub count_of : ℤ → ℕ
 count_of (pos d) = suc d
 count_of (negsuc d) = 0
-
 
 -- the numbers of a loop, from the low end to the high end
 abbrev pub numbers : ℤ → ℤ → List ℤ

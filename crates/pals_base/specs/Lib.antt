@@ -1,6 +1,6 @@
 pub mod Names
 pub mod Arithmetic
-pub mod PlainTrees
+pub mod ExpressionAndActionTrees
 pub mod ExpressionValues
 pub mod Actions
 pub mod SingleStep
@@ -9,7 +9,7 @@ pub mod TypingRules
 pub mod BehaviourRules
 pub mod Adaptors
 pub mod AllowedAdaptors
-pub mod PeriodBound
+pub mod PeriodBoundAndReleases
 pub mod ClockPicks
 pub mod proof
 pub mod UpwardNumbers

@@ -2,16 +2,16 @@
 -- with, and its shape.
 use Rattle.std.specs.Prelude.{◌≡◌, IsTrue, ℕ, zero, suc, nat_eq, ℤ, pos, Bool, true, false, if◌then◌else◌, List, []}
 use Rattle.std.specs.Prelude.{◌∷◌, length, map, replicate, filter, find, Option, Some, None, Result, Ok, Err, slice_get}
-use Rattle.pals_base.specs.declared.values.Trap.{Trap}
+use Rattle.pals_base.specs.declared.basic_types.Trap.{Trap}
 use Rattle.pals_base.specs.declared.frames.Frame.{Frame}
-use Rattle.pals_base.specs.declared.values.PortValue.{PortValue}
-use Rattle.pals_base.specs.declared.values.PortValue.TheVariants.{Absent, Present}
+use Rattle.pals_base.specs.declared.basic_types.PortValue.{PortValue}
+use Rattle.pals_base.specs.declared.basic_types.PortValue.TheVariants.{Absent, Present}
 use Rattle.pals_base.specs.declared.behaviour.BehaviourParts.{BehaviourParts}
 use Rattle.pals_base.specs.declared.behaviour.StateDecl.{StateDecl}
 use Rattle.pals_base.specs.declared.behaviour.VarDecl.{VarDecl}
 use Rattle.pals_base.specs.ExpressionValues.{eval, on_value, is_true}
 use Rattle.pals_base.specs.Actions.{acts}
-use Rattle.pals_base.specs.PlainTrees.{Edge, Trigger, Dispatch, Always, When}
+use Rattle.pals_base.specs.ExpressionAndActionTrees.{Edge, Trigger, Dispatch, Always, When}
 
 -- ---- inputs
 -- the value of a present input, else the one held before

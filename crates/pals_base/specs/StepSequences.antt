@@ -1,10 +1,11 @@
--- Several steps of a behaviour, and their places gathered as tuples.
+-- Several steps of a behaviour one after another: the frame behind them and what they give.
 use Rattle.std.specs.Prelude.{List, [], ◌∷◌, length}
 use Rattle.pals_base.specs.declared.frames.Frame.{Frame}
-use Rattle.pals_base.specs.declared.values.PortValue.{PortValue}
+use Rattle.pals_base.specs.declared.basic_types.PortValue.{PortValue}
 use Rattle.pals_base.specs.declared.behaviour.BehaviourParts.{BehaviourParts}
 use Rattle.pals_base.specs.SingleStep.{fire}
 use Rattle.pals_base.specs.Tuples.{columns}
+
 -- the frame after steps at these inputs, one vector a step
 abbrev pub frame_after : BehaviourParts → Frame → List (List PortValue) → Frame
 frame_after b frame [] = frame

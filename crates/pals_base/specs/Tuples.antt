@@ -1,28 +1,24 @@
 -- Tuples of values: cut short, filled up, and column by column.
 use Rattle.std.specs.Prelude.{ℕ, ◌-◌, List, [], ◌∷◌, ◌++◌, length, take, map, replicate, slice_index_or, slice_set}
-use Rattle.pals_base.specs.declared.values.PortValue.{PortValue}
-use Rattle.pals_base.specs.declared.values.PortValue.TheVariants.{Absent}
+use Rattle.pals_base.specs.declared.basic_types.PortValue.{PortValue}
+use Rattle.pals_base.specs.declared.basic_types.PortValue.TheVariants.{Absent}
 use Rattle.pals_base.specs.UpwardNumbers.{upwards}
 
 -- the n-th place of each list
 abbrev pub column : ℕ → List (List PortValue) → List PortValue
 column n lists = map (λ list. slice_index_or list n Absent) lists
 
-
 -- the first n columns: rows for columns
 abbrev pub columns : ℕ → List (List PortValue) → List (List PortValue)
 columns n lists = map (λ at. column at lists) (upwards 0 n)
-
 
 -- a tuple with every place after its first n absent
 abbrev pub cut : ℕ → List PortValue → List PortValue
 cut n tuple = take n tuple ++ replicate (length tuple - n) Absent
 
-
 -- the tuples of a round of k steps whose first ones left these outputs: their places, and absent places up to k
 abbrev pub so_far : ℕ → ℕ → List (List PortValue) → List (List PortValue)
 so_far ports k outs = map (λ tuple. tuple ++ replicate (k - length outs) Absent) (columns ports outs)
-
 
 -- the tuples with these values in the place with a number
 abbrev pub with_places : ℕ → List PortValue → List (List PortValue) → List (List PortValue)

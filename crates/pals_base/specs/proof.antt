@@ -1,5 +1,5 @@
 -- What the theorem of the program does not rest on: definitions of contracts below it, of laws, and of proofs.
-pub mod Remainders
+pub mod RemaindersAndModuli
 pub mod TreeEncoding
 pub mod TreeViews
 pub mod SettledStates

@@ -3,7 +3,7 @@ ghost use Rattle.std.specs.Prelude.{◌≡◌};
 ghost use Rattle.pals_base.specs.Arithmetic.{sum_of, difference_of, product_of, quotient_of, remainder_of, modulus_of};
 ghost use Rattle.pals_base.specs.Arithmetic.{negation_of, magnitude_of};
 
-use crate::values::Trap;
+use crate::basic_types::Trap;
 
 /// The sum, or `Overflow` where it does not fit 64 bits.
 pub fn add(a: i64, b: i64) -> Result<i64, Trap>

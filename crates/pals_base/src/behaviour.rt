@@ -1,8 +1,8 @@
 //! Behaviours of threads: typed machines whose steps are trees of actions and expressions.
+use crate::basic_types::NoMemory;
 use crate::items::Items;
 use crate::text::Text;
 use crate::try_clone::TryClone;
-use crate::values::NoMemory;
 use std::alloc::Global;
 use std::marker::Model;
 use std::sync::Arc;
@@ -176,7 +176,7 @@ pub struct Transition {
 }
 
 impl Model for Transition {
-    ghost use Rattle.pals_base.specs.PlainTrees.{Edge};
+    ghost use Rattle.pals_base.specs.ExpressionAndActionTrees.{Edge};
     ghost use Rattle.pals_base.specs.proof.TreeEncoding.{edge_code};
 
     ghost Value = { Edge };

@@ -10,12 +10,12 @@ ghost use Rattle.pals_base.specs.BehaviourRules.{IsAcyclic, IsBehaviour};
 mod actions;
 mod states;
 
+use crate::basic_types::NoMemory;
 use crate::behaviour::{Behaviour, BehaviourParts, Guard, Transition};
 use crate::expression_kinds::Kinds;
 use crate::items::Items;
 use crate::names::{add_names, are_distinct, are_words};
 use crate::text::Text;
-use crate::values::NoMemory;
 use actions::are_sound;
 use states::{are_marked, has_ways, settled_states};
 use std::alloc::Global;
@@ -125,7 +125,7 @@ impl BehaviourParts {
     }
 
     // No way outside the complete states comes back to where it began: each state settles.
-    #[tactic(auto, using(crate::proofs::WaysAndCycles::marks_tell))]
+    #[tactic(auto, using(crate::proofs::TransitionWaysAndCycles::marks_tell))]
     fn is_acyclic(&self, alloc: Global) -> Result<bool, NoMemory>
         ensures { IfOk result (λ acyclic. IsTrue acyclic ↔ IsAcyclic self.now) }
     {

@@ -1,10 +1,10 @@
-//! Frames: what a component keeps, the one that it starts with, and copies.
+//! The frame that a component starts with, and a frame that is written over with the contents of another.
 ghost use Rattle.std.specs.Prelude.{◌≡◌, IfOk, map, replicate, pos, length};
 ghost use Rattle.pals_base.specs.SingleStep.{initial};
 
+use crate::basic_types::{NoMemory, Trap};
 use crate::behaviour::{Behaviour, VarDecl};
 use crate::items::Items;
-use crate::values::{NoMemory, Trap};
 use std::alloc::Global;
 
 /// What a component keeps from one step to the next: the number of its state, its variables, the

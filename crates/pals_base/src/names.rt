@@ -3,12 +3,12 @@ ghost use Rattle.std.specs.Prelude.{◌≡◌, ◌≢◌, ◌++◌, ◌↔◌, I
 ghost use Rattle.std.specs.List.{list_all};
 ghost use Rattle.pals_base.specs.Names.{is_letter, is_word_byte, is_led_by_letter, is_word};
 
+use crate::basic_types::NoMemory;
 use crate::behaviour::{PortDecl, StateDecl, VarDecl};
 use crate::items::Items;
 use crate::limits::NAME_BYTES;
 use crate::text::Text;
 use crate::try_clone::TryClone;
-use crate::values::NoMemory;
 use std::alloc::Global;
 
 /// What has a name.

@@ -3,8 +3,8 @@ ghost use Rattle.std.specs.Prelude.{◌≡◌, IfOk};
 
 mod values;
 
+use crate::basic_types::NoMemory;
 use crate::items::Items;
-use crate::values::NoMemory;
 use std::alloc::Global;
 
 /// A type whose values can be copied if there is enough memory.

@@ -1,10 +1,10 @@
 //! Tuples: the values of a port over the steps of a round.
 ghost use Rattle.std.specs.Prelude.{◌≡◌, IfOk, replicate, slice_index_or};
-ghost use Rattle.pals_base.specs.declared.values.PortValue.TheVariants.{Absent};
+ghost use Rattle.pals_base.specs.declared.basic_types.PortValue.TheVariants.{Absent};
 ghost use Rattle.pals_base.specs.Tuples.{column, cut};
 
+use crate::basic_types::{NoMemory, PortValue};
 use crate::items::Items;
-use crate::values::{NoMemory, PortValue};
 use std::alloc::Global;
 
 /// The values of a port over the steps of a round.

@@ -12,7 +12,7 @@ use Rattle.pals_runs.specs.declared.journal.Stop.{Stop}
 use Rattle.link_buffers.specs.declared.due_queue.DueEntry.{DueEntry}
 use Rattle.link_buffers.specs.proof.Flights.{FlightState}
 use Rattle.bus_machine.specs.LinkEvents.{is_in_flight}
-use Rattle.bus_machine.specs.States.{BusState, flight_at}
+use Rattle.bus_machine.specs.BusStates.{BusState, flight_at}
 use Rattle.bus_machine.specs.Plans.{link_at}
 use Rattle.bus_machine.specs.Machine.{Arrive, arrival, early_stop}
 use Rattle.bus_machine.specs.Replay.{entries, stop_entry}

@@ -1,11 +1,11 @@
--- For `Fields::arrive`: a message that arrives at its target, and the bus invariant after it.
+-- For `BusFields::arrive`: a message that arrives at its target, and the bus invariant after it.
 use Rattle.std.proofs.Common.{◌≡◌, ◌∙◌, ℕ, suc, ◌+◌, ◌<◌, ◌≤◌, false, List, [], ◌∷◌, ◌++◌, length, Option, Some, None}
 use Rattle.std.proofs.Common.{is_some, refl, sym, ap, ap₂, subst, arith, append_assoc, length-append}
 use Rattle.std.specs.Prelude.{option_map, slice_set, slice_index_or, slice_get, sum_by, if◌then◌else◌, vec_capacity}
 use Rattle.std.specs.Arc.{arc_value}
 use Rattle.std.proofs.lemmas.List.Sums.{sum_by-set}
-use Rattle.pals_base.specs.declared.values.PortValue.{PortValue}
-use Rattle.pals_base.specs.declared.values.LinkNo.{LinkNo}
+use Rattle.pals_base.specs.declared.basic_types.PortValue.{PortValue}
+use Rattle.pals_base.specs.declared.basic_types.LinkNo.{LinkNo}
 use Rattle.pals_model.specs.declared.design.Component.{Component}
 use Rattle.pals_model.specs.declared.flight_copy.FlightCopy.{FlightCopy}
 use Rattle.pals_model.specs.Flights.{oldest, without_oldest}
@@ -18,7 +18,7 @@ use Rattle.pals_runs.specs.declared.journal.Stop.{Stop}
 use Rattle.bus_machine.specs.Nodes.{NodeState}
 use Rattle.bus_machine.specs.NodeEvents.{running_step, with_message, arrived, received}
 use Rattle.bus_machine.specs.LinkEvents.{tuple_in, arriving}
-use Rattle.bus_machine.specs.States.{BusState, node_at, flight_at}
+use Rattle.bus_machine.specs.BusStates.{BusState, node_at, flight_at}
 use Rattle.bus_machine.specs.Plans.{no_link}
 use Rattle.bus_machine.specs.Machine.{Arrive, arrival, early_stop}
 use Rattle.bus_machine.specs.Replay.{Replays, goes_on, stop_entry}

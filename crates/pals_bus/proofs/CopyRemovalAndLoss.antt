@@ -6,8 +6,8 @@ use Rattle.std.specs.Arc.{arc_value}
 use Rattle.std.proofs.lemmas.Bool.{eqb-true}
 use Rattle.std.proofs.lemmas.List.{length-map, length-set, set-get_or, get_or_default}
 use Rattle.list_lemmas.proofs.Elements.{find-passes}
-use Rattle.pals_base.specs.declared.values.PortValue.{PortValue}
-use Rattle.pals_base.specs.declared.values.LinkNo.{LinkNo}
+use Rattle.pals_base.specs.declared.basic_types.PortValue.{PortValue}
+use Rattle.pals_base.specs.declared.basic_types.LinkNo.{LinkNo}
 use Rattle.pals_model.specs.declared.design.DesignParts.{DesignParts}
 use Rattle.pals_model.specs.declared.design.Link.{Link}
 use Rattle.pals_model.specs.declared.flight_copy.FlightCopy.{FlightCopy}
@@ -17,7 +17,7 @@ use Rattle.link_buffers.specs.proof.Flights.{FlightState}
 use Rattle.link_buffers.specs.proof.DueQueues.{QueueState}
 use Rattle.link_buffers.proofs.BufferLaws.{without_none}
 use Rattle.bus_machine.specs.LinkEvents.{is_in_flight}
-use Rattle.bus_machine.specs.States.{flight_at}
+use Rattle.bus_machine.specs.BusStates.{flight_at}
 use Rattle.bus_machine.specs.Plans.{no_link}
 use Rattle.pals_node.specs.proof.NodeValues.{NodeValue}
 use Rattle.pals_bus.specs.declared.bus_fields.BusFields.{BusFields}

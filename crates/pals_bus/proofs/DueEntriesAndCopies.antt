@@ -17,7 +17,7 @@ use Rattle.link_buffers.specs.declared.due_queue.DueEntry.{DueEntry}
 use Rattle.link_buffers.specs.proof.DueQueues.{QueueState, is_entry, is_due_at}
 use Rattle.link_buffers.proofs.DueOrder.{entry_from_test, entry_is_itself}
 use Rattle.bus_machine.specs.LinkEvents.{is_in_flight}
-use Rattle.bus_machine.specs.States.{flight_at}
+use Rattle.bus_machine.specs.BusStates.{flight_at}
 use Rattle.bus_machine.specs.Plans.{link_at, no_link}
 use Rattle.pals_model.specs.Flights.{is_of}
 use Rattle.pals_bus.specs.declared.bus_fields.BusFields.{BusFields}

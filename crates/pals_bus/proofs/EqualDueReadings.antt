@@ -10,7 +10,7 @@ use Rattle.std.proofs.lemmas.List.Quantifiers.{all_pairs_push, all_pairs_remove}
 use Rattle.std.proofs.lemmas.Grind.{get_or-set_at}
 use Rattle.std.proofs.lemmas.Option.{slice_get_within, slice_get-get_or, get_or_from_slice_get}
 use Rattle.list_lemmas.proofs.ListOperations.{length-map_enumerate_from}
-use Rattle.pals_base.specs.declared.values.NodeNo.{NodeNo}
+use Rattle.pals_base.specs.declared.basic_types.NodeNo.{NodeNo}
 use Rattle.pals_model.specs.declared.design.Link.{Link}
 use Rattle.pals_model.specs.declared.flight_copy.FlightCopy.{FlightCopy}
 use Rattle.pals_model.specs.Delays.{delay_of}
@@ -21,9 +21,9 @@ use Rattle.bus_machine.specs.Plans.{plan_of, link_at, no_link}
 use Rattle.bus_machine.specs.Nodes.{NodeState, round_of, sent_rounds}
 use Rattle.bus_machine.specs.NodeEvents.{next_step, running_step, stepped, finished, message_from}
 use Rattle.bus_machine.specs.LinkEvents.{repeated, once_more, sent_copy}
-use Rattle.bus_machine.specs.States.{BusState, node_at, flight_at, with_node}
+use Rattle.bus_machine.specs.BusStates.{BusState, node_at, flight_at, with_node}
 use Rattle.bus_machine.specs.Runs.{Run}
-use Rattle.bus_machine.specs.MissedStarts.{missing_link}
+use Rattle.bus_machine.specs.MissedMessages.{missing_link}
 use Rattle.bus_machine.specs.Machine.{BusEvent, Start, Step, Finish, Send, Arrive, Drop, Repeat, is_allowed, after}
 use Rattle.bus_machine.specs.Machine.{after_start, on_step, flight_after_send}
 use Rattle.bus_machine.specs.Agreement.{Agrees}

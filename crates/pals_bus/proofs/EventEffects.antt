@@ -4,8 +4,8 @@ use Rattle.std.proofs.Common.{◌≡◌, ℕ, ◌-◌, ◌<◌, ◌≤◌, true,
 use Rattle.std.proofs.Common.{arith}
 use Rattle.std.specs.Prelude.{is_some, option_map, slice_index_or}
 use Rattle.pals_base.specs.declared.limits.TheConstants.{HOUR}
-use Rattle.pals_base.specs.declared.values.PortValue.{PortValue}
-use Rattle.pals_base.specs.declared.values.NodeNo.{NodeNo}
+use Rattle.pals_base.specs.declared.basic_types.PortValue.{PortValue}
+use Rattle.pals_base.specs.declared.basic_types.NodeNo.{NodeNo}
 use Rattle.pals_model.specs.declared.delays.Delays.{Delays}
 use Rattle.pals_model.specs.declared.flight_copy.FlightCopy.{FlightCopy}
 use Rattle.pals_model.specs.Delays.{AreDelays, IsDelayList, delay_of}
@@ -14,9 +14,9 @@ use Rattle.pals_runs.specs.declared.phase.Phase.TheVariants.{Running, Between, W
 use Rattle.bus_machine.specs.Plans.{plan_of}
 use Rattle.bus_machine.specs.NodeEvents.{is_waiting, missing, started, next_step, stepped, running_step, finished}
 use Rattle.bus_machine.specs.LinkEvents.{tuple_in}
-use Rattle.bus_machine.specs.States.{BusState, node_at, with_node}
+use Rattle.bus_machine.specs.BusStates.{BusState, node_at, with_node}
 use Rattle.bus_machine.specs.Runs.{Run}
-use Rattle.bus_machine.specs.MissedStarts.{missing_link, link_into}
+use Rattle.bus_machine.specs.MissedMessages.{missing_link, link_into}
 use Rattle.bus_machine.specs.Machine.{Start, Step, Finish, is_allowed, missed_stop, after_start, on_step, after}
 
 -- ---- Start

@@ -9,13 +9,13 @@ use Rattle.pals_runs.specs.declared.journal.Stop.{Stop}
 use Rattle.pals_runs.specs.declared.journal.JournalEntry.{JournalEntry}
 use Rattle.link_buffers.specs.proof.Flights.{FlightState}
 use Rattle.bus_machine.specs.Nodes.{NodeState}
-use Rattle.bus_machine.specs.States.{BusState}
+use Rattle.bus_machine.specs.BusStates.{BusState}
 use Rattle.bus_machine.specs.Machine.{BusEvent, is_allowed, after}
 use Rattle.bus_machine.specs.Replay.{Replays, goes_on, entries}
 use Rattle.pals_node.specs.proof.NodeValues.{NodeValue, with_state}
 use Rattle.pals_bus.specs.declared.bus_fields.BusFields.{BusFields}
 use Rattle.pals_bus.specs.BusValues.{BusValue, Happens}
-use Rattle.pals_bus.specs.proof.OpeningBusAndNodeValues.{codes_in}
+use Rattle.pals_bus.specs.proof.StepCodesOfNodes.{codes_in}
 use Rattle.pals_bus.specs.proof.NodeLists.{node_value}
 use Rattle.pals_bus.specs.proof.BusInvariant.{AreNodes, HasRooms, IsBusInvariant, copies_in, owed, run_of, state_of, value_of}
 use Rattle.pals_bus.specs.proof.RoundMessages.{NoLessRoom}

@@ -1,27 +1,27 @@
--- For the calls of `loose`: what an event without a reading leaves, and why one is refused.
+-- For the functions of `loose_world_events`: what an event without a reading leaves, and why one is refused.
 use Rattle.std.proofs.Common.{◌≡◌, ◌≢◌, ◌∙◌, inl, inr, ℕ, true, false, Option, Some, None, refl, ap}
 use Rattle.std.specs.Prelude.{is_some}
 use Rattle.std.proofs.lemmas.Bool.{false≢true}
-use Rattle.pals_base.specs.declared.values.NodeNo.{NodeNo}
-use Rattle.pals_base.specs.declared.values.LinkNo.{LinkNo}
+use Rattle.pals_base.specs.declared.basic_types.NodeNo.{NodeNo}
+use Rattle.pals_base.specs.declared.basic_types.LinkNo.{LinkNo}
 use Rattle.pals_runs.specs.declared.phase.Phase.{Phase}
 use Rattle.pals_runs.specs.declared.phase.Phase.TheVariants.{Waiting, Running, Between, Holding, Done}
 use Rattle.bus_machine.specs.NodeEvents.{is_waiting, next_step, running_step}
-use Rattle.bus_machine.specs.States.{BusState, node_at, flight_at}
+use Rattle.bus_machine.specs.BusStates.{BusState, node_at, flight_at}
 use Rattle.bus_machine.specs.Machine.{BusEvent, Start, Step, Finish, Send, Drop, Repeat, is_allowed}
 use Rattle.pals_node.specs.proof.NodeValues.{JobValue}
 use Rattle.pals_node.specs.proof.Answers.{is_busy}
 use Rattle.pals_runs.specs.declared.events_and_faults.Event.{Event}
 use Rattle.pals_runs.specs.declared.events_and_faults.Event.TheVariants as event
 use Rattle.bus_machine.specs.LinkEvents.{is_in_flight}
-use Rattle.bus_machine.proofs.NodeEventAgreement.{on_step_stop}
-use Rattle.pals_node.specs.declared.answers.StartEnd.{StartEnd}
-use Rattle.pals_node.specs.declared.answers.StartEnd.TheVariants as start
-use Rattle.pals_node.specs.declared.answers.StepEnd.{StepEnd}
-use Rattle.pals_node.specs.declared.answers.StepEnd.TheVariants as step
-use Rattle.pals_node.specs.declared.answers.FinishEnd.{FinishEnd}
-use Rattle.pals_node.specs.declared.answers.SendEnd.{SendEnd}
-use Rattle.pals_node.specs.declared.answers.SendEnd.TheVariants as send
+use Rattle.bus_machine.proofs.NodeEventBusAgreement.{on_step_stop}
+use Rattle.pals_node.specs.declared.refusals.StartEnd.{StartEnd}
+use Rattle.pals_node.specs.declared.refusals.StartEnd.TheVariants as start
+use Rattle.pals_node.specs.declared.refusals.StepEnd.{StepEnd}
+use Rattle.pals_node.specs.declared.refusals.StepEnd.TheVariants as step
+use Rattle.pals_node.specs.declared.refusals.FinishEnd.{FinishEnd}
+use Rattle.pals_node.specs.declared.refusals.SendEnd.{SendEnd}
+use Rattle.pals_node.specs.declared.refusals.SendEnd.TheVariants as send
 use Rattle.pals_bus.specs.declared.bus_error.BusError.{BusError}
 use Rattle.pals_bus.specs.declared.bus_error.BusError.TheVariants as fault
 use Rattle.pals_bus.specs.declared.bus_error.MessageError.{MessageError}

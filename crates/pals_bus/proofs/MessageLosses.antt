@@ -3,13 +3,13 @@ use Rattle.std.proofs.Common.{◌≡◌, ◌∙◌, ℕ, ◌+◌, ◌≤◌, tru
 use Rattle.std.proofs.Common.{refl, sym, ap, subst, arith}
 use Rattle.std.specs.Prelude.{option_map, slice_set, slice_index_or, sum_by, vec_capacity}
 use Rattle.std.specs.Arc.{arc_value}
-use Rattle.pals_base.specs.declared.values.PortValue.{PortValue}
-use Rattle.pals_base.specs.declared.values.LinkNo.{LinkNo}
+use Rattle.pals_base.specs.declared.basic_types.PortValue.{PortValue}
+use Rattle.pals_base.specs.declared.basic_types.LinkNo.{LinkNo}
 use Rattle.pals_model.specs.declared.flight_copy.FlightCopy.{FlightCopy}
 use Rattle.pals_model.specs.Flights.{oldest, without_oldest}
 use Rattle.pals_runs.specs.declared.journal.JournalEntry.TheVariants as entry
 use Rattle.bus_machine.specs.LinkEvents.{is_in_flight}
-use Rattle.bus_machine.specs.States.{flight_at}
+use Rattle.bus_machine.specs.BusStates.{flight_at}
 use Rattle.bus_machine.specs.Machine.{Drop}
 use Rattle.bus_machine.specs.Replay.{Replays, goes_on}
 use Rattle.pals_bus.specs.declared.bus_fields.BusFields.{BusFields}
@@ -27,14 +27,12 @@ some_flies : (o : Option FlightCopy) (tuple : List PortValue)
 some_flies None tuple is = absurd (cc)
 some_flies (Some copy) tuple is = refl
 
-
 pub some_in_flight : (f g : BusFields) (link : LinkNo) (round : ℕ) (tuple : List PortValue)
     → Takes f g link round (Some tuple)
     → is_in_flight round (flight_at (state_of f) link.0) ≡ true
 some_in_flight f g link round tuple takes =
     ap (is_in_flight round) (flight_is f.flights link.0)
     ∙ some_flies (oldest round (slice_index_or f.flights link.0 no_flight).copies) tuple takes.taken
-
 
 pub copies_left : (f g : BusFields) (link : LinkNo) (round : ℕ) (tuple : Option (List PortValue))
     → Takes f g link round tuple
@@ -43,7 +41,6 @@ pub copies_left : (f g : BusFields) (link : LinkNo) (round : ℕ) (tuple : Optio
 copies_left f g link round tuple takes =
     takes.copies ∙ ap (λ (copies : List FlightCopy).
     slice_set (copies_in f.flights) link.0 (without_oldest round copies)) (sym (flight_is f.flights link.0))
-
 
 pub drop_happens : (f t g : BusFields) (link : LinkNo) (round : ℕ) (tuple : List PortValue) → f.stop ≡ None
     → Takes f t link round (Some tuple) → g ≡ record t { journal = g.journal }
@@ -56,7 +53,6 @@ drop_happens f t g link round tuple going takes same told =
     (flights_happen f (Drop link round) t.flights
     (slice_set (copies_in f.flights) link.0 (without_oldest round (flight_at (state_of f) link.0))) g.journal.items
     going (copies_left f t link round (Some tuple) takes) (some_in_flight f t link round tuple takes) refl told)
-
 
 pub drop_keeps : (f t g : BusFields) (link : LinkNo) (round : ℕ) (tuple : List PortValue) → IsBusInvariant f
     → Takes f t link round (Some tuple) → g ≡ record t { journal = g.journal }

@@ -5,13 +5,13 @@ use Rattle.std.proofs.Common.{map, drop, refl, sym, ap, ap₂, subst, arith, len
 use Rattle.std.specs.Prelude.{filter, slice_index_or}
 use Rattle.std.specs.List.{enumerate_from}
 use Rattle.std.proofs.lemmas.List.{get_or-drop, drop_all, drop_more, drop-drop}
-use Rattle.pals_base.specs.declared.values.LinkNo.{LinkNo}
+use Rattle.pals_base.specs.declared.basic_types.LinkNo.{LinkNo}
 use Rattle.pals_model.specs.declared.design.Link.{Link}
 use Rattle.bus_machine.specs.Plans.{no_link}
 use Rattle.pals_bus.specs.proof.OutOfRangeDefaults.{no_link_no}
 use Rattle.pals_bus.specs.proof.RoundMessages.{is_from}
-use Rattle.pals_bus.specs.proof.LinksFrom.{no_numbers, number_of}
-use Rattle.pals_bus.proofs.LinksFrom.{numbers_from, numbered}
+use Rattle.pals_bus.specs.proof.LinksFromNodes.{no_numbers, number_of}
+use Rattle.pals_bus.proofs.LinksFromNodes.{numbers_from, numbered}
 
 -- the first of some numbers, and those after it
 pub record IsNext (node from : ℕ) (links : List Link) (number : LinkNo) (rest : List LinkNo) : Type 0 where

@@ -13,10 +13,10 @@ use Rattle.pals_model.specs.declared.design.DesignParts.{DesignParts}
 use Rattle.bus_machine.specs.declared.plan.Plan.{Plan}
 use Rattle.bus_machine.specs.Nodes.{NodeState}
 use Rattle.bus_machine.specs.Plans.{component_at}
-use Rattle.bus_machine.specs.States.{no_node}
+use Rattle.bus_machine.specs.BusStates.{no_node}
 use Rattle.pals_node.specs.proof.NodeValues.{Program, NodeValue, with_state}
 use Rattle.pals_bus.specs.declared.bus_fields.BusFields.{BusFields}
-use Rattle.pals_bus.specs.proof.OpeningBusAndNodeValues.{AreCodes, codes_in, no_code, code_at}
+use Rattle.pals_bus.specs.proof.StepCodesOfNodes.{AreCodes, codes_in, no_code, code_at}
 use Rattle.pals_bus.specs.proof.NodeLists.{node_value}
 use Rattle.pals_bus.specs.proof.BusInvariant.{IsNodeOf, AreNodes, IsBusInvariant, value_of}
 use Rattle.pals_bus.specs.proof.OutOfRangeDefaults.{no_node_value}

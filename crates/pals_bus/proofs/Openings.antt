@@ -26,16 +26,16 @@ use Rattle.link_buffers.specs.proof.Flights.{FlightState}
 use Rattle.link_buffers.specs.proof.DueQueues.{QueueState}
 use Rattle.bus_machine.specs.Plans.{component_at, plan_of}
 use Rattle.bus_machine.specs.Nodes.{NodeState, opening_node}
-use Rattle.bus_machine.specs.States.{BusState, opening, no_node}
+use Rattle.bus_machine.specs.BusStates.{BusState, opening, no_node}
 use Rattle.bus_machine.specs.Runs.{Run}
 use Rattle.bus_machine.specs.Replay.{Replays, opens}
 use Rattle.bus_machine.specs.declared.plan.Plan.{Plan}
 use Rattle.pals_node.specs.proof.NodeValues.{NodeValue, Program, program_of, opening_value}
 use Rattle.pals_bus.specs.declared.bus_fields.BusFields.{BusFields}
-use Rattle.pals_bus.specs.proof.OpeningBusAndNodeValues.{AreCodes, codes_in, code_at, no_code}
+use Rattle.pals_bus.specs.proof.StepCodesOfNodes.{AreCodes, codes_in, code_at, no_code}
 use Rattle.pals_bus.specs.proof.OpeningNodes.{opening_bus, AreOpening}
 use Rattle.pals_bus.specs.proof.BusInvariant.{AreNodes, HasRooms, IsBusInvariant, copies_in, owed, run_of, state_of, value_of}
-use Rattle.pals_bus.specs.proof.LinksFrom.{AreOutgoing}
+use Rattle.pals_bus.specs.proof.LinksFromNodes.{AreOutgoing}
 use Rattle.pals_bus.specs.proof.DueQueues.{AreQueues}
 use Rattle.pals_bus.specs.proof.OutOfRangeDefaults.{no_flight, no_queue, no_node_value}
 use Rattle.pals_bus.proofs.NodeChanges.{states}

@@ -12,7 +12,7 @@ use Rattle.bus_machine.specs.declared.plan.Plan.{Plan}
 use Rattle.bus_machine.specs.Nodes.{NodeState, at_rest}
 use Rattle.bus_machine.specs.NodeEvents.{running_step, finished, fired, after_send, after_round, part_left, may_send}
 use Rattle.bus_machine.specs.NodeEvents.{sent_from}
-use Rattle.bus_machine.proofs.NodeLocalAgreement.{finish_keeps}
+use Rattle.bus_machine.proofs.NodeEventLocalAgreement.{finish_keeps}
 use Rattle.pals_node.specs.proof.NodeValues.{NodeValue}
 use Rattle.pals_bus.specs.proof.BusInvariant.{owed}
 use Rattle.pals_bus.specs.proof.OutOfRangeDefaults.{no_node_value}
@@ -24,12 +24,10 @@ owed_at_most n =
     let b = none_or_one n.state.sent in
     omega (arith, a, b)
 
-
 pub all_owed : (nodes : List NodeValue) → sum_by owed nodes ≤ length nodes * 2
 all_owed nodes =
     sum_by-le owed 2 nodes (All-from_get_or (λ (n : NodeValue). owed n ≤ 2) nodes no_node_value
     (λ i lt. owed_at_most (slice_index_or nodes i no_node_value)))
-
 
 -- a node owes two entries at most
 pub owed_more : (nodes : List NodeValue) (at : ℕ) (m : NodeValue) → at < length nodes
@@ -39,7 +37,6 @@ owed_more nodes at m within =
     let most = owed_at_most m in
     omega (arith, all, most)
 
-
 -- it makes one of those that it owes
 pub owed_less : (nodes : List NodeValue) (at : ℕ) (m : NodeValue) → at < length nodes
     → owed m + 1 ≡ owed (slice_index_or nodes at no_node_value)
@@ -48,22 +45,18 @@ owed_less nodes at m within less =
     let all = sum_by-set owed nodes at m no_node_value within in
     omega (arith, all, less)
 
-
 rests_not : (b : Bool) → running_step (at_rest b) ≡ None
 rests_not true = refl
 rests_not false = refl
-
 
 after_round_rests : (sent b : Bool) → running_step (if sent then at_rest b else Holding) ≡ None
 after_round_rests true b = rests_not b
 after_round_rests false b = refl
 
-
 either_rests : (b : Bool) (x y : NodeState) → running_step x.phase ≡ None → running_step y.phase ≡ None
     → running_step (if b then x else y).phase ≡ None
 either_rests true x y left right = left
 either_rests false x y left right = right
-
 
 pub finished_rests : (plan : Plan) (rounds step : ℕ) (n : NodeState)
     → running_step (finished plan rounds step n).phase ≡ None
@@ -79,7 +72,6 @@ finished_rests plan rounds step n =
       parts = n.parts ++ part_left plan result outs ∷ [];
     }) refl (after_round_rests n.sent (nat_eq n.count rounds))
 
-
 pub owed_finished : (n : NodeValue) (plan : Plan) (rounds step : ℕ) (m : NodeValue) → n.state.phase ≡ Running step
     → m.state ≡ finished plan rounds step n.state → owed m + 1 ≡ owed n
 owed_finished n plan rounds step m runs is =
@@ -93,7 +85,6 @@ owed_finished n plan rounds step m runs is =
     ap₂ (λ (o : Option ℕ) (b : Bool). (if is_some o then 1 else 0) + (if b then 0 else 1)) none sent in
     omega (arith, before, after)
 
-
 send_runs : (count rounds : ℕ) (b : Bool) (p : Phase) → running_step (after_send count rounds p) ≡ running_step p
 send_runs count rounds b Waiting = refl
 send_runs count rounds b (Running step) = refl
@@ -101,10 +92,8 @@ send_runs count rounds b (Between steps) = refl
 send_runs count rounds b Holding = rests_not _
 send_runs count rounds b Done = refl
 
-
 pub is_unsent : (plan : Plan) (n : NodeState) → may_send plan n ≡ true → n.sent ≡ false
 is_unsent plan n may = not-true n.sent (and_parts (not n.sent) _ may).0
-
 
 pub owed_sent : (n : NodeValue) (rounds : ℕ) (m : NodeValue) → n.state.sent ≡ false → m.state ≡ sent_from rounds n.state
     → owed m + 1 ≡ owed n

@@ -6,15 +6,15 @@ use Rattle.std.specs.List.{enumerate_from}
 use Rattle.std.specs.Arc.{arc_value}
 use Rattle.std.proofs.lemmas.Bool.{false≢true}
 use Rattle.std.proofs.lemmas.List.{length-map}
-use Rattle.pals_base.specs.declared.values.PortValue.{PortValue}
-use Rattle.pals_base.specs.declared.values.NodeNo.{NodeNo}
+use Rattle.pals_base.specs.declared.basic_types.PortValue.{PortValue}
+use Rattle.pals_base.specs.declared.basic_types.NodeNo.{NodeNo}
 use Rattle.pals_model.specs.declared.design.Link.{Link}
 use Rattle.pals_model.specs.declared.flight_copy.FlightCopy.{FlightCopy}
 use Rattle.pals_runs.specs.declared.journal.JournalEntry.TheVariants as entry
 use Rattle.bus_machine.specs.Plans.{plan_of}
 use Rattle.bus_machine.specs.Nodes.{round_of}
 use Rattle.bus_machine.specs.NodeEvents.{message_from, sent_from}
-use Rattle.bus_machine.specs.States.{node_at}
+use Rattle.bus_machine.specs.BusStates.{node_at}
 use Rattle.bus_machine.specs.Machine.{Send, flight_after_send}
 use Rattle.bus_machine.specs.Replay.{Replays, goes_on}
 use Rattle.pals_node.specs.proof.NodeValues.{NodeValue}

@@ -6,8 +6,8 @@ use Rattle.std.specs.Arc.{arc_value}
 use Rattle.std.proofs.lemmas.Bool.{eqb-true, false≢true, eq-eqb}
 use Rattle.std.proofs.lemmas.Option.{slice_get-get_or}
 use Rattle.pals_base.specs.declared.limits.TheConstants.{HOUR}
-use Rattle.pals_base.specs.declared.values.PortValue.{PortValue}
-use Rattle.pals_base.specs.declared.values.LinkNo.{LinkNo}
+use Rattle.pals_base.specs.declared.basic_types.PortValue.{PortValue}
+use Rattle.pals_base.specs.declared.basic_types.LinkNo.{LinkNo}
 use Rattle.pals_model.specs.declared.flight_copy.FlightCopy.{FlightCopy}
 use Rattle.pals_model.specs.Delays.{AreDelays, delay_of}
 use Rattle.pals_model.specs.DesignRules.{IsDesign}
@@ -18,7 +18,7 @@ use Rattle.bus_machine.specs.Plans.{link_at, no_link}
 use Rattle.pals_bus.specs.declared.bus_fields.BusFields.{BusFields}
 use Rattle.pals_bus.specs.proof.RoundMessages.{is_from, place_of, HasRoomFor, with_copy, AreSent}
 use Rattle.pals_bus.specs.proof.DueQueues.{AreQueuesAmid, with_due}
-use Rattle.pals_bus.specs.proof.LinksFrom.{no_numbers}
+use Rattle.pals_bus.specs.proof.LinksFromNodes.{no_numbers}
 use Rattle.pals_bus.specs.proof.OutOfRangeDefaults.{no_flight, no_queue, no_link_no}
 use Rattle.pals_bus.proofs.NextOutgoingLink.{IsAt, Reaches, reaches_all, reaches_next}
 use Rattle.pals_bus.proofs.QueueChanges.{amid_other, amid_room}

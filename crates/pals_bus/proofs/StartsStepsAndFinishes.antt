@@ -4,8 +4,8 @@ use Rattle.std.proofs.Common.{refl, sym, ap, subst, arith, length-append}
 use Rattle.std.specs.Prelude.{sum_by, slice_set, slice_index_or, vec_capacity}
 use Rattle.std.specs.Option.{unwrap_or}
 use Rattle.std.specs.Arc.{arc_value}
-use Rattle.pals_base.specs.declared.values.PortValue.{PortValue}
-use Rattle.pals_base.specs.declared.values.NodeNo.{NodeNo}
+use Rattle.pals_base.specs.declared.basic_types.PortValue.{PortValue}
+use Rattle.pals_base.specs.declared.basic_types.NodeNo.{NodeNo}
 use Rattle.pals_model.specs.ComponentInputs.{values_at}
 use Rattle.pals_runs.specs.declared.journal.JournalEntry.{JournalEntry}
 use Rattle.pals_runs.specs.declared.journal.JournalEntry.TheVariants as entry
@@ -13,12 +13,12 @@ use Rattle.pals_runs.specs.declared.journal.Stop.{Stop}
 use Rattle.bus_machine.specs.Plans.{plan_of}
 use Rattle.bus_machine.specs.Nodes.{NodeState, round_of}
 use Rattle.bus_machine.specs.NodeEvents.{started, next_step, stepped, finished}
-use Rattle.bus_machine.specs.States.{BusState, node_at, with_node}
-use Rattle.bus_machine.specs.MissedStarts.{link_into}
+use Rattle.bus_machine.specs.BusStates.{BusState, node_at, with_node}
+use Rattle.bus_machine.specs.MissedMessages.{link_into}
 use Rattle.bus_machine.specs.Machine.{BusEvent, Start, Step, Finish, is_allowed, after, missed_stop}
 use Rattle.bus_machine.specs.Replay.{Replays, goes_on, entries, start_entry}
-use Rattle.bus_machine.proofs.NodeLocalAgreement.{finish_keeps}
-use Rattle.pals_node.specs.declared.answers.StartEnd.TheVariants as start
+use Rattle.bus_machine.proofs.NodeEventLocalAgreement.{finish_keeps}
+use Rattle.pals_node.specs.declared.refusals.StartEnd.TheVariants as start
 use Rattle.pals_node.specs.proof.NodeValues.{NodeValue, JobValue, with_state}
 use Rattle.pals_node.specs.proof.Answers.{Starts, StartEnds, Steps, Finishes}
 use Rattle.pals_bus.specs.declared.bus_fields.BusFields.{BusFields}
@@ -36,7 +36,7 @@ use Rattle.pals_bus.proofs.QueueChanges.{few_into, queues_started, queues-set}
 use Rattle.pals_bus.proofs.EventInvariants.{node_happens}
 use Rattle.pals_bus.proofs.EventEffects.{start_after, start_told, missed_told, missed_after, start_allowed}
 use Rattle.pals_bus.proofs.EventEffects.{step_allowed, step_after, finish_allowed, finish_after}
-use Rattle.pals_bus.proofs.NodeAfterCall.{turn_shown}
+use Rattle.pals_bus.proofs.ChangedNodeValues.{turn_shown}
 
 -- ---- any of them
 node_event : (f g : BusFields) (e : BusEvent) (node : ℕ) (m : NodeValue) (s : NodeState) → IsBusInvariant f → f.stop ≡ None

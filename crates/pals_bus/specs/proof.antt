@@ -1,5 +1,5 @@
 -- What the theorem of the program does not rest on: definitions of contracts below it, of laws, and of proofs.
-pub mod OpeningBusAndNodeValues
+pub mod StepCodesOfNodes
 pub mod OutOfRangeDefaults
 pub mod NodeLists
 pub mod BusInvariant
@@ -9,7 +9,7 @@ pub mod DueQueues
 pub mod DueMessages
 pub mod RoundMessages
 pub mod FlightMessages
-pub mod LinksFrom
+pub mod LinksFromNodes
 pub mod Codes
 pub mod Meeting
 pub mod LooseStopsAndFaults

@@ -5,7 +5,7 @@ ghost use Rattle.std.specs.Arc.{arc_value};
 ghost use Rattle.bus_machine.specs.Machine.{Arrive, arrival, early_stop};
 ghost use Rattle.bus_machine.specs.Replay.{stop_entry};
 ghost use Rattle.bus_machine.specs.LinkEvents.{is_in_flight};
-ghost use Rattle.bus_machine.specs.States.{flight_at};
+ghost use Rattle.bus_machine.specs.BusStates.{flight_at};
 ghost use Rattle.bus_machine.specs.Plans.{no_link};
 ghost use Rattle.pals_bus.specs.BusValues.{Happens};
 ghost use Rattle.pals_bus.specs.proof.BusInvariant.{IsBusInvariant, owed, run_of, state_of, value_of};

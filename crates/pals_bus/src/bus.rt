@@ -6,10 +6,10 @@ ghost use Rattle.pals_model.specs.Delays.{AreDelays};
 ghost use Rattle.bus_machine.specs.Agreement.{Agrees};
 ghost use Rattle.bus_machine.specs.Replay.{Replays};
 ghost use Rattle.bus_machine.specs.Plans.{plan_of};
-ghost use Rattle.bus_machine.specs.States.{node_at, flight_at};
+ghost use Rattle.bus_machine.specs.BusStates.{node_at, flight_at};
 ghost use Rattle.bus_machine.specs.ActionsAndTargets.{next_of};
 ghost use Rattle.pals_model.specs.Flights.{oldest};
-ghost use Rattle.pals_bus.specs.proof.OpeningBusAndNodeValues.{codes_in, AreCodes};
+ghost use Rattle.pals_bus.specs.proof.StepCodesOfNodes.{codes_in, AreCodes};
 ghost use Rattle.pals_bus.specs.proof.OpeningNodes.{opening_bus, AreOpening};
 
 use crate::bus_fields::BusFields;

@@ -4,7 +4,7 @@ ghost use Rattle.std.specs.Arc.{arc_value};
 ghost use Rattle.pals_base.specs.declared.limits.TheConstants.{PORTS};
 ghost use Rattle.pals_model.specs.ComponentInputs.{values_at};
 ghost use Rattle.bus_machine.specs.Nodes.{round_of};
-ghost use Rattle.bus_machine.specs.States.{node_at};
+ghost use Rattle.bus_machine.specs.BusStates.{node_at};
 ghost use Rattle.bus_machine.specs.Plans.{link_at};
 ghost use Rattle.pals_bus.specs.proof.OutOfRangeDefaults.{no_flight, no_queue};
 ghost use Rattle.pals_bus.specs.proof.BusInvariant.{IsBusInvariant, owed, copies_in, state_of};

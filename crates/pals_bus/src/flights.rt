@@ -12,7 +12,7 @@ ghost use Rattle.pals_bus.specs.proof.DueQueues.{with_due, without_due};
 ghost use Rattle.pals_bus.specs.proof.RoundMessages.{is_from, HasRoomFor, HasRoomOn, NoLessRoom, with_copy};
 ghost use Rattle.pals_bus.specs.proof.FlightMessages.{IsRoundSent, flight_on, target_of, queue_to, queues_with};
 ghost use Rattle.pals_bus.specs.proof.FlightMessages.{copies_without};
-ghost use Rattle.pals_bus.specs.proof.LinksFrom.{AreOutgoing};
+ghost use Rattle.pals_bus.specs.proof.LinksFromNodes.{AreOutgoing};
 
 use crate::bus_fields::BusFields;
 use link_buffers::{DueEntry, DueQueue, Flight};

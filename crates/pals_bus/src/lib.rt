@@ -14,7 +14,7 @@ mod flights;
 mod loose_faults;
 mod loose_world_events;
 mod meeting;
-mod missed_starts;
+mod missed_messages;
 mod node_list;
 mod opening;
 mod outgoing_links;

@@ -1,4 +1,4 @@
-//! Why a loose world does not go on after an event, and which such fault each answer of a bus is.
+//! From why a call of the bus is refused to the fault of a loose world.
 ghost use Rattle.std.specs.Prelude.{◌≡◌};
 ghost use Rattle.pals_bus.specs.proof.LooseStopsAndFaults.{start_fault, step_fault, finish_fault, send_fault};
 ghost use Rattle.pals_bus.specs.proof.LooseStopsAndFaults.{link_fault};

@@ -1,7 +1,7 @@
 //! Nodes that meet.
 ghost use Rattle.std.specs.Prelude.{◌≡◌, ◌≢◌, ◌<◌, ◌↔◌, None, length, true};
 ghost use Rattle.bus_machine.specs.Plans.{plan_of};
-ghost use Rattle.bus_machine.specs.States.{node_at};
+ghost use Rattle.bus_machine.specs.BusStates.{node_at};
 ghost use Rattle.bus_machine.specs.ActionsAndTargets.{next_of};
 ghost use Rattle.pals_bus.specs.proof.Meeting.{target_in, HasEnded, Meets};
 

@@ -1,6 +1,6 @@
 //! The links from each node of a design.
 ghost use Rattle.std.specs.Prelude.{◌≡◌, ◌<◌, [], length, map, IfOk, slice_index_or};
-ghost use Rattle.pals_bus.specs.proof.LinksFrom.{AreOutgoing, no_numbers};
+ghost use Rattle.pals_bus.specs.proof.LinksFromNodes.{AreOutgoing, no_numbers};
 
 use pals_base::{Items, LinkNo, NoMemory, NodeNo};
 use pals_model::{Component, Design};
@@ -16,7 +16,7 @@ pub struct Outgoing {
 
 impl Model for Outgoing {
     ghost use Rattle.std.specs.Prelude.{List};
-    ghost use Rattle.pals_base.specs.declared.values.LinkNo.{LinkNo};
+    ghost use Rattle.pals_base.specs.declared.basic_types.LinkNo.{LinkNo};
 
     ghost Value = { List (List LinkNo) };
 

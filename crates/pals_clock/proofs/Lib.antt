@@ -1,1 +1,1 @@
-pub mod ReachedReadings
+pub mod RemainingReadings

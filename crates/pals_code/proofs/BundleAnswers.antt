@@ -1,6 +1,6 @@
 -- What is answered to a bundle: to one that has no design, and to a design with its codes or with one that is too long.
 use Rattle.std.proofs.Common.{◌≡◌, inl, inr, ℕ, List, ◌++◌, Result, Ok, Err, IfOk, OnOk, sym, ap, ◌∙◌, subst}
-use Rattle.pals_base.specs.declared.values.NodeNo.{NodeNo}
+use Rattle.pals_base.specs.declared.basic_types.NodeNo.{NodeNo}
 use Rattle.pals_model.specs.declared.design.DesignParts.{DesignParts}
 use Rattle.pals_model.specs.RoundTexts.{line_end}
 use Rattle.step_code.specs.declared.instr.CodeParts.{CodeParts}
@@ -10,7 +10,7 @@ use Rattle.design_codes.specs.OverlongCodes.{AreShort, IsFirstTooLong}
 use Rattle.bundle_designs.specs.declared.refusal.Refusal.{Refusal}
 use Rattle.bundle_designs.specs.declared.refusal.Refusal.TheVariants.{Text, Design, Memory}
 use Rattle.bundle_designs.specs.RefusedTexts.{IsTextRefused}
-use Rattle.bundle_designs.specs.BundleMeanings.{IsAccepted, IsPackageRefused}
+use Rattle.bundle_designs.specs.AcceptedAndRefusedPackages.{IsAccepted, IsPackageRefused}
 use Rattle.bundle_designs.specs.proof.Refusals.{IsRefusal}
 use Rattle.code_listing.specs.Listings.{listing}
 use Rattle.code_listing.specs.NumberRanges.{AllFit}

@@ -13,7 +13,7 @@ use Rattle.step_compiler.specs.BlockInstructions.{start_of, entry_of}
 use Rattle.step_compiler.specs.LaidOutCode.{states_of, IsLaidOut, AreLaidOut}
 use Rattle.design_codes.specs.DesignBehaviours.{behaviours}
 use Rattle.code_listing.specs.NumberRanges.{AllFit}
-use Rattle.code_listing.specs.proof.ToldDesigns.{IsCodeOf, AreListed}
+use Rattle.code_listing.specs.proof.ListingInjectivity.{IsCodeOf, AreListed}
 
 code_of : (b : BehaviourParts) (code : CodeParts) → IsLaidOut b code → IsCodeOf b code
 code_of b code laid_out = record {

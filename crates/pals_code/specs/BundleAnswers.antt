@@ -1,6 +1,6 @@
 -- What the program answers to a bundle.
 use Rattle.std.specs.Prelude.{◌≡◌, ℕ, List, [], ◌∷◌, ◌++◌, codes, decimal, ◌⊎◌}
-use Rattle.pals_base.specs.declared.values.NodeNo.{NodeNo}
+use Rattle.pals_base.specs.declared.basic_types.NodeNo.{NodeNo}
 use Rattle.pals_model.specs.declared.design.DesignParts.{DesignParts}
 use Rattle.pals_model.specs.RoundTexts.{line_end}
 use Rattle.pals_runs.specs.JournalLines.{node_word, spaced}
@@ -9,7 +9,7 @@ use Rattle.step_compiler.specs.LaidOutCode.{AreLaidOut}
 use Rattle.design_codes.specs.DesignBehaviours.{behaviours}
 use Rattle.design_codes.specs.OverlongCodes.{AreShort, IsFirstTooLong}
 use Rattle.bundle_designs.specs.RefusedTexts.{IsTextRefused}
-use Rattle.bundle_designs.specs.BundleMeanings.{IsAccepted, IsPackageRefused}
+use Rattle.bundle_designs.specs.AcceptedAndRefusedPackages.{IsAccepted, IsPackageRefused}
 use Rattle.code_listing.specs.Listings.{listing}
 use Rattle.code_listing.specs.NumberRanges.{AllFit}
 use Rattle.pals_code.specs.declared.status.TheConstants.{DONE, TEXT_REFUSED, DESIGN_REFUSED, CODE_TOO_LONG}

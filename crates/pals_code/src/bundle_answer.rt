@@ -1,7 +1,7 @@
 //! The answer to a bundle.
 ghost use Rattle.std.specs.Prelude.{◌++◌, ℕ, List, IfOk, OnOk};
 ghost use Rattle.pals_model.specs.RoundTexts.{line_end};
-ghost use Rattle.bundle_designs.specs.BundleMeanings.{IsAccepted};
+ghost use Rattle.bundle_designs.specs.AcceptedAndRefusedPackages.{IsAccepted};
 ghost use Rattle.code_listing.specs.Listings.{listing};
 ghost use Rattle.code_listing.specs.NumberRanges.{AllFit};
 ghost use Rattle.pals_code.specs.declared.status.TheConstants.{CODE_TOO_LONG, DONE};

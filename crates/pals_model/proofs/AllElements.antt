@@ -1,9 +1,10 @@
--- For the laws of kinds: what holds of the elements of lists that are changed, cut or joined.
+-- For the laws of kinds: what holds of all elements of lists that are changed, cut or joined, and of the values of
+-- results.
 use Rattle.std.proofs.Common.{◌≡◌, ℕ, zero, suc, Bool, true, false, cond, List, [], ◌∷◌, map, All, Some, refl, ap}
 use Rattle.std.specs.Prelude.{Result, Ok, Err, IfOk, slice_index_or, slice_set, flat_map, find}
 use Rattle.std.proofs.lemmas.List.Elements.{All-nil, All-cons, All-head, All-tail, All-append}
 use Rattle.list_lemmas.proofs.Elements.{found_either}
-use Rattle.pals_base.specs.declared.values.Trap.{Trap}
+use Rattle.pals_base.specs.declared.basic_types.Trap.{Trap}
 use Rattle.pals_base.specs.ExpressionValues.{on_value}
 
 -- ---- at a place

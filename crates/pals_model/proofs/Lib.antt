@@ -1,5 +1,5 @@
 pub mod CompositionLaws
-pub mod CounterRounds
+pub mod TwoCounters
 pub mod SourceTables
 pub mod RootInputNames
 pub mod RootInputValues
@@ -11,11 +11,11 @@ pub mod NameLaws
 pub mod FilteredLinks
 pub mod OverwrittenTuples
 pub mod RootInputLaws
-pub mod StepLaws
-pub mod LineLaws
+pub mod PartialRounds
+pub mod TextLineLaws
 pub mod AllElements
-pub mod KindsOfExpressions
-pub mod KindsOfActions
-pub mod KindsOfSteps
-pub mod KindsOfAdaptors
-pub mod KindsOfRounds
+pub mod ExpressionsFitKinds
+pub mod ActionsKeepKinds
+pub mod StepsKeepKinds
+pub mod AdaptorsKeepKinds
+pub mod RoundsKeepKinds

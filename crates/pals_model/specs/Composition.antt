@@ -2,13 +2,13 @@
 -- a round are read in the next one. It has no clock, no buffer, no thread and no code.
 use Rattle.std.specs.Prelude.{ℕ, suc, zero, nat_eq, List, [], ◌∷◌, map, filter, replicate, Option, Some, None}
 use Rattle.std.specs.Prelude.{slice_get, slice_index_or, length, take}
-use Rattle.pals_base.specs.declared.values.PortValue.{PortValue}
-use Rattle.pals_base.specs.declared.values.PortValue.TheVariants.{Absent}
+use Rattle.pals_base.specs.declared.basic_types.PortValue.{PortValue}
+use Rattle.pals_base.specs.declared.basic_types.PortValue.TheVariants.{Absent}
 use Rattle.pals_base.specs.declared.frames.Frame.{Frame}
 use Rattle.pals_base.specs.SingleStep.{initial}
 use Rattle.pals_base.specs.StepSequences.{steps, Stepped, frame_after, outputs}
 use Rattle.pals_base.specs.Tuples.{cut, so_far}
-use Rattle.pals_base.specs.PeriodBound.{sent_steps}
+use Rattle.pals_base.specs.PeriodBoundAndReleases.{sent_steps}
 use Rattle.pals_model.specs.declared.design.Component.{Component}
 use Rattle.pals_model.specs.declared.design.Link.{Link}
 use Rattle.pals_model.specs.declared.design.Tap.{Tap}

@@ -1,10 +1,10 @@
 -- What each design keeps.
 use Rattle.std.specs.Prelude.{◌≡◌, ◌≢◌, ℕ, ◌+◌, ◌*◌, ◌%◌, ◌<◌, ◌≤◌, max, List, length, fold, All, AllPairs, IsTrue}
 use Rattle.std.specs.Prelude.{slice_get}
-use Rattle.pals_base.specs.declared.period_bound.Gamma.{Gamma}
+use Rattle.pals_base.specs.declared.period_bound_and_releases.Gamma.{Gamma}
 use Rattle.pals_base.specs.declared.behaviour.BehaviourParts.{BehaviourParts}
 use Rattle.pals_base.specs.AllowedAdaptors.{divides_or_divided, is_allowed, suits_kind}
-use Rattle.pals_base.specs.PeriodBound.{least_period}
+use Rattle.pals_base.specs.PeriodBoundAndReleases.{least_period}
 use Rattle.pals_base.specs.Names.{is_word, is_path}
 use Rattle.pals_base.specs.BehaviourRules.{IsBehaviour}
 use Rattle.pals_base.specs.declared.limits.TheConstants.{HOUR, RATE, PORTS, VARIABLES, STATES, COMPONENTS, LINKS}

@@ -2,7 +2,7 @@ pub mod PortKinds
 pub mod ComponentInputs
 pub mod Composition
 pub mod RoundTexts
-pub mod NamesInTexts
+pub mod ComponentAndLinkNames
 pub mod Delays
 pub mod DesignRules
 pub mod Flights

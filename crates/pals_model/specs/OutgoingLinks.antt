@@ -8,7 +8,6 @@ abbrev pub links_into : DesignParts → ℕ → List ℕ
 links_into design node =
     map (λ numbered. numbered.0) (filter (λ numbered. nat_eq numbered.1.target.0 node) (enumerate_from 0 design.links))
 
-
 abbrev pub links_from : DesignParts → ℕ → List ℕ
 links_from design node =
     map (λ numbered. numbered.0) (filter (λ numbered. nat_eq numbered.1.source.0 node) (enumerate_from 0 design.links))

@@ -1,4 +1,5 @@
--- The in ports and out ports of components, and the kinds of these, of feeds and of the root's in ports.
+-- The in ports and out ports of components, their kinds and their rates, and the kinds of feeds and of the root's in
+-- ports.
 use Rattle.std.specs.Prelude.{ℕ, bytes_eq, List, length, find, Option, Some, None, slice_get}
 use Rattle.pals_base.specs.declared.behaviour.Kind.{Kind}
 use Rattle.pals_base.specs.declared.behaviour.Kind.TheVariants.{Integer}
@@ -44,7 +45,6 @@ root_kind design name = first_kind design (find (λ feed. bytes_eq name feed.nam
 abbrev pub rate_in : Option Component → ℕ
 rate_in None = 1
 rate_in (Some c) = c.rate
-
 
 -- the rate of a component
 abbrev pub rate_of : DesignParts → ℕ → ℕ

@@ -3,10 +3,10 @@ use Rattle.std.specs.Prelude.{ℕ, nat_eq, ℤ, codes, decimal, List, [], ◌∷
 use Rattle.std.specs.Prelude.{take, Option, Some, None, slice_get, slice_index_or, if◌then◌else◌, Bool}
 use Rattle.std.specs.List.{enumerate_from}
 use Rattle.std.specs.Fmt.{signed_decimal}
-use Rattle.pals_base.specs.declared.values.PortValue.{PortValue}
-use Rattle.pals_base.specs.declared.values.PortValue.TheVariants.{Absent, Present}
-use Rattle.pals_base.specs.declared.values.Trap.{Trap}
-use Rattle.pals_base.specs.declared.values.Trap.TheVariants.{Overflow, ZeroDivisor}
+use Rattle.pals_base.specs.declared.basic_types.PortValue.{PortValue}
+use Rattle.pals_base.specs.declared.basic_types.PortValue.TheVariants.{Absent, Present}
+use Rattle.pals_base.specs.declared.basic_types.Trap.{Trap}
+use Rattle.pals_base.specs.declared.basic_types.Trap.TheVariants.{Overflow, ZeroDivisor}
 use Rattle.pals_base.specs.declared.frames.Frame.{Frame}
 use Rattle.pals_base.specs.declared.behaviour.Kind.{Kind}
 use Rattle.pals_base.specs.declared.behaviour.Kind.TheVariants.{Integer, Boolean}

@@ -1,5 +1,5 @@
 -- What the theorem of the program does not rest on: definitions of contracts below it, of laws, and of proofs.
 pub mod SourceTables
 pub mod CompositionLaws
-pub mod FittingValues
+pub mod ValuesFitKinds
 pub mod TwoCounters

@@ -7,8 +7,8 @@ use Rattle.std.proofs.lemmas.Bool.{eqb-true}
 use Rattle.std.proofs.lemmas.List.{length-map}
 use Rattle.std.proofs.lemmas.List.Elements.{All-map, All-filter, filter_passes}
 use Rattle.std.proofs.lemmas.Option.{slice_get-get_or}
-use Rattle.pals_base.specs.declared.period_bound.Gamma.{Gamma}
-use Rattle.pals_base.specs.PeriodBound.{backoff, step_period, sent_steps, release_offset, least_period}
+use Rattle.pals_base.specs.declared.period_bound_and_releases.Gamma.{Gamma}
+use Rattle.pals_base.specs.PeriodBoundAndReleases.{backoff, step_period, sent_steps, release_offset, least_period}
 use Rattle.pals_model.specs.declared.design.Link.{Link}
 use Rattle.pals_model.specs.declared.design.Tap.{Tap}
 use Rattle.pals_model.specs.declared.design.DesignParts.{DesignParts}

@@ -3,7 +3,6 @@
 //! gave. Its contracts are the rows of the bus machine for one node (`bus_machine`).
 #![tactic(auto)]
 
-mod answers;
 mod instruction_key;
 mod job;
 mod job_memory;
@@ -11,10 +10,11 @@ mod next_actions;
 mod node;
 mod node_fields;
 mod plan;
+mod refusals;
 mod slots_and_input_vectors;
 mod written_tuples;
 
-pub use answers::{FinishEnd, SendEnd, StartEnd, StepEnd};
 pub use job::{Done, Finished, Job};
 pub use node::Node;
 pub use plan::NodePlan;
+pub use refusals::{FinishEnd, SendEnd, StartEnd, StepEnd};

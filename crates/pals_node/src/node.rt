@@ -12,11 +12,11 @@ ghost use Rattle.pals_node.specs.proof.NodeValues.{opening_value, with_state};
 ghost use Rattle.pals_node.specs.proof.Answers.{is_early, Starts, StartEnds, Steps, StepEnds, FinishesWith};
 ghost use Rattle.pals_node.specs.proof.Answers.{FinishesHere, NoneRuns, Sends, SendEnds};
 
-use crate::answers::{FinishEnd, SendEnd, StartEnd, StepEnd};
 use crate::job::{Done, Finished, Job, StepStart};
 use crate::next_actions::{next_in_round, next_send, next_start};
 use crate::node_fields::NodeFields;
 use crate::plan::NodePlan;
+use crate::refusals::{FinishEnd, SendEnd, StartEnd, StepEnd};
 use bus_machine::{Input, Next, Plan};
 use link_buffers::Slot;
 use output_backoff::release_at;

@@ -3,8 +3,8 @@ ghost use Rattle.std.specs.Prelude.{◌≡◌, ◌+◌, ◌<◌, ◌≤◌, ◌+
 ghost use Rattle.std.specs.Prelude.{vec_capacity, if◌then◌else◌, Some, None, nat_eq, true, false, [], All, Option};
 ghost use Rattle.std.specs.Arc.{arc_value};
 ghost use Rattle.pals_base.specs.declared.limits.TheConstants.{ROUNDS};
-ghost use Rattle.pals_base.specs.declared.values.PortValue.{PortValue};
-ghost use Rattle.pals_base.specs.declared.values.PortValue.TheVariants.{Absent};
+ghost use Rattle.pals_base.specs.declared.basic_types.PortValue.{PortValue};
+ghost use Rattle.pals_base.specs.declared.basic_types.PortValue.TheVariants.{Absent};
 ghost use Rattle.pals_base.specs.SingleStep.{HasShape};
 ghost use Rattle.pals_runs.specs.declared.phase.Phase.TheVariants.{Running};
 ghost use Rattle.bus_machine.specs.NodeEvents.{started, sent_from, messages_from, may_send, part_left};

@@ -7,7 +7,7 @@ ghost use Rattle.pals_node.specs.proof.NodeValues.{program_of};
 ghost use Rattle.pals_node.specs.proof.NodeInvariants.{IsProgram};
 
 use bus_machine::{Input, Plan};
-use pals_base::period_bound::step_period;
+use pals_base::period_bound_and_releases::step_period;
 use pals_base::{Items, NoMemory, NodeNo, TryClone};
 use pals_model::port_sources::all_sources;
 use pals_model::{Component, Design, PortSource};

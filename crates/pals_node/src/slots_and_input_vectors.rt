@@ -1,7 +1,7 @@
 //! What a round's start reads.
 ghost use Rattle.std.specs.Prelude.{◌≡◌, ◌<◌, IfOk, length, map, zip, List, Option, None, slice_index_or};
-ghost use Rattle.pals_base.specs.declared.values.PortValue.{PortValue};
-ghost use Rattle.pals_base.specs.declared.values.PortValue.TheVariants.{Absent};
+ghost use Rattle.pals_base.specs.declared.basic_types.PortValue.{PortValue};
+ghost use Rattle.pals_base.specs.declared.basic_types.PortValue.TheVariants.{Absent};
 ghost use Rattle.pals_base.specs.Tuples.{column};
 ghost use Rattle.bus_machine.specs.Nodes.{brought, vectors_of};
 

@@ -1,6 +1,6 @@
 //! Tuples that are written place by place, and room for them.
 ghost use Rattle.std.specs.Prelude.{◌≡◌, ◌<◌, [], length, map, replicate, All, IfOk, slice_index_or, if◌then◌else◌};
-ghost use Rattle.pals_base.specs.declared.values.PortValue.TheVariants.{Absent};
+ghost use Rattle.pals_base.specs.declared.basic_types.PortValue.TheVariants.{Absent};
 ghost use Rattle.pals_base.specs.Tuples.{cut, with_places};
 
 use pals_base::tuples::{absent, place};

@@ -4,5 +4,5 @@ mod ColumnsWithinText
 mod ConcatenatedTexts
 pub mod TapPlacesAndCounts
 pub mod RowLines
-pub mod ListTexts
+pub mod CommaListsAndVariables
 pub mod SpacedWords

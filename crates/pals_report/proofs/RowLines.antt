@@ -10,7 +10,7 @@ use Rattle.pals_model.specs.Composition.{part}
 use Rattle.pals_model.specs.DesignRules.{IsTap}
 use Rattle.pals_model.specs.RoundTexts.{text_of, round_line, part_lines, tap_lines, taps_before, row_lines}
 use Rattle.pals_model.specs.RoundTexts.{composed_lines}
-use Rattle.pals_model.proofs.LineLaws.{text_of-append}
+use Rattle.pals_model.proofs.TextLineLaws.{text_of-append}
 use Rattle.pals_report.specs.proof.RowLines.{lines_at_place, component_lines_from, tap_lines_from, ArePartsOf}
 
 -- lines behind those before them, where others are left

@@ -2,7 +2,7 @@
 use Rattle.std.proofs.Common.{◌≡◌, Result, Ok, Err, OnOk, OnErr, ℕ, List, ◌++◌, length, drop, sym, ap, ◌∙◌, subst}
 use Rattle.std.proofs.Common.{append_assoc}
 use Rattle.std.proofs.lemmas.List.Prefix.{front_rest}
-use Rattle.pals_report.specs.proof.PartialWrites.{BeginsWith}
+use Rattle.pals_report.specs.proof.TextPrefixes.{BeginsWith}
 
 -- what begins with more begins with less
 begins_before : (text start more middle : List ℕ) → middle ≡ start ++ more → BeginsWith text middle

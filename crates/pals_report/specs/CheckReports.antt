@@ -1,18 +1,18 @@
--- The text of a design that is accepted.
+-- The report that `check` writes of an accepted design.
 use Rattle.std.specs.Prelude.{◌≡◌, ℕ, codes, decimal, List, [], ◌∷◌, ◌++◌, map, Option, Some, None, slice_get}
 use Rattle.std.specs.Prelude.{MatchOption}
 use Rattle.pals_base.specs.declared.allowed_adaptors.Adaptor.{Adaptor}
 use Rattle.pals_base.specs.declared.allowed_adaptors.Adaptor.TheVariants.{Repeat, First, Last, At, Latest, Max, Min, Average}
-use Rattle.pals_base.specs.PeriodBound.{backoff, least_period}
+use Rattle.pals_base.specs.PeriodBoundAndReleases.{backoff, least_period}
 use Rattle.pals_model.specs.declared.design.Component.{Component}
 use Rattle.pals_model.specs.declared.design.Link.{Link}
 use Rattle.pals_model.specs.declared.design.Feed.{Feed}
 use Rattle.pals_model.specs.declared.design.Tap.{Tap}
 use Rattle.pals_model.specs.declared.design.DesignParts.{DesignParts}
-use Rattle.pals_model.specs.NamesInTexts.{port_name, target_name, link_name}
+use Rattle.pals_model.specs.ComponentAndLinkNames.{port_name, target_name, link_name}
 use Rattle.pals_model.specs.RoundTexts.{text_of}
 use Rattle.pals_model.specs.DesignRules.{greatest_rate}
-use Rattle.bound_checker.specs.ShortestPeriods.{IsLeastMultiple, HasNoMultiple}
+use Rattle.bound_checker.specs.LeastMultiples.{IsLeastMultiple, HasNoMultiple}
 
 -- ---- adaptors, each behind a space
 abbrev pub adaptor_text : Adaptor → List ℕ

@@ -1,4 +1,4 @@
-pub mod Positions
+pub mod LinesAndColumns
 pub mod CheckReports
 pub mod PackageFaultLines
 pub mod ViolationLines
@@ -6,5 +6,5 @@ pub mod TextFaultLines
 pub mod EventFaultLines
 pub mod ClockEndsAndVerdicts
 pub mod ScenarioFaultLines
-pub mod SentLines
+pub mod SentMessageLines
 pub mod proof

@@ -1,7 +1,7 @@
 -- The lines that say what is wrong with a design.
 use Rattle.std.specs.Prelude.{ℕ, codes, decimal, List, [], ◌∷◌, ◌++◌, map, slice_index_or}
 use Rattle.annex_resolve.specs.declared.violation.Violation.{Violation}
-use Rattle.pals_report.specs.Positions.{position_text}
+use Rattle.pals_report.specs.LinesAndColumns.{position_text}
 use Rattle.pals_report.specs.PackageFaultLines.{and_word}
 
 -- the names of the rules, from rule 1 on

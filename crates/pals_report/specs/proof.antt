@@ -1,5 +1,5 @@
 -- What the theorem of the program does not rest on: definitions of contracts below it, of laws, and of proofs.
-pub mod PartialWrites
+pub mod TextPrefixes
 pub mod TapPlaces
 pub mod RowLines
 pub mod LineWords

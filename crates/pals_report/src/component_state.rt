@@ -4,7 +4,7 @@ ghost use Rattle.pals_base.specs.declared.frames.Frame.{Frame};
 ghost use Rattle.pals_base.specs.declared.behaviour.BehaviourParts.{BehaviourParts};
 ghost use Rattle.pals_model.specs.RoundTexts.{text_of, line_end, state_text, variable_text, vars_text, component_line};
 ghost use Rattle.pals_model.specs.RoundTexts.{part_lines};
-ghost use Rattle.pals_report.specs.proof.PartialWrites.{BeginsWith};
+ghost use Rattle.pals_report.specs.proof.TextPrefixes.{BeginsWith};
 
 use crate::value::add_value;
 use pals_base::{BehaviourParts, Frame, NoMemory, Text, Trap, VarDecl};

@@ -1,7 +1,7 @@
-//! Places in a text, as lines and columns.
+//! A cursor in a text, which writes places as lines and columns.
 ghost use Rattle.std.specs.Prelude.{◌≡◌, ◌++◌, ◌≤◌, length, min, OnOk, OnErr};
-ghost use Rattle.pals_report.specs.proof.PartialWrites.{BeginsWith};
-ghost use Rattle.pals_report.specs.Positions.{line_of, column_of, position_text};
+ghost use Rattle.pals_report.specs.proof.TextPrefixes.{BeginsWith};
+ghost use Rattle.pals_report.specs.LinesAndColumns.{line_of, column_of, position_text};
 
 use itoa::Buffer;
 use pals_base::NoMemory;

@@ -1,7 +1,7 @@
 //! Lines of components, links, feeds, taps and ignored names.
 ghost use Rattle.std.specs.Prelude.{◌≡◌, ◌++◌, map, OnOk, OnErr};
 ghost use Rattle.pals_model.specs.RoundTexts.{text_of, line_end};
-ghost use Rattle.pals_report.specs.proof.PartialWrites.{BeginsWith};
+ghost use Rattle.pals_report.specs.proof.TextPrefixes.{BeginsWith};
 ghost use Rattle.pals_report.specs.CheckReports.{component_line, link_line, feed_line, tap_line, ignored_line};
 
 use crate::port_and_adaptor_names::{add_adaptor, add_source, add_target};

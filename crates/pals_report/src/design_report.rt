@@ -1,7 +1,7 @@
 //! The report of an accepted design.
 ghost use Rattle.std.specs.Prelude.{◌≡◌, ◌++◌, ℕ, List, OnOk, OnErr};
 ghost use Rattle.pals_model.specs.RoundTexts.{text_of};
-ghost use Rattle.pals_report.specs.proof.PartialWrites.{BeginsWith};
+ghost use Rattle.pals_report.specs.proof.TextPrefixes.{BeginsWith};
 ghost use Rattle.pals_report.specs.CheckReports.{check_lines, IsCheckReport};
 
 use crate::design_lines::{add_components, add_feeds, add_ignored_name_lines, add_links, add_taps};

@@ -1,10 +1,10 @@
-//! Lines, word by word.
+//! The kinds of words in a line, and lines that are written of them with a space between each two.
 ghost use Rattle.std.specs.Prelude.{◌≡◌, ◌++◌, map, Some, OnOk, OnErr};
-ghost use Rattle.pals_model.specs.NamesInTexts.{in_port_name};
+ghost use Rattle.pals_model.specs.ComponentAndLinkNames.{in_port_name};
 ghost use Rattle.pals_model.specs.RoundTexts.{line_end};
 ghost use Rattle.pals_runs.specs.JournalLines.{node_word, link_word, reading_word, spaced};
 ghost use Rattle.pals_report.specs.proof.LineWords.{word_text};
-ghost use Rattle.pals_report.specs.proof.PartialWrites.{BeginsWith};
+ghost use Rattle.pals_report.specs.proof.TextPrefixes.{BeginsWith};
 
 use crate::{add_tuple, whole_or_none};
 use itoa::Buffer;

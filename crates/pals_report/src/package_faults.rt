@@ -1,9 +1,9 @@
 //! Why a package has no instance, as a line of text.
 ghost use Rattle.std.specs.Prelude.{◌≡◌, ◌++◌, OnOk, OnErr};
 ghost use Rattle.pals_model.specs.RoundTexts.{line_end};
-ghost use Rattle.pals_report.specs.proof.PartialWrites.{BeginsWith};
+ghost use Rattle.pals_report.specs.proof.TextPrefixes.{BeginsWith};
 ghost use Rattle.pals_report.specs.PackageFaultLines.{and_word, package_fault_words, package_fault_line};
-ghost use Rattle.pals_report.specs.Positions.{position_text};
+ghost use Rattle.pals_report.specs.LinesAndColumns.{position_text};
 
 use crate::{Cursor, whole_or_none};
 use aadl_names::PackageFault;

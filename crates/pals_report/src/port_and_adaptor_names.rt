@@ -1,7 +1,7 @@
 //! Names of ports and adaptors.
 ghost use Rattle.std.specs.Prelude.{◌≡◌, ◌++◌, slice_get, OnOk, OnErr};
-ghost use Rattle.pals_model.specs.NamesInTexts.{port_name, target_name};
-ghost use Rattle.pals_report.specs.proof.PartialWrites.{BeginsWith};
+ghost use Rattle.pals_model.specs.ComponentAndLinkNames.{port_name, target_name};
+ghost use Rattle.pals_report.specs.proof.TextPrefixes.{BeginsWith};
 ghost use Rattle.pals_report.specs.CheckReports.{adaptor_text, and_adaptor, source_name};
 
 use itoa::Buffer;

@@ -1,4 +1,4 @@
-//! Where the parts of a round come from.
+//! A trait for what has the parts of a round: of each component that is shown the part that it left.
 ghost use Rattle.std.specs.Prelude.{◌≡◌, ℕ, Option, option_copied, slice_get};
 ghost use Rattle.pals_model.specs.declared.part.Part.{Part};
 

@@ -3,13 +3,13 @@ ghost use Rattle.std.specs.Prelude.{◌≡◌, ◌≤◌, ◌++◌, length, OnOk
 ghost use Rattle.pals_base.specs.declared.limits.TheConstants.{COMPONENTS};
 ghost use Rattle.pals_model.specs.RoundTexts.{text_of, line_end, round_line, row_lines};
 ghost use Rattle.pals_model.specs.DesignRules.{IsDesign};
-ghost use Rattle.pals_report.specs.proof.PartialWrites.{BeginsWith};
+ghost use Rattle.pals_report.specs.proof.TextPrefixes.{BeginsWith};
 ghost use Rattle.pals_report.specs.proof.TapPlaces.{tap_places};
 ghost use Rattle.pals_report.specs.proof.RowLines.{component_lines_from, tap_lines_from};
 
 use crate::component_state::add_part_line;
 use crate::round_parts::RoundParts;
-use crate::tap_line::add_line_at_place;
+use crate::row_output::add_line_at_place;
 use crate::tap_places::TapPlaces;
 use itoa::Buffer;
 use pals_base::{NoMemory, NodeNo};

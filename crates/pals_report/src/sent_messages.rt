@@ -1,7 +1,7 @@
 //! The lines of messages that were sent.
 ghost use Rattle.std.specs.Prelude.{◌≡◌, ◌++◌, ◌<◌, length, OnOk, OnErr};
 ghost use Rattle.pals_model.specs.RoundTexts.{line_end};
-ghost use Rattle.pals_report.specs.SentLines.{sent_line};
+ghost use Rattle.pals_report.specs.SentMessageLines.{sent_line};
 
 use crate::line_word::{LineWord, add_line, link_word};
 use pals_base::{LinkNo, NoMemory, PortValue};

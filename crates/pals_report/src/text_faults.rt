@@ -1,7 +1,7 @@
 //! Why the design text of a bundle is refused, as a line of text.
 ghost use Rattle.std.specs.Prelude.{◌≡◌, ◌++◌, OnOk, OnErr};
 ghost use Rattle.pals_model.specs.RoundTexts.{line_end};
-ghost use Rattle.pals_report.specs.proof.PartialWrites.{BeginsWith};
+ghost use Rattle.pals_report.specs.proof.TextPrefixes.{BeginsWith};
 ghost use Rattle.pals_report.specs.TextFaultLines.{lexical_name, lexical_place, fault_name, fault_place, text_line};
 ghost use Rattle.pals_report.specs.TextFaultLines.{text_fault_line, no_divider_line};
 

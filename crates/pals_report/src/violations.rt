@@ -1,7 +1,7 @@
 //! What is wrong with a design, a line for each finding.
 ghost use Rattle.std.specs.Prelude.{◌≡◌, ◌++◌, OnOk, OnErr};
 ghost use Rattle.pals_model.specs.RoundTexts.{line_end, text_of};
-ghost use Rattle.pals_report.specs.proof.PartialWrites.{BeginsWith};
+ghost use Rattle.pals_report.specs.proof.TextPrefixes.{BeginsWith};
 ghost use Rattle.pals_report.specs.PackageFaultLines.{and_word};
 ghost use Rattle.pals_report.specs.ViolationLines.{rule_name, details_text, violation_line, violation_lines};
 

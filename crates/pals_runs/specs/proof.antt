@@ -1,4 +1,4 @@
 -- What the theorem of the program does not rest on: definitions of contracts below it, of laws, and of proofs.
 pub mod FormulaEncoding
 pub mod FormulasOfForms
-pub mod FormulaComponents
+pub mod ComponentsInFormulas

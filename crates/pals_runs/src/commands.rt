@@ -1,4 +1,4 @@
-//! What the program is asked to do.
+//! The commands of the program.
 use pals_base::Text;
 
 /// A command. A root names a system implementation, as `Top.impl`.

@@ -1,4 +1,4 @@
-//! Formulas of monitors, over what has been since the first round.
+//! Forms: the parts of properties, over what has been since the first round.
 use pals_base::NodeNo;
 
 /// How a variable is compared with a number.

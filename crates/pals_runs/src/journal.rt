@@ -1,5 +1,5 @@
-//! The journal of a run: what happened, one entry for each event that was not refused, and the stop
-//! that ended the run, if one did.
+//! The entries of a journal, one for each event that was not refused, with arrivals, causes and stops; and the
+//! phases of a node.
 use pals_base::{LinkNo, Nanos, NodeNo};
 
 /// What became of a message that arrived: it fills its slot; it is not used; or it comes before its

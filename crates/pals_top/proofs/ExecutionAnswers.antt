@@ -1,7 +1,7 @@
 -- What a bundle means to a command that needs step codes, and what the program answers to it.
 use Rattle.std.proofs.Common.{◌≡◌, ◌≤◌, inl, inr, ℕ, List, length, ◌++◌, Result, Ok, Err, IfOk, refl, sym, subst}
 use Rattle.pals_base.specs.declared.limits.TheConstants.{LIST_ITEMS}
-use Rattle.pals_base.specs.declared.values.NodeNo.{NodeNo}
+use Rattle.pals_base.specs.declared.basic_types.NodeNo.{NodeNo}
 use Rattle.pals_model.specs.declared.design.DesignParts.{DesignParts}
 use Rattle.pals_model.specs.RoundTexts.{line_end}
 use Rattle.pals_runs.specs.declared.commands.Command.{Command}
@@ -10,13 +10,13 @@ use Rattle.scenario_json.specs.Scenarios.{Means}
 use Rattle.design_codes.specs.OverlongCodes.{AreShort, IsFirstTooLong}
 use Rattle.scenario_laws.specs.proof.EventsAndTraces.{EventsAreFew, TracesAreFew}
 use Rattle.scenario_laws.specs.proof.LooseEvents.{EventsAreLoose, loose_world_command}
-use Rattle.bundle_designs.specs.BundleMeanings.{IsAccepted}
+use Rattle.bundle_designs.specs.AcceptedAndRefusedPackages.{IsAccepted}
 use Rattle.pals_top.specs.declared.answer.Answer.{Answer}
 use Rattle.pals_top.specs.declared.bundle_meaning.Coded.{Coded}
 use Rattle.pals_top.specs.ExecutionCommands.{Execution, TimedWorld, LooseWorld, Run, Audit, Budget}
 use Rattle.pals_top.specs.declared.status.TheConstants.{CODE_TOO_LONG}
 use Rattle.pals_top.specs.ExecutionAnswers.{command_of, overlong_code_line, Makes, IsCodeTooLong, IsExecutionAnswer}
-use Rattle.pals_top.specs.proof.CodedBundles.{HasEvents, IsCoded, IsRefused}
+use Rattle.pals_top.specs.proof.BundlesWithCodes.{HasEvents, IsCoded, IsRefused}
 use Rattle.pals_top.specs.proof.StatusAndText.{status_of, text_of, Says}
 use Rattle.pals_top.proofs.ScenarioFaultAnswers.{SaysFault}
 

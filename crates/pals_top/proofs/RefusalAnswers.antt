@@ -3,7 +3,7 @@ use Rattle.std.proofs.Common.{◌≡◌, inl, inr, ℕ, List, sym, subst}
 use Rattle.bundle_designs.specs.declared.refusal.Refusal.{Refusal}
 use Rattle.bundle_designs.specs.declared.refusal.Refusal.TheVariants.{Text, Design, Memory}
 use Rattle.bundle_designs.specs.RefusedTexts.{IsTextRefused}
-use Rattle.bundle_designs.specs.BundleMeanings.{IsPackageRefused}
+use Rattle.bundle_designs.specs.AcceptedAndRefusedPackages.{IsPackageRefused}
 use Rattle.bundle_designs.specs.proof.Refusals.{IsTextRefusal, IsRefusal}
 use Rattle.pals_top.specs.declared.answer.Answer.{Answer}
 use Rattle.pals_top.specs.declared.status.TheConstants.{TEXT_REFUSED}

@@ -7,7 +7,7 @@ use Rattle.scenario_values.specs.declared.fault.ScenarioFault.{ScenarioFault}
 use Rattle.scenario_values.specs.declared.fault.ScenarioFault.TheVariants.{Memory}
 use Rattle.scenario_json.specs.Scenarios.{Means}
 use Rattle.pals_report.specs.ScenarioFaultLines.{scenario_fault_line}
-use Rattle.bundle_designs.specs.BundleMeanings.{IsAccepted}
+use Rattle.bundle_designs.specs.AcceptedAndRefusedPackages.{IsAccepted}
 use Rattle.pals_top.specs.declared.answer.Answer.{Answer}
 use Rattle.pals_top.specs.declared.status.TheConstants.{SCENARIO_REFUSED}
 use Rattle.pals_top.specs.BundleScenarios.{HasScenarioFault}

@@ -6,7 +6,7 @@ use Rattle.pals_model.specs.declared.design.DesignParts.{DesignParts}
 use Rattle.scenario_json.specs.declared.scenario.Scenario.{Scenario}
 use Rattle.design_codes.specs.DesignBehaviours.{behaviours}
 use Rattle.round_budget.specs.BudgetText.{Processor, fits_on, some_is_over, budget_text}
-use Rattle.round_budget.specs.Responses.{RespondInTime}
+use Rattle.round_budget.specs.ResponseTimes.{RespondInTime}
 use Rattle.analysis_texts.specs.BudgetedProcessors.{processor_of}
 use Rattle.pals_top.specs.declared.status.TheConstants.{DONE, NOT_SO}
 

@@ -1,4 +1,5 @@
--- That a bundle means a design and a scenario; or that its scenario has a fault, and the text that names it.
+-- That a bundle means a design and a scenario, or that its scenario has a fault, and the text that names it; and the
+-- run that a scenario asks for.
 use Rattle.std.specs.Prelude.{◌≡◌, ◌≢◌, ℕ, List, ◌++◌, Ok, Err}
 use Rattle.pals_model.specs.declared.design.DesignParts.{DesignParts}
 use Rattle.pals_model.specs.RoundTexts.{line_end}
@@ -8,7 +9,7 @@ use Rattle.scenario_values.specs.declared.fault.ScenarioFault.TheVariants.{Memor
 use Rattle.scenario_json.specs.declared.scenario.Scenario.{Scenario}
 use Rattle.scenario_json.specs.Scenarios.{Means}
 use Rattle.pals_report.specs.ScenarioFaultLines.{scenario_fault_line}
-use Rattle.bundle_designs.specs.BundleMeanings.{IsAccepted}
+use Rattle.bundle_designs.specs.AcceptedAndRefusedPackages.{IsAccepted}
 use Rattle.pals_top.specs.declared.status.TheConstants.{SCENARIO_REFUSED}
 use Rattle.bus_machine.specs.Runs.{Run}
 

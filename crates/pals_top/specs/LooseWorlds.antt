@@ -8,13 +8,14 @@ use Rattle.pals_runs.specs.declared.journal.JournalEntry.{JournalEntry}
 use Rattle.pals_runs.specs.declared.journal.Stop.{Stop}
 use Rattle.pals_runs.specs.JournalLines.{entry_line}
 use Rattle.scenario_json.specs.declared.scenario.Scenario.{Scenario}
-use Rattle.bus_machine.specs.States.{BusState, opening, finished_by_all}
+use Rattle.bus_machine.specs.BusStates.{BusState, opening, finished_by_all}
 use Rattle.bus_machine.specs.Runs.{Run}
 use Rattle.bus_machine.specs.WorldTexts.{worldtext}
-use Rattle.loose_world.specs.MachineSteps.{AllStep, StepsToStop, StepsToFault}
+use Rattle.loose_world.specs.LooseEventsAsSteps.{AllStep, StepsToStop, StepsToFault}
 use Rattle.pals_report.specs.EventFaultLines.{event_fault_line}
 use Rattle.pals_top.specs.declared.status.TheConstants.{DONE, SCENARIO_REFUSED, STOPPED}
 use Rattle.pals_top.specs.BundleScenarios.{run_of}
+
 -- ---- worlds, from the opening of a run on
 -- each event is a step of the bus machine that gives no stop
 pub record IsWorld (run : Run) (events : List Event) (text : List ℕ) : Type 0 where

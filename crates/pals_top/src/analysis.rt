@@ -1,4 +1,4 @@
-//! The commands that need a design and a scenario.
+//! What all commands share that are answered from a design and a scenario, without step codes.
 ghost use Rattle.std.specs.Prelude.{◌≡◌, IfOk};
 ghost use Rattle.scenario_json.specs.proof.ScenarioValidity.{IsScenarioOf};
 ghost use Rattle.plant_fuse.specs.FusedComposition.{ArePairs};

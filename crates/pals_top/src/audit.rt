@@ -1,7 +1,7 @@
 //! The command `audit`: the verdict on a trace.
 ghost use Rattle.std.specs.Prelude.{◌≡◌, ◌≤◌, length, IfOk};
 ghost use Rattle.pals_base.specs.declared.limits.TheConstants.{LIST_ITEMS};
-ghost use Rattle.pals_bus.specs.proof.OpeningBusAndNodeValues.{AreCodes};
+ghost use Rattle.pals_bus.specs.proof.StepCodesOfNodes.{AreCodes};
 ghost use Rattle.scenario_json.specs.proof.ScenarioValidity.{IsScenarioOf};
 ghost use Rattle.pals_top.specs.ExecutionCommands.{Audit};
 ghost use Rattle.pals_top.specs.Audit.{IsAudited, SaysVerdict, is_sound};

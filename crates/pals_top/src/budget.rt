@@ -1,6 +1,6 @@
 //! The command `budget`: whether processors have time for the steps of their components.
 ghost use Rattle.std.specs.Prelude.{IfOk};
-ghost use Rattle.pals_bus.specs.proof.OpeningBusAndNodeValues.{AreCodes};
+ghost use Rattle.pals_bus.specs.proof.StepCodesOfNodes.{AreCodes};
 ghost use Rattle.step_compiler.specs.LaidOutCode.{AreLaidOut};
 ghost use Rattle.scenario_json.specs.proof.ScenarioValidity.{IsScenarioOf};
 ghost use Rattle.design_codes.specs.DesignBehaviours.{behaviours};

@@ -4,7 +4,7 @@ ghost use Rattle.pals_model.specs.RoundTexts.{line_end};
 ghost use Rattle.pals_top.specs.declared.status.TheConstants.{CODE_TOO_LONG};
 ghost use Rattle.pals_top.specs.ExecutionCommands.{Execution};
 ghost use Rattle.pals_top.specs.ExecutionAnswers.{overlong_code_line, command_of};
-ghost use Rattle.pals_top.specs.proof.CodedBundles.{IsMeaning};
+ghost use Rattle.pals_top.specs.proof.BundlesWithCodes.{IsMeaning};
 ghost use Rattle.pals_top.specs.proof.StatusAndText.{Says};
 
 use crate::answer::Answer;
@@ -16,7 +16,7 @@ use pals_model::Design;
 use pals_report::add_overlong_code;
 use pals_runs::Command;
 use scenario_json::{Scenario, read_scenario};
-use scenario_laws::event_laws::{events_are_few, events_are_loose, traces_are_few};
+use scenario_laws::event_and_trace_laws::{events_are_few, events_are_loose, traces_are_few};
 use std::alloc::{AllocError, Global};
 use step_code::Code;
 

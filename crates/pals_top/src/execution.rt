@@ -1,12 +1,12 @@
-//! The commands that need a design, its step codes and a scenario, and no host.
+//! What all commands share that are answered from a design, its step codes and a scenario, without a host.
 ghost use Rattle.std.specs.Prelude.{IfOk};
 ghost use Rattle.pals_model.specs.DesignRules.{IsDesign};
-ghost use Rattle.pals_bus.specs.proof.OpeningBusAndNodeValues.{AreCodes};
+ghost use Rattle.pals_bus.specs.proof.StepCodesOfNodes.{AreCodes};
 ghost use Rattle.scenario_json.specs.proof.ScenarioValidity.{IsScenarioOf};
 ghost use Rattle.step_compiler.specs.LaidOutCode.{AreLaidOut};
 ghost use Rattle.design_codes.specs.DesignBehaviours.{behaviours};
 ghost use Rattle.pals_top.specs.ExecutionAnswers.{Makes, IsExecutionAnswer};
-ghost use Rattle.pals_top.specs.proof.CodedBundles.{HasEvents};
+ghost use Rattle.pals_top.specs.proof.BundlesWithCodes.{HasEvents};
 ghost use Rattle.pals_top.specs.proof.StatusAndText.{status_of, text_of};
 
 use crate::answer::Answer;

@@ -2,7 +2,7 @@
 ghost use Rattle.std.specs.Prelude.{◌≡◌, ◌≤◌, length, IfOk};
 ghost use Rattle.pals_base.specs.declared.limits.TheConstants.{ROUNDS};
 ghost use Rattle.pals_model.specs.Delays.{AreDelays};
-ghost use Rattle.pals_bus.specs.proof.OpeningBusAndNodeValues.{AreCodes};
+ghost use Rattle.pals_bus.specs.proof.StepCodesOfNodes.{AreCodes};
 ghost use Rattle.pals_bus.specs.proof.OpeningNodes.{opening_bus};
 
 use pals_base::{Items, NoMemory};

@@ -1,6 +1,6 @@
 //! The command `run`: the nodes in threads. It is the one command that is given the program's host.
 ghost use Rattle.std.specs.Prelude.{IfOk, OnErr};
-ghost use Rattle.pals_bus.specs.proof.OpeningBusAndNodeValues.{AreCodes};
+ghost use Rattle.pals_bus.specs.proof.StepCodesOfNodes.{AreCodes};
 ghost use Rattle.pals_io.specs.SourcesAndSinks.{GivesWithin};
 ghost use Rattle.pals_runs.specs.declared.commands.Command.TheVariants as command;
 ghost use Rattle.scenario_json.specs.proof.ScenarioValidity.{IsScenarioOf};

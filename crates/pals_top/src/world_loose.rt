@@ -5,7 +5,7 @@ ghost use Rattle.loose_world.specs.LooseRuns.{Tells};
 ghost use Rattle.loose_world.specs.SentLines.{AreOutLinks};
 ghost use Rattle.pals_model.specs.RoundTexts.{text_of as lines_text};
 ghost use Rattle.pals_runs.specs.JournalLines.{entry_line};
-ghost use Rattle.pals_bus.specs.proof.OpeningBusAndNodeValues.{AreCodes};
+ghost use Rattle.pals_bus.specs.proof.StepCodesOfNodes.{AreCodes};
 ghost use Rattle.scenario_json.specs.proof.ScenarioValidity.{IsScenarioOf};
 ghost use Rattle.loose_world.specs.proof.FinishedRows.{finished_lines, common_lines};
 ghost use Rattle.scenario_laws.specs.proof.LooseEvents.{AreLooseEvents};

@@ -1,4 +1,5 @@
-//! The code of a counter, code from other instructions, frames, and steps over one in port and one out port.
+//! What tests of step code are made with: code from instructions, frames, and steps over one in port and one out
+//! port.
 ghost use Rattle.std.specs.Prelude.{◌≡◌, IsTrue, slice_get};
 ghost use Rattle.step_code.specs.proof.CodeRuns.{FitsCode, has_entry};
 

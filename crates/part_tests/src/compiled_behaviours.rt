@@ -1,4 +1,5 @@
-//! What behaviours compile to.
+//! Cases of behaviours, with their compiled code, its length and weight, or how its steps differ from the
+//! behaviour's.
 use crate::parsed_behaviours::behaviour;
 use crate::step_comparison::compared;
 use case_files::{Answers, asked, text_of};

@@ -4,14 +4,14 @@
 #![tactic(auto)]
 
 mod adaptors;
-mod alarms;
+mod alarms_and_releases;
 mod buffers;
 mod clocks;
 mod code_cases;
 mod code_fixtures;
 mod code_verification;
 mod compiled_behaviours;
-mod least_periods;
+mod least_periods_and_multiples;
 mod parsed_behaviours;
 mod step_comparison;
 mod step_outcomes;
@@ -59,25 +59,37 @@ fn tell_streams(rt: &HostRuntime) -> io::Result<()> {
 }
 
 fn tell_numbers(rt: &HostRuntime) -> io::Result<()> {
-    tell(rt, "alarms", Ok(alarms::are_alarms()))?;
-    tell(rt, "alarms of steps", Ok(alarms::are_step_alarms()))?;
-    tell(rt, "releases", Ok(alarms::are_releases()))?;
-    tell(rt, "usual periods", Ok(least_periods::are_usual_periods()))?;
-    tell(rt, "slow periods", Ok(least_periods::are_slow_periods()))?;
+    tell(rt, "alarms", Ok(alarms_and_releases::are_alarms()))?;
+    tell(
+        rt,
+        "alarms of steps",
+        Ok(alarms_and_releases::are_step_alarms()),
+    )?;
+    tell(rt, "releases", Ok(alarms_and_releases::are_releases()))?;
+    tell(
+        rt,
+        "usual periods",
+        Ok(least_periods_and_multiples::are_usual_periods()),
+    )?;
+    tell(
+        rt,
+        "slow periods",
+        Ok(least_periods_and_multiples::are_slow_periods()),
+    )?;
     tell(
         rt,
         "least multiples",
-        Ok(least_periods::are_least_multiples()),
+        Ok(least_periods_and_multiples::are_least_multiples()),
     )?;
     tell(
         rt,
         "least multiples at the ends",
-        Ok(least_periods::are_least_multiples_at_the_ends()),
+        Ok(least_periods_and_multiples::are_least_multiples_at_the_ends()),
     )?;
     tell(
         rt,
         "rates without a common period",
-        Ok(least_periods::have_no_common_period()),
+        Ok(least_periods_and_multiples::have_no_common_period()),
     )
 }
 

@@ -6,7 +6,7 @@ use Rattle.pals_model.specs.declared.design.Link.{Link}
 use Rattle.pals_model.specs.proof.TwoCounters.{two_counters}
 use Rattle.pals_runs.specs.declared.plant_pairs.Pair.{Pair}
 use Rattle.plant_fuse.specs.FusedComposition.{IsPair, reads}
-use Rattle.plant_fuse.specs.proof.FusedRounds.{fused}
+use Rattle.plant_fuse.specs.proof.SolutionConfiguration.{fused}
 use Rattle.plant_fuse.specs.proof.CounterPlant.{CountersArePairs, CountersFuse, FusedCountersCount}
 
 pub counters_fuse : CountersFuse

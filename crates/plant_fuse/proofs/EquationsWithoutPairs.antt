@@ -5,10 +5,10 @@ use Rattle.std.proofs.lemmas.Nat.{mul-le, div-mul-add, mod-mul-add}
 use Rattle.std.proofs.lemmas.List.{map-append}
 use Rattle.std.proofs.lemmas.List.Elements.{All-nil}
 use Rattle.std.proofs.lemmas.Option.{get_or_from_slice_get}
-use Rattle.pals_base.specs.declared.values.PortValue.{PortValue}
-use Rattle.pals_base.specs.declared.values.PortValue.TheVariants.{Absent}
+use Rattle.pals_base.specs.declared.basic_types.PortValue.{PortValue}
+use Rattle.pals_base.specs.declared.basic_types.PortValue.TheVariants.{Absent}
 use Rattle.pals_base.specs.declared.frames.Frame.{Frame}
-use Rattle.pals_base.specs.PeriodBound.{sent_steps}
+use Rattle.pals_base.specs.PeriodBoundAndReleases.{sent_steps}
 use Rattle.pals_base.specs.SingleStep.{initial}
 use Rattle.pals_base.specs.StepSequences.{Stepped, outputs, frame_after}
 use Rattle.pals_base.specs.Tuples.{cut, column}
@@ -33,7 +33,7 @@ use Rattle.pals_model.proofs.FirstMatches.{at_element}
 use Rattle.plant_fuse.specs.FusedComposition.{IsPair, ArePairs, Inputs, inputs_to, outputs_in, left_by, round_tuple}
 use Rattle.plant_fuse.specs.FusedComposition.{message_on, messages_before, from_round, value_on, value_read, vector_of}
 use Rattle.plant_fuse.specs.FusedComposition.{IsFused}
-use Rattle.plant_fuse.specs.proof.FusedRounds.{frame_of, fused}
+use Rattle.plant_fuse.specs.proof.SolutionConfiguration.{frame_of, fused}
 use Rattle.plant_fuse.specs.proof.FusedLaws.{WithoutPairs}
 use Rattle.plant_fuse.proofs.FunctionTables.{table}
 use Rattle.plant_fuse.proofs.StepRanks.{IsSmall, small_rate}

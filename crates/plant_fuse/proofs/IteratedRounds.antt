@@ -13,13 +13,13 @@ use Rattle.pals_model.specs.Composition.{Configuration, opening}
 use Rattle.pals_model.specs.DesignRules.{IsDesign}
 use Rattle.pals_runs.specs.declared.plant_pairs.Pair.{Pair}
 use Rattle.plant_fuse.specs.FusedComposition.{ArePairs, Inputs, inputs_to, vector_of, messages_before, IsFused}
-use Rattle.plant_fuse.specs.proof.FusedRounds.{first_rounds, frame_of, fused}
+use Rattle.plant_fuse.specs.proof.SolutionConfiguration.{first_rounds, frame_of, fused}
 use Rattle.plant_fuse.specs.proof.RoundEquations.{IsFusedRound, after_round, last_round, AreRounds}
 use Rattle.plant_fuse.specs.proof.FusedLaws.{RoundsFollow}
 use Rattle.plant_fuse.proofs.FunctionTables.{table, table_same}
 use Rattle.plant_fuse.proofs.StepDependencies.{read_at}
 use Rattle.plant_fuse.proofs.SolutionPrefixes.{solution_goes_on}
-use Rattle.plant_fuse.proofs.NextRoundSolutions.{fused_is, rounds_go_on}
+use Rattle.plant_fuse.proofs.LastRoundOfSolution.{fused_is, rounds_go_on}
 use Rattle.plant_fuse.proofs.RoundUniqueness.{round_is_one}
 
 table_map : {X Y : Type 0} (f : X → Y) (from : ℕ) (xs : List X) → table (λ place x. f x) from xs ≡ map f xs

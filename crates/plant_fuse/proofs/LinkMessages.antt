@@ -2,12 +2,12 @@
 use Rattle.std.proofs.Common.{◌≡◌, ◌∙◌, ℕ, ◌<◌, List, Bool, length, map, slice_index_or, refl, sym, ap, ap₂}
 use Rattle.std.proofs.lemmas.Option.{slice_get_read}
 use Rattle.std.proofs.lemmas.List.{get_or-map}
-use Rattle.pals_base.specs.declared.values.PortValue.{PortValue}
+use Rattle.pals_base.specs.declared.basic_types.PortValue.{PortValue}
 use Rattle.pals_base.specs.Tuples.{column, cut}
 use Rattle.pals_model.specs.declared.design.Link.{Link}
 use Rattle.pals_runs.specs.declared.plant_pairs.Pair.{Pair}
 use Rattle.sync_product.specs.declared.component_stage.Stage.{Stage}
-use Rattle.plant_fuse.specs.proof.Partners.{partner_of, is_inside}
+use Rattle.plant_fuse.specs.proof.PartnersAndPairLinks.{partner_of, is_inside}
 use Rattle.plant_fuse.specs.proof.Messages.{sent_count, sent_from, sent_on}
 
 -- what a link's message has to be

@@ -7,7 +7,7 @@ use Rattle.pals_model.specs.declared.part.Part.{Part}
 use Rattle.pals_model.specs.Composition.{no_frame}
 use Rattle.sync_product.specs.declared.component_stage.Stage.{Stage}
 use Rattle.sync_product.specs.proof.ProductSizes.{frame_size, part_size, part_sizes, stage_size, stage_sizes}
-use Rattle.sync_product.proofs.StepRoom.{count_of_parts, fits_sources, fits_part, fits_frame, fits_stage}
+use Rattle.sync_product.proofs.ComponentSizes.{count_of_parts, fits_sources, fits_part, fits_frame, fits_stage}
 use Rattle.plant_fuse.specs.declared.pair_steps.PairedComponent.{PairedComponent}
 use Rattle.plant_fuse.specs.proof.PairSteps.{FitsSteps}
 use Rattle.plant_fuse.specs.proof.RoundWork.{IsPaired}

@@ -6,7 +6,7 @@ use Rattle.pals_base.proofs.UpwardNumbers.{length-upwards}
 use Rattle.pals_model.specs.declared.design.DesignParts.{DesignParts}
 use Rattle.pals_runs.specs.declared.plant_pairs.Pair.{Pair}
 use Rattle.plant_fuse.specs.declared.design_tables.Tables.{Tables}
-use Rattle.plant_fuse.specs.proof.Partners.{partner_of}
+use Rattle.plant_fuse.specs.proof.PartnersAndPairLinks.{partner_of}
 use Rattle.plant_fuse.specs.proof.DesignTables.{AreTables}
 
 pub count_of_partners : (design : DesignParts) (pairs : List Pair) (tables : Tables) → AreTables design pairs tables

@@ -13,10 +13,10 @@ use Rattle.list_lemmas.proofs.ListOperations.{length-map_enumerate_from, same_fr
 use Rattle.pals_base.proofs.SettledStates.{map-same}
 use Rattle.pals_base.proofs.UpwardNumbers.{length-map_upwards}
 use Rattle.pals_base.proofs.ColumnsAndCutTuples.{cut_whole}
-use Rattle.pals_base.specs.declared.values.PortValue.{PortValue}
-use Rattle.pals_base.specs.declared.values.PortValue.TheVariants.{Absent}
+use Rattle.pals_base.specs.declared.basic_types.PortValue.{PortValue}
+use Rattle.pals_base.specs.declared.basic_types.PortValue.TheVariants.{Absent}
 use Rattle.pals_base.specs.declared.frames.Frame.{Frame}
-use Rattle.pals_base.specs.PeriodBound.{sent_steps}
+use Rattle.pals_base.specs.PeriodBoundAndReleases.{sent_steps}
 use Rattle.pals_base.specs.StepSequences.{frame_after}
 use Rattle.pals_base.specs.Tuples.{column, cut}
 use Rattle.pals_base.specs.UpwardNumbers.{upwards}
@@ -37,17 +37,17 @@ use Rattle.sync_product.specs.proof.Rounds.{frames_of}
 use Rattle.sync_product.proofs.PortColumns.{length-column}
 use Rattle.sync_product.proofs.ComponentLists.{sized_at}
 use Rattle.plant_fuse.specs.FusedComposition.{is_to_plant, is_to_controller, ArePairs, Inputs, inputs_to}
-use Rattle.plant_fuse.specs.proof.Partners.{partner_of, is_inside}
+use Rattle.plant_fuse.specs.proof.PartnersAndPairLinks.{partner_of, is_inside}
 use Rattle.plant_fuse.specs.proof.Messages.{sent_from, sent_on}
 use Rattle.plant_fuse.specs.proof.RoundEquations.{frame_at, place_at, left_in, tuple_from, tuple_in, message_in}
 use Rattle.plant_fuse.specs.proof.RoundEquations.{after_round}
 use Rattle.plant_fuse.specs.proof.RoundWork.{rows_of, AreRun}
 use Rattle.plant_fuse.specs.proof.FuseState.{FuseState, part_after, parts_after, IsAdvanced}
 use Rattle.plant_fuse.proofs.EquationsWithoutPairs.{by_place}
-use Rattle.sync_product.proofs.StepRoom.{count_of_stages}
-use Rattle.plant_fuse.proofs.ComponentPairs.{inside_goes, outside_back, outside_forth}
-use Rattle.plant_fuse.proofs.ReadsAsSolution.{before, all_read, inputs_at, reads_round, rows_at_node, left_at_node}
-use Rattle.plant_fuse.proofs.ReadsAsSolution.{part_at_node}
+use Rattle.sync_product.proofs.ComponentSizes.{count_of_stages}
+use Rattle.plant_fuse.proofs.PartnersAndPairLinks.{inside_goes, outside_back, outside_forth}
+use Rattle.plant_fuse.proofs.SolvedRoundEquations.{before, all_read, inputs_at, reads_round, rows_at_node, left_at_node}
+use Rattle.plant_fuse.proofs.SolvedRoundEquations.{part_at_node}
 
 either_same : (t u : List PortValue) (b f : Bool) → (b ≡ true) ⊎ (f ≡ true) → (if b then t else if f then t else u) ≡ t
 either_same t u true f either = refl

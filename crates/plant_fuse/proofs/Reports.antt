@@ -12,7 +12,7 @@ use Rattle.pals_model.specs.RoundTexts.{line_end, text_of, row_lines}
 use Rattle.pals_model.specs.DesignRules.{IsDesign}
 use Rattle.pals_runs.specs.declared.plant_pairs.Pair.{Pair}
 use Rattle.plant_fuse.specs.FusedComposition.{ArePairs, Inputs, IsFused}
-use Rattle.plant_fuse.specs.proof.FusedRounds.{first_rounds}
+use Rattle.plant_fuse.specs.proof.SolutionConfiguration.{first_rounds}
 use Rattle.plant_fuse.specs.FusedReport.{fused_parts, fused_lines, fused_report}
 use Rattle.plant_fuse.specs.proof.FusedLaws.{ReportExists, ReportIsOne}
 use Rattle.plant_fuse.proofs.ExactlyOneSolution.{solution_exists, solution_is_one}

@@ -7,7 +7,7 @@ use Rattle.std.proofs.lemmas.Nat.{mul-le}
 use Rattle.std.proofs.lemmas.List.Elements.{All-head, All-tail}
 use Rattle.std.proofs.lemmas.Option.{get_or_from_slice_get}
 use Rattle.list_lemmas.proofs.ElementPositions.{slice_get-map_enumerate}
-use Rattle.pals_base.specs.declared.values.PortValue.{PortValue}
+use Rattle.pals_base.specs.declared.basic_types.PortValue.{PortValue}
 use Rattle.pals_base.specs.declared.frames.Frame.{Frame}
 use Rattle.pals_base.specs.SingleStep.{initial}
 use Rattle.pals_base.specs.StepSequences.{Stepped, frame_after}
@@ -26,7 +26,7 @@ use Rattle.pals_model.specs.DesignRules.{IsDesign, IsTap}
 use Rattle.pals_model.specs.RoundTexts.{text_of, composed_lines}
 use Rattle.pals_model.proofs.CompositionLaws.{steps_of_round-at}
 use Rattle.pals_model.proofs.ShapeLaws.{component_at}
-use Rattle.pals_model.proofs.LineLaws.{same_row}
+use Rattle.pals_model.proofs.TextLineLaws.{same_row}
 use Rattle.plant_fuse.specs.FusedComposition.{Inputs, round_tuple, frame_before, IsFused}
 use Rattle.plant_fuse.specs.FusedReport.{fused_part, fused_parts, fused_lines}
 use Rattle.plant_fuse.specs.proof.FusedLaws.{ReportWithoutPairs}

@@ -2,8 +2,8 @@
 use Rattle.std.proofs.Common.{◌≡◌, ◌∙◌, ℕ, zero, suc, ◌+◌, ◌*◌, ◌<◌, ◌≤◌, Bool, true, false, List, [], ◌∷◌, length, map}
 use Rattle.std.proofs.Common.{Option, Some, None, slice_get, slice_index_or, refl, sym, ap, ap₂, arith}
 use Rattle.std.specs.Prelude.{if◌then◌else◌}
-use Rattle.pals_base.specs.declared.values.PortValue.{PortValue}
-use Rattle.pals_base.specs.declared.values.PortValue.TheVariants.{Absent}
+use Rattle.pals_base.specs.declared.basic_types.PortValue.{PortValue}
+use Rattle.pals_base.specs.declared.basic_types.PortValue.TheVariants.{Absent}
 use Rattle.pals_base.specs.declared.frames.Frame.{Frame}
 use Rattle.pals_base.specs.UpwardNumbers.{upwards}
 use Rattle.pals_base.proofs.UpwardNumbers.{map_upwards_same}
@@ -21,7 +21,7 @@ use Rattle.plant_fuse.specs.proof.RoundEquations.{read_by, round_vector, IsFused
 use Rattle.plant_fuse.specs.proof.FusedLaws.{RoundIsOne}
 use Rattle.plant_fuse.proofs.FunctionTables.{get_upwards_same, table_at, table_past, table_same}
 use Rattle.plant_fuse.proofs.StepRanks.{is_controller, bump}
-use Rattle.plant_fuse.proofs.PairLinks.{forth_is, read_from_target}
+use Rattle.plant_fuse.proofs.PairLinkRates.{forth_is, read_from_target}
 use Rattle.plant_fuse.proofs.StepDependencies.{same_output}
 
 -- the place of a step in its round: a controller's behind its plant's

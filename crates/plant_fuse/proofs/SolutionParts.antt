@@ -5,7 +5,7 @@ use Rattle.std.proofs.Common.{arith}
 use Rattle.std.proofs.lemmas.Nat.{mul-le}
 use Rattle.std.proofs.lemmas.List.{take-append-drop, take-take, take_all}
 use Rattle.pals_base.proofs.SettledStates.{map-same}
-use Rattle.pals_base.specs.declared.values.PortValue.{PortValue}
+use Rattle.pals_base.specs.declared.basic_types.PortValue.{PortValue}
 use Rattle.pals_base.specs.declared.frames.Frame.{Frame}
 use Rattle.pals_base.specs.SingleStep.{initial}
 use Rattle.pals_base.specs.StepSequences.{frame_after}
@@ -25,7 +25,7 @@ use Rattle.plant_fuse.specs.FusedReport.{fused_part, fused_parts}
 use Rattle.plant_fuse.proofs.FunctionTables.{table_at, table_same}
 use Rattle.plant_fuse.proofs.StepDependencies.{same_tuple}
 use Rattle.plant_fuse.proofs.SolutionPrefixes.{begun, agree}
-use Rattle.plant_fuse.proofs.NextRoundSolutions as onward
+use Rattle.plant_fuse.proofs.LastRoundOfSolution as onward
 
 module _ (design : DesignParts) (pairs : List Pair) (env : Env) (rounds : ℕ) (ins : Inputs) (sound : IsDesign design)
     (are : ArePairs design pairs) (is : IsFused design pairs env (suc rounds) ins) where

@@ -3,7 +3,7 @@ use Rattle.std.proofs.Common.{◌≡◌, ◌∙◌, ℕ, zero, suc, ◌*◌, ◌
 use Rattle.std.proofs.Common.{slice_get, refl, sym, ap, subst, arith}
 use Rattle.std.proofs.lemmas.Nat.{mul-le}
 use Rattle.list_lemmas.proofs.ElementPositions.{slice_get-take}
-use Rattle.pals_base.specs.declared.values.PortValue.{PortValue}
+use Rattle.pals_base.specs.declared.basic_types.PortValue.{PortValue}
 use Rattle.pals_base.specs.UpwardNumbers.{upwards}
 use Rattle.pals_model.specs.declared.design.Component.{Component}
 use Rattle.pals_model.specs.declared.design.DesignParts.{DesignParts}
@@ -12,7 +12,7 @@ use Rattle.pals_model.specs.PortKinds.{rate_of, rate_in}
 use Rattle.pals_model.specs.DesignRules.{IsDesign}
 use Rattle.pals_runs.specs.declared.plant_pairs.Pair.{Pair}
 use Rattle.plant_fuse.specs.FusedComposition.{ArePairs, Inputs, inputs_to, vector_of, reads, IsFused}
-use Rattle.plant_fuse.specs.proof.FusedRounds.{first_rounds}
+use Rattle.plant_fuse.specs.proof.SolutionConfiguration.{first_rounds}
 use Rattle.plant_fuse.specs.proof.FusedLaws.{SolutionGoesOn}
 use Rattle.plant_fuse.proofs.FunctionTables.{table_at, table_past, table_same}
 use Rattle.plant_fuse.proofs.StepRanks.{rank, rounds_of_rank}

@@ -8,14 +8,14 @@ use Rattle.pals_model.specs.Composition.{Configuration}
 use Rattle.pals_model.specs.DesignRules.{IsDesign}
 use Rattle.pals_runs.specs.declared.plant_pairs.Pair.{Pair}
 use Rattle.plant_fuse.specs.FusedComposition.{ArePairs, Inputs, IsFused}
-use Rattle.plant_fuse.specs.proof.FusedRounds.{first_rounds, fused}
+use Rattle.plant_fuse.specs.proof.SolutionConfiguration.{first_rounds, fused}
 use Rattle.plant_fuse.specs.proof.RoundEquations.{IsFusedRound, after_round, last_round}
 use Rattle.plant_fuse.specs.proof.FuseState.{FuseState, begun, parts_after, IsAdvanced, AreStates}
 use Rattle.plant_fuse.specs.FusedReport.{fused_parts}
 use Rattle.plant_fuse.specs.proof.FusedLaws.{StatesFollow}
 use Rattle.plant_fuse.proofs.ExactlyOneSolution.{solution_is_one}
 use Rattle.plant_fuse.proofs.SolutionPrefixes.{solution_goes_on}
-use Rattle.plant_fuse.proofs.NextRoundSolutions.{rounds_go_on}
+use Rattle.plant_fuse.proofs.LastRoundOfSolution.{rounds_go_on}
 use Rattle.plant_fuse.proofs.RoundUniqueness.{round_is_one}
 use Rattle.plant_fuse.proofs.IteratedRounds.{opens}
 use Rattle.plant_fuse.proofs.SolutionParts.{last_parts, earlier_parts}

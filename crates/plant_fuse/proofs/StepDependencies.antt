@@ -6,11 +6,11 @@ use Rattle.std.specs.Prelude.{if◌then◌else◌}
 use Rattle.std.proofs.lemmas.Option.{same_Some}
 use Rattle.pals_base.proofs.SettledStates.{map-same}
 use Rattle.pals_base.proofs.UpwardNumbers.{map_upwards_same}
-use Rattle.pals_base.specs.declared.values.PortValue.{PortValue}
-use Rattle.pals_base.specs.declared.values.PortValue.TheVariants.{Absent}
+use Rattle.pals_base.specs.declared.basic_types.PortValue.{PortValue}
+use Rattle.pals_base.specs.declared.basic_types.PortValue.TheVariants.{Absent}
 use Rattle.pals_base.specs.declared.frames.Frame.{Frame}
 use Rattle.pals_base.specs.declared.behaviour.BehaviourParts.{BehaviourParts}
-use Rattle.pals_base.specs.PeriodBound.{sent_steps}
+use Rattle.pals_base.specs.PeriodBoundAndReleases.{sent_steps}
 use Rattle.pals_base.specs.SingleStep.{fire, initial}
 use Rattle.pals_base.specs.StepSequences.{outputs}
 use Rattle.pals_base.specs.Tuples.{cut}
@@ -31,7 +31,7 @@ use Rattle.plant_fuse.specs.FusedComposition.{value_on, value_read, vector_of, r
 use Rattle.plant_fuse.proofs.FunctionTables.{get_upwards_same, table_at, table_past, table_same}
 use Rattle.plant_fuse.proofs.StepRanks.{is_controller, rank, rank_upto, rank_before, rank_beside, rank_in_round}
 use Rattle.plant_fuse.proofs.StepRanks.{rank_from_round, rank_of_rounds}
-use Rattle.plant_fuse.proofs.PairLinks.{back_rates, forth_is, read_from_target}
+use Rattle.plant_fuse.proofs.PairLinkRates.{back_rates, forth_is, read_from_target}
 
 -- ---- outputs
 -- what is left in a step hangs on the vectors up to it

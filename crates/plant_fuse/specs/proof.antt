@@ -1,10 +1,10 @@
 -- What the theorem of the program does not rest on: definitions of contracts below it, of laws, and of proofs.
-pub mod FusedRounds
+pub mod SolutionConfiguration
 pub mod FusedLaws
 pub mod CounterPlant
 pub mod RoundEquations
 pub mod Fusibility
-pub mod Partners
+pub mod PartnersAndPairLinks
 pub mod DesignTables
 pub mod PairSteps
 pub mod RoundWork

@@ -1,7 +1,6 @@
-//! What is found once for a design and its pairs, so that the time that a round takes is in line with
-//! the design alone.
+//! The tables of a design and its pairs, made once: the partner of each component, and where its ports lead.
 ghost use Rattle.std.specs.Prelude.{◌≡◌, IfOk};
-ghost use Rattle.plant_fuse.specs.proof.Partners.{partner_of, all_partners};
+ghost use Rattle.plant_fuse.specs.proof.PartnersAndPairLinks.{partner_of, all_partners};
 
 use pals_base::{Items, NoMemory, NodeNo};
 use pals_model::Design;

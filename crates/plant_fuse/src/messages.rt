@@ -1,8 +1,8 @@
-//! What the components send to one another.
+//! The message of each link after a round: whole inside a pair, and else cut to the steps that are sent.
 ghost use Rattle.std.specs.Prelude.{◌≡◌, length, map};
 ghost use Rattle.pals_model.specs.DesignRules.{IsDesign};
 ghost use Rattle.sync_product.specs.proof.ProductSizes.{stage_size, stage_sizes, message_sizes};
-ghost use Rattle.plant_fuse.specs.proof.Partners.{is_inside};
+ghost use Rattle.plant_fuse.specs.proof.PartnersAndPairLinks.{is_inside};
 ghost use Rattle.plant_fuse.specs.proof.Messages.{sent_count, sent_on};
 ghost use Rattle.plant_fuse.specs.proof.DesignTables.{AreTables};
 

@@ -1,4 +1,5 @@
-//! The steps of all components in a round.
+//! Makes the steps of all components in a round: a plant and its controller hand in hand, each other component by
+//! itself.
 ghost use Rattle.std.specs.Prelude.{◌≡◌, ◌<◌, OnOk, length, map};
 ghost use Rattle.sync_product.specs.proof.ProductSizes.{part_size, part_sizes, stage_size, stage_sizes};
 ghost use Rattle.sync_product.specs.proof.Rounds.{frames_of};

@@ -12,8 +12,8 @@
 //!
 //! In the answer `END` is the place where the bundle ends, `_` is another place, and `..` stands for the first bytes
 //! of the answer, 8 for each write that did not fail.
-use crate::alike_answers::Runs;
 use crate::audited_runs::run_and_audit;
+use crate::grouped_answers::Runs;
 use crate::program_answer::{ProgramAnswer, Transfer, ask};
 use case_files::{asked, text_of, word};
 use pals_top::status::{READ_FAULT, WRITE_FAULT};

@@ -1,4 +1,5 @@
--- Why the laws of round budgets hold.
+-- Proofs of the laws of round budgets: releases are served once and in order, responses are in time, rounds stay
+-- apart.
 use Rattle.std.proofs.Common.{◌≡◌, ◌⊎◌, inl, inr, ℕ, suc, ◌+◌, ◌-◌, ◌*◌, ◌^◌, ◌<◌, ◌≤◌, List, [], ◌∷◌, Option, Some}
 use Rattle.std.proofs.Common.{None, slice_get, All, AllPairs, IsTrue, Contains, sym, ap, ◌∙◌, subst, arith}
 use Rattle.std.specs.List.{sum_by, AllByRecursion as Every}
@@ -9,9 +10,9 @@ use Rattle.std.proofs.lemmas.Bool.{cases_lt}
 use Rattle.list_lemmas.proofs.Elements.{AllByRecursion-weaker}
 use Rattle.list_lemmas.proofs.PairwiseProperties.{Pairs, pairs_weaker, all_pairs_from}
 use Rattle.pals_base.specs.declared.frames.Frame.{Frame}
-use Rattle.pals_base.specs.declared.values.PortValue.{PortValue}
+use Rattle.pals_base.specs.declared.basic_types.PortValue.{PortValue}
 use Rattle.pals_base.specs.declared.limits.TheConstants.{HOUR}
-use Rattle.pals_base.specs.PeriodBound.{alarm}
+use Rattle.pals_base.specs.PeriodBoundAndReleases.{alarm}
 use Rattle.step_code.specs.declared.instr.CodeParts.{CodeParts}
 use Rattle.step_code.specs.CappedWeights.{capped}
 use Rattle.step_code.specs.PathWeights.{weight_of}
@@ -21,7 +22,7 @@ use Rattle.pals_model.specs.declared.design.DesignParts.{DesignParts}
 use Rattle.pals_model.specs.declared.environment.Env.{Env}
 use Rattle.pals_model.specs.DesignRules.{IsDesign}
 use Rattle.round_budget.specs.Budgets.{Release, Served, releases, in_order, precedes, serve, most_of, most_in, by_most}
-use Rattle.round_budget.specs.Responses.{response, AreAtMost, made_in, frame_before, inputs_at, by_exec}
+use Rattle.round_budget.specs.ResponseTimes.{response, AreAtMost, made_in, frame_before, inputs_at, by_exec}
 use Rattle.round_budget.specs.proof.BudgetLaws.{AreMembers, IsWithinBudget, EachIsServed, ServedOnce, ServedInOrder}
 use Rattle.round_budget.specs.proof.BudgetLaws.{NoneBeginsEarly, OneAtATime, ResponsesFit, MostResponsesFit}
 use Rattle.round_budget.specs.proof.BudgetLaws.{ExecResponsesFit, RoundsAreApart}

@@ -10,4 +10,4 @@ pub mod ProcessorMembers
 pub mod TimetableLines
 pub mod ServableReleases
 pub mod TimetablePromises
-pub mod UniqueTextsAndVerdicts
+pub mod UniqueBudgets

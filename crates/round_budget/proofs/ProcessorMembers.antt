@@ -5,7 +5,7 @@ use Rattle.std.specs.List.Sorted.{IsStrictlyIncreasing}
 use Rattle.std.proofs.lemmas.Bool.{cases_lt}
 use Rattle.std.proofs.lemmas.List.{length-map, get_or-map}
 use Rattle.std.proofs.lemmas.List.Elements.{All-map}
-use Rattle.pals_base.specs.declared.values.NodeNo.{NodeNo}
+use Rattle.pals_base.specs.declared.basic_types.NodeNo.{NodeNo}
 use Rattle.pals_model.specs.declared.design.DesignParts.{DesignParts}
 use Rattle.round_budget.specs.proof.BudgetLaws.{AreMembers}
 use Rattle.round_budget.specs.Budgets.{numbers}

@@ -8,7 +8,7 @@ use Rattle.std.proofs.lemmas.List.Elements.{recursion_from_All, All-contains_its
 use Rattle.std.proofs.lemmas.List.Kept.{AllPairs-from_increasing}
 use Rattle.list_lemmas.proofs.Elements.{AllByRecursion-weaker, AllByRecursion-map}
 use Rattle.list_lemmas.proofs.PairwiseProperties.{Pairs, pairs_weaker, pairs_map, pairs_from}
-use Rattle.pals_base.specs.PeriodBound.{alarm, step_period, backoff}
+use Rattle.pals_base.specs.PeriodBoundAndReleases.{alarm, step_period, backoff}
 use Rattle.pals_base.specs.UpwardNumbers.{upwards}
 use Rattle.pals_model.specs.declared.design.Component.{Component}
 use Rattle.pals_model.specs.declared.design.DesignParts.{DesignParts}

@@ -6,7 +6,7 @@ use Rattle.std.proofs.lemmas.List.{map_push}
 use Rattle.round_budget.specs.Budgets as budgets
 use Rattle.round_budget.specs.Budgets.{begins, served_at, serve, line_from}
 use Rattle.round_budget.specs.declared.releases.Release.{Release}
-use Rattle.round_budget.specs.declared.serving.TimetableLine.{TimetableLine}
+use Rattle.round_budget.specs.declared.served_steps.TimetableLine.{TimetableLine}
 use Rattle.round_budget.specs.proof.ReleaseAndLineValues.{release_value, line_value}
 
 drop_next : (rs : List Release) (i : ℕ) (x d : Release) → i < length rs → x ≡ slice_index_or rs i d

@@ -6,7 +6,7 @@ use Rattle.pals_model.specs.declared.design.DesignParts.{DesignParts}
 use Rattle.pals_model.specs.DesignRules.{IsDesign}
 use Rattle.round_budget.specs.proof.BudgetLaws.{AreMembers, IsWithinBudget}
 use Rattle.round_budget.specs.Budgets.{Release, budget, total, fits}
-use Rattle.round_budget.specs.Responses.{AreInTime, AreAtMost, by_exec, RespondInTime}
+use Rattle.round_budget.specs.ResponseTimes.{AreInTime, AreAtMost, by_exec, RespondInTime}
 use Rattle.round_budget.proofs.BudgetLaws.{responses_fit, exec_at_most, rounds_are_apart}
 use Rattle.round_budget.proofs.TimetableRepetition.{timetable_repeats}
 use Rattle.round_budget.specs.proof.TimetablePromises.{TimetableIsEach}

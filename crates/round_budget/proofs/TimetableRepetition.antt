@@ -9,7 +9,7 @@ use Rattle.std.proofs.lemmas.List.{map-append}
 use Rattle.std.proofs.lemmas.List.Elements.{recursion_from_All}
 use Rattle.std.proofs.Math.Nat.{add-max-add_right}
 use Rattle.list_lemmas.proofs.Elements.{AllByRecursion-weaker, AllByRecursion-map}
-use Rattle.pals_base.specs.PeriodBound.{alarm, step_period}
+use Rattle.pals_base.specs.PeriodBoundAndReleases.{alarm, step_period}
 use Rattle.pals_base.specs.UpwardNumbers.{upwards}
 use Rattle.step_code.specs.declared.instr.CodeParts.{CodeParts}
 use Rattle.pals_model.specs.declared.design.DesignParts.{DesignParts}
@@ -17,7 +17,7 @@ use Rattle.pals_model.specs.PortKinds.{rate_of}
 use Rattle.pals_model.specs.DesignRules.{IsDesign}
 use Rattle.round_budget.specs.Budgets.{Release, Served, Line, release_of, releases_of, releases_in, releases, precedes}
 use Rattle.round_budget.specs.Budgets.{put, in_order, begins, served_at, serve, budget, by_most, line_from, timetable}
-use Rattle.round_budget.specs.proof.RoundTimetableLine.{line_in_round}
+use Rattle.round_budget.specs.proof.LinesFromOwnAlarm.{line_in_round}
 use Rattle.round_budget.specs.proof.BudgetLaws.{IsWithinBudget, TimetableRepeats}
 use Rattle.round_budget.proofs.ListQuantifiers.{every_both, every_flat_map, every_upwards}
 use Rattle.round_budget.proofs.ReleaseOrders.{every_in_order}

@@ -1,4 +1,4 @@
 pub mod Budgets
 pub mod BudgetText
-pub mod Responses
+pub mod ResponseTimes
 pub mod proof

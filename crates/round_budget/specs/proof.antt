@@ -1,5 +1,5 @@
 -- What the theorem of the program does not rest on: definitions of contracts below it, of laws, and of proofs.
-pub mod RoundTimetableLine
+pub mod LinesFromOwnAlarm
 pub mod BudgetLaws
 pub mod TurnController
 pub mod TurnControllerBudget

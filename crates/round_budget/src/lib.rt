@@ -4,11 +4,11 @@
 #![tactic(auto)]
 
 pub mod laws;
+mod processor_load;
 mod releases;
-mod serving;
-mod sums;
+mod served_steps;
 mod timetables;
 
-pub use serving::TimetableLine;
-pub use sums::{fits, total};
+pub use processor_load::{fits, total};
+pub use served_steps::TimetableLine;
 pub use timetables::{BudgetEnd, timetable};

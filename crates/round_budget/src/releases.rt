@@ -5,7 +5,7 @@ ghost use Rattle.round_budget.specs.proof.BudgetLaws.{AreMembers};
 ghost use Rattle.pals_model.specs.DesignRules.{IsDesign};
 ghost use Rattle.round_budget.specs.proof.ReleaseAndLineValues.{release_value, AreReleases};
 
-use pals_base::period_bound::step_period;
+use pals_base::period_bound_and_releases::step_period;
 use pals_base::{Nanos, NoMemory, NodeNo};
 use pals_model::Design;
 use std::alloc::Global;

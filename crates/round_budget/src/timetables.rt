@@ -3,13 +3,13 @@ ghost use Rattle.std.specs.Prelude.{◌≡◌, ◌≤◌, true, length, IfOk, If
 ghost use Rattle.pals_base.specs.declared.limits.TheConstants.{HOUR};
 ghost use Rattle.round_budget.specs.Budgets.{timetable, total, fits, numbers};
 ghost use Rattle.round_budget.specs.proof.BudgetLaws.{AreMembers};
-ghost use Rattle.round_budget.specs.Responses.{RespondInTime};
+ghost use Rattle.round_budget.specs.ResponseTimes.{RespondInTime};
 ghost use Rattle.round_budget.specs.proof.ReleaseAndLineValues.{AreLines};
 ghost use Rattle.round_budget.specs.proof.TimetablePromises.{IsEnd, TimetableIsEach};
 
+use crate::processor_load::{fits, total};
 use crate::releases::ordered_releases;
-use crate::serving::{TimetableLine, serve};
-use crate::sums::{fits, total};
+use crate::served_steps::{TimetableLine, serve};
 use pals_base::{Nanos, NoMemory, NodeNo};
 use pals_model::Design;
 use std::alloc::Global;

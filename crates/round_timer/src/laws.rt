@@ -1,6 +1,6 @@
 //! What holds of every alarm. Each law is the contract of a function that does nothing.
 ghost use Rattle.std.specs.Prelude.{◌≡◌, ℕ, ◌+◌, ◌*◌, ◌^◌, ◌<◌, ◌≤◌};
-ghost use Rattle.pals_base.specs.PeriodBound.{alarm, step_period};
+ghost use Rattle.pals_base.specs.PeriodBoundAndReleases.{alarm, step_period};
 ghost use Rattle.pals_base.specs.declared.limits.TheConstants.{HOUR, ROUNDS};
 
 /// Each alarm is one period after the one before, and the first is one period after 0.

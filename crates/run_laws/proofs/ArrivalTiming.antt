@@ -7,8 +7,8 @@ use Rattle.std.proofs.lemmas.Grind.{get_or-set_at}
 use Rattle.std.proofs.lemmas.List.{get_or-set_other}
 use Rattle.list_lemmas.proofs.Elements.{find-passes}
 use Rattle.list_lemmas.proofs.Options.{some_by_test}
-use Rattle.pals_base.specs.declared.values.LinkNo.{LinkNo}
-use Rattle.pals_base.specs.declared.values.PortValue.{PortValue}
+use Rattle.pals_base.specs.declared.basic_types.LinkNo.{LinkNo}
+use Rattle.pals_base.specs.declared.basic_types.PortValue.{PortValue}
 use Rattle.pals_model.specs.declared.flight_copy.FlightCopy.{FlightCopy}
 use Rattle.pals_model.specs.Flights.{is_of, oldest, without_oldest}
 use Rattle.pals_model.specs.PortKinds.{ins_in}
@@ -20,15 +20,15 @@ use Rattle.bus_machine.specs.Plans.{plan_of, component_at, link_at}
 use Rattle.bus_machine.specs.Nodes.{NodeState, sent_rounds}
 use Rattle.bus_machine.specs.NodeEvents.{slot_at, with_message}
 use Rattle.bus_machine.specs.LinkEvents.{is_in_flight, arriving}
-use Rattle.bus_machine.specs.States.{BusState, node_at, flight_at, with_node, with_flight}
+use Rattle.bus_machine.specs.BusStates.{BusState, node_at, flight_at, with_node, with_flight}
 use Rattle.bus_machine.specs.Runs.{Run}
 use Rattle.bus_machine.specs.Machine.{Arrive, arrival, early_stop, after}
 use Rattle.bus_machine.specs.Agreement.{Agrees}
 use Rattle.bus_machine.specs.proof.AgreementLaws.{IsRunOf}
 use Rattle.run_laws.specs.Worlds.{World, reading_at, since_at, ready_at, sendings, world_after}
 use Rattle.bus_machine.proofs.MessageAndRunAgreement.{step_keeps_agreement}
-use Rattle.bus_machine.proofs.AgreementChanges.{node_set, node_stays}
-use Rattle.bus_machine.proofs.QuantitiesAndSentRounds.{keeps_at}
+use Rattle.bus_machine.proofs.StateChangeAgreement.{node_set, node_stays}
+use Rattle.bus_machine.proofs.NodeReplacement.{keeps_at}
 use Rattle.run_laws.specs.proof.WorldInvariant.{IsOnce, copies, waits, taken, one_if, KeepsLink, KeepsTime}
 use Rattle.run_laws.proofs.Lists.{count_without}
 use Rattle.run_laws.proofs.WorldNodeTiming.{Stands, stands_at}

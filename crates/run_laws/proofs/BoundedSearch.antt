@@ -1,4 +1,5 @@
--- Searches over the numbers below one.
+-- Searches over the numbers below a bound: the first that has a property, or one of least value, is found, or none
+-- has it.
 use Rattle.std.proofs.Common.{◌≡◌, ◌⊎◌, inl, inr, ℕ, zero, suc, ◌<◌, ◌≤◌, subst, arith}
 use Rattle.std.proofs.lemmas.Bool.{cases_lt}
 

@@ -4,8 +4,8 @@ use Rattle.std.specs.Prelude.{All}
 use Rattle.std.proofs.lemmas.List.{append_assoc}
 use Rattle.std.proofs.lemmas.List.Elements.{All-nil, All-cons, All-head, All-tail, All-append}
 use Rattle.std.proofs.lemmas.Option.{none-some, same_Some}
-use Rattle.pals_base.specs.declared.values.NodeNo.{NodeNo}
-use Rattle.pals_base.specs.declared.values.LinkNo.{LinkNo}
+use Rattle.pals_base.specs.declared.basic_types.NodeNo.{NodeNo}
+use Rattle.pals_base.specs.declared.basic_types.LinkNo.{LinkNo}
 use Rattle.pals_runs.specs.declared.journal.Arrived.{Arrived}
 use Rattle.pals_runs.specs.declared.journal.Arrived.TheVariants.{Kept, Ignored, Early}
 use Rattle.pals_runs.specs.declared.journal.Stop.{Stop}
@@ -13,13 +13,13 @@ use Rattle.pals_runs.specs.declared.journal.JournalEntry.{JournalEntry}
 use Rattle.pals_runs.specs.declared.journal.JournalEntry.TheVariants as entry
 use Rattle.bus_machine.specs.Plans.{plan_of}
 use Rattle.bus_machine.specs.NodeEvents.{next_step, running_step, stepped, finished}
-use Rattle.bus_machine.specs.States.{BusState, node_at, with_node}
+use Rattle.bus_machine.specs.BusStates.{BusState, node_at, with_node}
 use Rattle.bus_machine.specs.Runs.{Run}
-use Rattle.bus_machine.specs.MissedStarts.{missing_link}
+use Rattle.bus_machine.specs.MissedMessages.{missing_link}
 use Rattle.bus_machine.specs.Machine.{BusEvent, Start, Step, Finish, Send, Arrive, Drop, Repeat, after, after_start}
 use Rattle.bus_machine.specs.Machine.{arrival, early_stop}
 use Rattle.bus_machine.specs.Replay.{Replays, opens, goes_on, entries, start_entry, stop_entry}
-use Rattle.bus_machine.proofs.NodeEventAgreement.{on_step_stop}
+use Rattle.bus_machine.proofs.NodeEventBusAgreement.{on_step_stop}
 
 -- ---- entries that tell no stop
 abbrev stop_told : JournalEntry → Option Stop

@@ -6,9 +6,9 @@ use Rattle.std.proofs.lemmas.Bool.{ltb-true, ltb-false, eqb-true, eqb-false, fal
 use Rattle.std.proofs.lemmas.Grind.{get_or-set_at}
 use Rattle.std.proofs.lemmas.List.{length-set, get_or-set_other}
 use Rattle.std.proofs.lemmas.Option.{same_Some, none-some}
-use Rattle.pals_base.specs.declared.period_bound.Gamma.{Gamma}
-use Rattle.pals_base.specs.declared.values.NodeNo.{NodeNo}
-use Rattle.pals_base.specs.PeriodBound.{alarm}
+use Rattle.pals_base.specs.declared.period_bound_and_releases.Gamma.{Gamma}
+use Rattle.pals_base.specs.declared.basic_types.NodeNo.{NodeNo}
+use Rattle.pals_base.specs.PeriodBoundAndReleases.{alarm}
 use Rattle.pals_runs.specs.declared.events_and_faults.Event.TheVariants as event
 use Rattle.pals_runs.specs.declared.phase.Phase.{Phase}
 use Rattle.pals_runs.specs.declared.phase.Phase.TheVariants.{Waiting, Running, Between, Holding, Done}
@@ -16,17 +16,17 @@ use Rattle.bus_machine.specs.declared.plan.Plan.{Plan}
 use Rattle.bus_machine.specs.Plans.{plan_of, component_at}
 use Rattle.bus_machine.specs.Nodes.{NodeState, round_of, finished_steps, at_rest, sent_rounds}
 use Rattle.bus_machine.specs.NodeEvents.{running_step, finished, after_round, may_send}
-use Rattle.bus_machine.specs.EarliestReadings.{start_alarm, step_alarm, release_reading}
-use Rattle.bus_machine.specs.States.{node_at, with_node}
+use Rattle.bus_machine.specs.AlarmsAndReleases.{start_alarm, step_alarm, release_reading}
+use Rattle.bus_machine.specs.BusStates.{node_at, with_node}
 use Rattle.bus_machine.specs.Runs.{Run}
 use Rattle.bus_machine.specs.Machine.{on_step}
 use Rattle.bus_machine.specs.proof.AgreementLaws.{IsRunOf}
 use Rattle.bus_machine.specs.Agreement.{Agrees, PhaseAgrees, IsInRound}
 use Rattle.run_laws.specs.Deadlines.{last_before, lesser}
 use Rattle.run_laws.specs.Worlds.{World, reading_at, since_at, ready_at, sendings, moved, is_last_sent, world_after}
-use Rattle.bus_machine.proofs.NodeLocalAgreement.{finish_keeps}
-use Rattle.bus_machine.proofs.AgreementChanges.{node_set, node_stays}
-use Rattle.bus_machine.proofs.NodeEventAgreement.{finish_keeps_all}
+use Rattle.bus_machine.proofs.NodeEventLocalAgreement.{finish_keeps}
+use Rattle.bus_machine.proofs.StateChangeAgreement.{node_set, node_stays}
+use Rattle.bus_machine.proofs.NodeEventBusAgreement.{finish_keeps_all}
 use Rattle.run_laws.specs.proof.WorldInvariant.{KeepsDeadline, IsReadySince, KeepsTime}
 use Rattle.run_laws.proofs.TimeArithmetic.{finish_between, late_running}
 use Rattle.run_laws.proofs.WorldNodeTiming.{fits_at, may_be, may_is, Stands, stands_at, left_in_time, both_in_time}

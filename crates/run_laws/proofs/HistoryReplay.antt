@@ -5,9 +5,9 @@ use Rattle.std.specs.Option.{unwrap_or}
 use Rattle.std.proofs.lemmas.List.Elements.{All-nil, All-cons, All-append}
 use Rattle.std.proofs.lemmas.Option.{same_Some, get_or_from_slice_get}
 use Rattle.list_lemmas.proofs.Numbers.{nat_eq-self}
-use Rattle.pals_base.specs.PeriodBound.{alarm}
-use Rattle.pals_base.specs.declared.values.NodeNo.{NodeNo}
-use Rattle.pals_base.specs.declared.values.LinkNo.{LinkNo}
+use Rattle.pals_base.specs.PeriodBoundAndReleases.{alarm}
+use Rattle.pals_base.specs.declared.basic_types.NodeNo.{NodeNo}
+use Rattle.pals_base.specs.declared.basic_types.LinkNo.{LinkNo}
 use Rattle.pals_model.specs.declared.design.Link.{Link}
 use Rattle.pals_runs.specs.declared.journal.Arrived.{Arrived}
 use Rattle.pals_runs.specs.declared.journal.Arrived.TheVariants.{Kept, Ignored, Early}
@@ -17,10 +17,10 @@ use Rattle.pals_runs.specs.declared.journal.JournalEntry.TheVariants as entry
 use Rattle.bus_machine.specs.Plans.{plan_of, no_link, link_at}
 use Rattle.bus_machine.specs.Nodes.{round_of}
 use Rattle.bus_machine.specs.NodeEvents.{next_step}
-use Rattle.bus_machine.specs.EarliestReadings.{start_alarm, step_alarm, release_reading}
-use Rattle.bus_machine.specs.States.{BusState, node_at}
+use Rattle.bus_machine.specs.AlarmsAndReleases.{start_alarm, step_alarm, release_reading}
+use Rattle.bus_machine.specs.BusStates.{BusState, node_at}
 use Rattle.bus_machine.specs.Runs.{Run}
-use Rattle.bus_machine.specs.MissedStarts.{missing_link}
+use Rattle.bus_machine.specs.MissedMessages.{missing_link}
 use Rattle.bus_machine.specs.Machine.{BusEvent, Start, Step, Finish, Send, Arrive, Drop, Repeat, arrival, early_stop}
 use Rattle.bus_machine.specs.Replay.{Replays, entries, start_entry, stop_entry, opens as replay_opens}
 use Rattle.bus_machine.specs.Replay.{goes_on as replay_goes_on}
@@ -29,7 +29,7 @@ use Rattle.run_laws.specs.EntryEventsAndReadings.{Timed, timed}
 use Rattle.run_laws.specs.proof.RisingReadings.{LinesRise}
 use Rattle.run_laws.proofs.MissedLinks.{missed_link}
 use Rattle.run_laws.specs.HistoriesAndTraces.{IsRead, IsInTime, History, opens, goes_on}
-use Rattle.run_laws.specs.proof.SoundTraces.{ShowsFrom, ShowsTime, HistoriesReplay}
+use Rattle.run_laws.specs.proof.HistoryAndTraceLaws.{ShowsFrom, ShowsTime, HistoriesReplay}
 use Rattle.run_laws.proofs.SoundTraces.{latest_one}
 use Rattle.run_laws.proofs.RisingReadings.{rise_append}
 

@@ -10,8 +10,8 @@ use Rattle.std.proofs.lemmas.List.Sums.{fold-append}
 use Rattle.std.proofs.lemmas.Bool.{eq-eqb, le-ltb}
 use Rattle.list_lemmas.proofs.Numbers.{nat_eq-self}
 use Rattle.list_lemmas.proofs.Elements.{All-append_right}
-use Rattle.pals_base.specs.declared.values.NodeNo.{NodeNo}
-use Rattle.pals_base.specs.declared.values.LinkNo.{LinkNo}
+use Rattle.pals_base.specs.declared.basic_types.NodeNo.{NodeNo}
+use Rattle.pals_base.specs.declared.basic_types.LinkNo.{LinkNo}
 use Rattle.pals_model.specs.declared.design.Link.{Link}
 use Rattle.pals_model.specs.declared.design.DesignParts.{DesignParts}
 use Rattle.pals_model.specs.RoundTexts.{report_lines}
@@ -30,10 +30,10 @@ use Rattle.pals_runs.specs.JournalLines.{entry_line}
 use Rattle.bus_machine.specs.Plans.{plan_of, link_at}
 use Rattle.bus_machine.specs.Nodes.{NodeState, round_of}
 use Rattle.bus_machine.specs.NodeEvents.{is_waiting, next_step}
-use Rattle.bus_machine.specs.EarliestReadings.{start_alarm, step_alarm, release_reading}
-use Rattle.bus_machine.specs.States.{BusState, no_node, node_at, finished_by_all}
+use Rattle.bus_machine.specs.AlarmsAndReleases.{start_alarm, step_alarm, release_reading}
+use Rattle.bus_machine.specs.BusStates.{BusState, no_node, node_at, finished_by_all}
 use Rattle.bus_machine.specs.Runs.{Run}
-use Rattle.bus_machine.specs.MissedStarts.{missing_link}
+use Rattle.bus_machine.specs.MissedMessages.{missing_link}
 use Rattle.bus_machine.specs.Machine.{BusEvent, Start, Step, Finish, Send, Arrive, Drop, Repeat, is_allowed, after}
 use Rattle.bus_machine.specs.Machine.{arrival, early_stop}
 use Rattle.bus_machine.specs.Replay.{entries, start_entry, stop_entry}
@@ -53,8 +53,8 @@ use Rattle.run_laws.proofs.EntryForms.{lines_have_forms}
 use Rattle.run_laws.proofs.MissedLinks.{missed_link}
 use Rattle.run_laws.proofs.RuleKeepingLines.{BreakNone, audited, break_append, verdict_is, not_before, none_of}
 use Rattle.run_laws.proofs.RuleKeepingLines.{none_due}
-use Rattle.run_laws.proofs.VerdictBehindReport.{FirstHasForm, behind_report}
-use Rattle.run_laws.specs.proof.SoundTraces.{TracesAreSound}
+use Rattle.run_laws.proofs.TraceAndJournalVerdicts.{FirstHasForm, behind_report}
+use Rattle.run_laws.specs.proof.HistoryAndTraceLaws.{TracesAreSound}
 use Rattle.run_laws.proofs.SoundEntries.{AreLast, target_within}
 use Rattle.run_laws.proofs.SoundTraces.{length-noted, noted_last, opening_many, opening_last}
 use Rattle.run_laws.proofs.HistoryReplay.{replays}

@@ -5,12 +5,12 @@ use Rattle.std.specs.Prelude.{if◌then◌else◌, slice_index_or}
 use Rattle.std.proofs.lemmas.Bool.{false≢true, cases_lt}
 use Rattle.std.proofs.lemmas.Grind.{flat_map-append}
 use Rattle.std.proofs.lemmas.List.{get_or_past, length-map}
-use Rattle.bus_machine.proofs.QuantitiesAndSentRounds.{grows_at, stays_at}
+use Rattle.bus_machine.proofs.NodeReplacement.{grows_at, stays_at}
 use Rattle.bus_machine.proofs.SentRounds.{sent_at_start, sent_behind}
 use Rattle.list_lemmas.proofs.Numbers.{add_zero_from}
-use Rattle.pals_base.specs.declared.values.NodeNo.{NodeNo}
-use Rattle.pals_base.specs.declared.values.LinkNo.{LinkNo}
-use Rattle.pals_base.specs.declared.values.PortValue.{PortValue}
+use Rattle.pals_base.specs.declared.basic_types.NodeNo.{NodeNo}
+use Rattle.pals_base.specs.declared.basic_types.LinkNo.{LinkNo}
+use Rattle.pals_base.specs.declared.basic_types.PortValue.{PortValue}
 use Rattle.pals_base.specs.UpwardNumbers.{upwards}
 use Rattle.pals_base.proofs.UpwardNumbers.{length-upwards}
 use Rattle.pals_model.specs.ComponentInputs.{values_at}
@@ -26,18 +26,18 @@ use Rattle.bus_machine.specs.Nodes.{NodeState, round_of, opening_node, sent_roun
 use Rattle.bus_machine.specs.NodeEvents.{is_waiting, started, next_step, stepped, running_step, finished, may_send}
 use Rattle.bus_machine.specs.NodeEvents.{sent_from, with_message, arrived, received}
 use Rattle.bus_machine.specs.LinkEvents.{arriving}
-use Rattle.bus_machine.specs.States.{BusState, opening, node_at, no_node, flight_at, with_node}
+use Rattle.bus_machine.specs.BusStates.{BusState, opening, node_at, no_node, flight_at, with_node}
 use Rattle.bus_machine.specs.Runs.{Run}
-use Rattle.bus_machine.specs.MissedStarts.{missing_link}
+use Rattle.bus_machine.specs.MissedMessages.{missing_link}
 use Rattle.bus_machine.specs.Machine.{BusEvent, Start, Step, Finish, Send, Arrive, Drop, Repeat, after, after_start}
 use Rattle.bus_machine.specs.Machine.{after_send, after_arrive, on_step, is_allowed, arrival, early_stop}
 use Rattle.bus_machine.specs.Replay.{entries, start_entry, stop_entry}
 use Rattle.bus_machine.specs.Agreement.{PhaseAgrees, Agrees}
 use Rattle.bus_machine.specs.proof.AgreementLaws.{IsRunOf}
-use Rattle.bus_machine.proofs.NodeLocalAgreement.{finish_keeps, MaySend}
-use Rattle.bus_machine.proofs.AgreementChanges.{is_component}
+use Rattle.bus_machine.proofs.NodeEventLocalAgreement.{finish_keeps, MaySend}
+use Rattle.bus_machine.proofs.StateChangeAgreement.{is_component}
 use Rattle.bus_machine.proofs.MessageAndRunAgreement.{node_opens}
-use Rattle.bus_machine.proofs.NodeEventAgreement.{is_waiting_phase, sender_before}
+use Rattle.bus_machine.proofs.NodeEventBusAgreement.{is_waiting_phase, sender_before}
 use Rattle.run_laws.specs.JournalReadings.{listed, start_in, send_in, starts, sends}
 use Rattle.pals_clock.specs.declared.clock.Clocks.{Clocks}
 use Rattle.pals_clock.specs.declared.clock.Clocks.TheVariants.{Lists}

@@ -2,15 +2,15 @@
 use Rattle.std.proofs.Common.{◌≡◌, ◌∙◌, ℕ, List, [], ◌∷◌, Option, Some, None, refl, sym, ap}
 use Rattle.std.specs.List.{fold}
 use Rattle.std.proofs.lemmas.List.Sums.{fold-append}
-use Rattle.pals_base.specs.declared.values.NodeNo.{NodeNo}
-use Rattle.pals_base.specs.declared.values.LinkNo.{LinkNo}
+use Rattle.pals_base.specs.declared.basic_types.NodeNo.{NodeNo}
+use Rattle.pals_base.specs.declared.basic_types.LinkNo.{LinkNo}
 use Rattle.pals_runs.specs.declared.journal.Arrived.{Arrived}
 use Rattle.pals_runs.specs.declared.journal.Arrived.TheVariants.{Kept, Ignored, Early}
 use Rattle.pals_runs.specs.declared.journal.JournalEntry.{JournalEntry}
 use Rattle.pals_runs.specs.declared.journal.JournalEntry.TheVariants as entry
-use Rattle.bus_machine.specs.States.{BusState, opening}
+use Rattle.bus_machine.specs.BusStates.{BusState, opening}
 use Rattle.bus_machine.specs.Runs.{Run}
-use Rattle.bus_machine.specs.MissedStarts.{missing_link}
+use Rattle.bus_machine.specs.MissedMessages.{missing_link}
 use Rattle.bus_machine.specs.Machine.{BusEvent, Start, Step, Finish, Send, Arrive, Drop, Repeat, IsStep, after}
 use Rattle.bus_machine.specs.Machine.{after_start, after_arrive, arrival, early_stop}
 use Rattle.bus_machine.specs.Replay.{Replays, opens, goes_on, entries, start_entry, stop_entry}

@@ -3,7 +3,7 @@ pub mod TargetPicks
 pub mod ProgressByEvent
 pub mod NodePicks
 pub mod JournalStartsAndSends
-pub mod LinkEventEffects
+pub mod LinkTimingPreservation
 pub mod MissedLinks
 pub mod EventReadings
 pub mod LinkViews
@@ -17,7 +17,7 @@ pub mod StopCauses
 pub mod MeetingStopsAndBounds
 pub mod StartAndSendIndices
 pub mod StartSendAndStopPicks
-pub mod ListClockEnds
+pub mod ListRunEndsAndStops
 pub mod RunGuarantees
 pub mod LinePicks
 pub mod OldestCopies
@@ -25,7 +25,7 @@ pub mod EndedListClocks
 pub mod TwoCounterRuns
 pub mod MeetingLines
 pub mod RisingReadings
-pub mod DueArrivalsAndListPicks
+pub mod ClockAnswersAndDueArrivals
 pub mod RuleKeepingLines
 pub mod EntryRanges
 pub mod UniqueEntrySpelling
@@ -53,8 +53,8 @@ pub mod EntryLines
 pub mod ParsedEntryRanges
 pub mod TextLines
 pub mod ReportRows
-pub mod FormlessReports
-pub mod VerdictBehindReport
+pub mod ReportsWithoutJournalLines
+pub mod TraceAndJournalVerdicts
 pub mod TwoCounterTraces
 pub mod TimeArithmetic
 pub mod Lists
@@ -70,7 +70,7 @@ pub mod OpeningWorlds
 pub mod ArrivalTiming
 pub mod SendTiming
 pub mod KeptWorldInvariant
-pub mod MessageWhereabouts
+pub mod WorldMessageWhereabouts
 pub mod WorldTimeRanges
 pub mod TwoCounterWorlds
 pub mod StopBounds

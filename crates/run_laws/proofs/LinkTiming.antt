@@ -9,9 +9,9 @@ use Rattle.std.proofs.lemmas.Grind.{get_or-set_at}
 use Rattle.std.proofs.lemmas.List.{get_or-set_other, append-nil}
 use Rattle.std.proofs.lemmas.Option.{slice_get-get_or}
 use Rattle.list_lemmas.proofs.ElementPositions.{get_or-map_constant}
-use Rattle.pals_base.specs.declared.values.NodeNo.{NodeNo}
-use Rattle.pals_base.specs.declared.values.LinkNo.{LinkNo}
-use Rattle.pals_base.specs.declared.values.PortValue.{PortValue}
+use Rattle.pals_base.specs.declared.basic_types.NodeNo.{NodeNo}
+use Rattle.pals_base.specs.declared.basic_types.LinkNo.{LinkNo}
+use Rattle.pals_base.specs.declared.basic_types.PortValue.{PortValue}
 use Rattle.pals_model.specs.declared.design.Link.{Link}
 use Rattle.pals_model.specs.declared.flight_copy.FlightCopy.{FlightCopy}
 use Rattle.pals_model.specs.ComponentInputs.{values_at}
@@ -32,9 +32,9 @@ use Rattle.bus_machine.specs.Nodes.{NodeState, round_of, sent_rounds}
 use Rattle.bus_machine.specs.NodeEvents.{started, stepped, finished, sent_from, next_step, running_step, may_send}
 use Rattle.bus_machine.specs.NodeEvents.{received, with_message, slot_at, message_from}
 use Rattle.bus_machine.specs.LinkEvents.{arriving, sent_copy}
-use Rattle.bus_machine.specs.States.{BusState, opening, node_at, no_node, flight_at, with_node}
+use Rattle.bus_machine.specs.BusStates.{BusState, opening, node_at, no_node, flight_at, with_node}
 use Rattle.bus_machine.specs.Runs.{Run}
-use Rattle.bus_machine.specs.MissedStarts.{missing_link}
+use Rattle.bus_machine.specs.MissedMessages.{missing_link}
 use Rattle.bus_machine.specs.Machine.{BusEvent, Start, Step, Finish, Send, Arrive, Drop, Repeat, is_allowed, after}
 use Rattle.bus_machine.specs.Machine.{after_start, after_send, after_arrive, on_step, arrival, early_stop}
 use Rattle.bus_machine.specs.Machine.{flight_after_send}
@@ -43,11 +43,11 @@ use Rattle.bus_machine.specs.Replay.{entries, start_entry}
 use Rattle.bus_machine.specs.Agreement.{Agrees}
 use Rattle.bus_machine.specs.proof.AgreementLaws.{IsRunOf}
 use Rattle.bus_machine.proofs.ListsAndOldestCopies.{numbered_at}
-use Rattle.bus_machine.proofs.NodeLocalAgreement.{finish_keeps}
-use Rattle.bus_machine.proofs.AgreementChanges.{node_stays}
+use Rattle.bus_machine.proofs.NodeEventLocalAgreement.{finish_keeps}
+use Rattle.bus_machine.proofs.StateChangeAgreement.{node_stays}
 use Rattle.bus_machine.proofs.MessageAndRunAgreement.{node_opens}
-use Rattle.bus_machine.proofs.QuantitiesAndSentRounds.{keeps_at}
-use Rattle.bus_machine.proofs.NodeEventAgreement.{sender_before}
+use Rattle.bus_machine.proofs.NodeReplacement.{keeps_at}
+use Rattle.bus_machine.proofs.NodeEventBusAgreement.{sender_before}
 use Rattle.run_laws.specs.JournalReadings.{if_at, start_in, send_in, starts, sends, latest}
 use Rattle.pals_clock.specs.declared.clock.Clocks.{Clocks}
 use Rattle.pals_clock.specs.declared.clock.Clocks.TheVariants.{Lists}
@@ -55,7 +55,7 @@ use Rattle.run_laws.specs.Runs.{Takes, KeepsTo, Runs, opens, picks_for, goes_on}
 use Rattle.run_laws.specs.proof.LinkTiming.{early_on, view, LinksAreTimed}
 use Rattle.run_laws.proofs.NodePicks.{runs_agree}
 use Rattle.run_laws.proofs.JournalStartsAndSends.{rounds_are_shown, stop_shows}
-use Rattle.run_laws.proofs.LinkEventEffects.{goes_start, goes_send, goes_arrive, slot_after, taken_after, arrived_at}
+use Rattle.run_laws.proofs.LinkTimingPreservation.{goes_start, goes_send, goes_arrive, slot_after, taken_after, arrived_at}
 use Rattle.run_laws.proofs.MissedLinks.{full_slot}
 use Rattle.run_laws.proofs.MeetingReadings.{no_fall}
 use Rattle.run_laws.proofs.EventReadings.{does_read, start_tells, arrive_tells, event_tells, later, latest_after}

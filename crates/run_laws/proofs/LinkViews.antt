@@ -4,19 +4,19 @@ use Rattle.std.proofs.Common.{None, refl, sym, ap, ap₂, ◌∙◌, subst, arit
 use Rattle.std.proofs.lemmas.Bool.{eqb-true, eq-eqb, ne_eqb}
 use Rattle.std.proofs.lemmas.Grind.{flat_map-append}
 use Rattle.std.proofs.lemmas.List.{append-nil}
-use Rattle.pals_base.specs.declared.values.NodeNo.{NodeNo}
+use Rattle.pals_base.specs.declared.basic_types.NodeNo.{NodeNo}
 use Rattle.pals_model.specs.declared.design.Link.{Link}
 use Rattle.pals_model.specs.Delays.{delay_of}
 use Rattle.pals_runs.specs.declared.journal.JournalEntry.{JournalEntry}
 use Rattle.bus_machine.specs.NodeEvents.{slot_at}
-use Rattle.bus_machine.specs.States.{BusState, node_at, flight_at}
+use Rattle.bus_machine.specs.BusStates.{BusState, node_at, flight_at}
 use Rattle.bus_machine.specs.Runs.{Run}
 use Rattle.bus_machine.specs.Machine.{BusEvent}
 use Rattle.bus_machine.specs.Replay.{entries}
 use Rattle.run_laws.specs.JournalReadings.{listed, if_at, start_in, send_in, starts, sends, latest}
 use Rattle.pals_clock.specs.declared.clock.Clocks.{Clocks}
 use Rattle.run_laws.specs.proof.LinkTiming.{LinkView, early_on, view, IsTimed}
-use Rattle.run_laws.proofs.LinkEventEffects.{goes_later}
+use Rattle.run_laws.proofs.LinkTimingPreservation.{goes_later}
 use Rattle.run_laws.proofs.EventReadings.{Told, none_told, is_told, latest_after, NoFall}
 
 -- ---- equal views

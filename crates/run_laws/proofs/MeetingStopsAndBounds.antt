@@ -1,11 +1,10 @@
--- What a stop tells with nodes that meet, and with any clocks the bounds that it keeps: MeetingsStop, MeetingsEnd
--- and StopsAreBounded.
+-- What a stop tells with nodes that meet, and the bounds that it keeps: MeetingsStop and MeetingsEnd.
 use Rattle.std.proofs.Common.{◌≡◌, ℕ, zero, suc, ◌+◌, ◌-◌, ◌*◌, ◌/◌, ◌<◌, ◌≤◌, max, List, length, slice_get, Option}
 use Rattle.std.proofs.Common.{Some, None, refl, sym, ap, ◌∙◌, subst, arith}
 use Rattle.std.specs.Prelude.{IfSome}
 use Rattle.std.proofs.lemmas.Grind.{common_steps}
 use Rattle.std.proofs.lemmas.Option.{get_or_from_slice_get, slice_get_within, slice_get-get_or}
-use Rattle.pals_base.specs.PeriodBound.{alarm, backoff, step_period, sent_steps}
+use Rattle.pals_base.specs.PeriodBoundAndReleases.{alarm, backoff, step_period, sent_steps}
 use Rattle.pals_model.specs.declared.design.Link.{Link}
 use Rattle.pals_model.specs.Delays.{delay_of}
 use Rattle.pals_model.specs.DesignRules.{IsLink}
@@ -16,7 +15,7 @@ use Rattle.pals_runs.specs.declared.journal.Stop.{Stop}
 use Rattle.pals_runs.specs.declared.journal.Stop.TheVariants as stop
 use Rattle.pals_runs.specs.declared.journal.JournalEntry.{JournalEntry}
 use Rattle.bus_machine.specs.Plans.{plan_of, component_at, link_at, no_link}
-use Rattle.bus_machine.specs.States.{BusState, node_at}
+use Rattle.bus_machine.specs.BusStates.{BusState, node_at}
 use Rattle.bus_machine.specs.Runs.{Run}
 use Rattle.bus_machine.specs.Agreement.{PhaseAgrees}
 use Rattle.bus_machine.specs.proof.AgreementLaws.{IsRunOf}
@@ -24,7 +23,7 @@ use Rattle.run_laws.specs.JournalReadings.{sends}
 use Rattle.pals_clock.specs.declared.clock.Clocks.TheVariants.{Meet}
 use Rattle.run_laws.specs.Runs.{Runs}
 use Rattle.run_laws.specs.proof.LinkTiming.{due_of}
-use Rattle.run_laws.specs.proof.ReadingsAndStops.{StopsAtStart, CauseFits, StopFits}
+use Rattle.run_laws.specs.proof.ReadingsAndStopCauses.{StopsAtStart, CauseFits, StopFits}
 use Rattle.run_laws.specs.Meetings.{IsLate, MeetingStop}
 use Rattle.run_laws.specs.StopBounds.{DelaysFit}
 use Rattle.run_laws.specs.proof.MeetingLaws.{MeetingsStop, MeetingsEnd, NoMeetingStops}
@@ -34,7 +33,7 @@ use Rattle.run_laws.proofs.RisingTargets.{next_alarm}
 use Rattle.run_laws.proofs.StartAndSendReadings.{all_times_fit}
 use Rattle.run_laws.proofs.SentBeforeStart.{alarm_le}
 use Rattle.run_laws.proofs.StopCauses.{stops_fit}
-use Rattle.run_laws.proofs.LinkEventEffects.{sent_of}
+use Rattle.run_laws.proofs.LinkTimingPreservation.{sent_of}
 
 -- ---- the reading of a due reading's send
 pub link_is : (run : Run) (number : ℕ) (link : Link) → slice_get run.design.links number ≡ Some link

@@ -8,7 +8,7 @@ use Rattle.std.proofs.lemmas.Option.{slice_get-map, get_or_from_slice_get, slice
 use Rattle.list_lemmas.proofs.ElementPositions.{slice_get-zip}
 use Rattle.list_lemmas.proofs.Options.{option_map-parts, option_map-none, none_by_test}
 use Rattle.run_laws.proofs.Lists.{zipped_at}
-use Rattle.pals_base.specs.declared.values.PortValue.{PortValue}
+use Rattle.pals_base.specs.declared.basic_types.PortValue.{PortValue}
 use Rattle.pals_base.specs.UpwardNumbers.{upwards}
 use Rattle.pals_base.proofs.UpwardNumbers.{upwards_is, slice_get-upwards}
 use Rattle.pals_model.specs.declared.design.Link.{Link}
@@ -24,9 +24,9 @@ use Rattle.pals_model.proofs.SourceLaws.{link_is_source, from_link_is}
 use Rattle.bus_machine.specs.declared.plan.Input.{Input}
 use Rattle.bus_machine.specs.Plans.{plan_of, component_at, no_component, input_of, input_from_feed, input_from_link}
 use Rattle.bus_machine.specs.NodeEvents.{lacks, missing, slot_at}
-use Rattle.bus_machine.specs.States.{BusState, node_at}
+use Rattle.bus_machine.specs.BusStates.{BusState, node_at}
 use Rattle.bus_machine.specs.Runs.{Run}
-use Rattle.bus_machine.specs.MissedStarts.{link_into, missing_link}
+use Rattle.bus_machine.specs.MissedMessages.{link_into, missing_link}
 use Rattle.bus_machine.specs.Agreement.{Agrees}
 use Rattle.bus_machine.specs.proof.AgreementLaws.{IsRunOf}
 use Rattle.bus_machine.proofs.ListsAndOldestCopies.{none_found}

@@ -6,11 +6,11 @@ use Rattle.std.proofs.lemmas.Bool.{cases_eq, eqb-true, eqb-false}
 use Rattle.std.proofs.lemmas.Grind.{get_or-set_at, flat_map-append}
 use Rattle.std.proofs.lemmas.List.{length-set, get_or-set_other, append-nil}
 use Rattle.std.proofs.lemmas.Option.{slice_get-get_or}
-use Rattle.pals_base.specs.declared.values.NodeNo.{NodeNo}
-use Rattle.pals_base.specs.declared.period_bound.Gamma.{Gamma}
-use Rattle.pals_base.specs.declared.values.LinkNo.{LinkNo}
+use Rattle.pals_base.specs.declared.basic_types.NodeNo.{NodeNo}
+use Rattle.pals_base.specs.declared.period_bound_and_releases.Gamma.{Gamma}
+use Rattle.pals_base.specs.declared.basic_types.LinkNo.{LinkNo}
 use Rattle.pals_base.specs.ClockPicks.{remaining_from}
-use Rattle.pals_base.specs.PeriodBound.{sent_steps}
+use Rattle.pals_base.specs.PeriodBoundAndReleases.{sent_steps}
 use Rattle.pals_clock.specs.ClockStates.{ClockState, standing_at}
 use Rattle.pals_model.specs.declared.design.Component.{Component}
 use Rattle.pals_model.specs.ComponentInputs.{values_at}
@@ -27,9 +27,9 @@ use Rattle.bus_machine.specs.Nodes.{NodeState, round_of}
 use Rattle.bus_machine.specs.NodeEvents.{started, stepped, finished, sent_from, next_step, running_step, received}
 use Rattle.bus_machine.specs.NodeEvents.{arrived}
 use Rattle.bus_machine.specs.LinkEvents.{arriving}
-use Rattle.bus_machine.specs.States.{BusState, opening, node_at, no_node, flight_at, with_node}
+use Rattle.bus_machine.specs.BusStates.{BusState, opening, node_at, no_node, flight_at, with_node}
 use Rattle.bus_machine.specs.Runs.{Run}
-use Rattle.bus_machine.specs.MissedStarts.{missing_link}
+use Rattle.bus_machine.specs.MissedMessages.{missing_link}
 use Rattle.bus_machine.specs.Machine.{BusEvent, Start, Step, Finish, Send, Arrive, Drop, Repeat, IsStep, is_allowed}
 use Rattle.bus_machine.specs.Machine.{after, after_start, after_send, after_arrive, on_step, arrival, early_stop}
 use Rattle.bus_machine.specs.Replay.{Replays, entries, start_entry, stop_entry, opens as replay_opens}
@@ -39,7 +39,7 @@ use Rattle.bus_machine.specs.proof.AgreementLaws.{IsRunOf}
 use Rattle.bus_machine.specs.declared.node_action.NodeAction.{NodeAction}
 use Rattle.bus_machine.specs.declared.node_action.NodeAction.TheVariants as action
 use Rattle.bus_machine.specs.ActionsAndTargets.{target, targets, next_in}
-use Rattle.bus_machine.proofs.AgreementChanges.{node_stays}
+use Rattle.bus_machine.proofs.StateChangeAgreement.{node_stays}
 use Rattle.bus_machine.proofs.MessageAndRunAgreement.{replay_agrees, node_opens}
 use Rattle.run_laws.specs.JournalReadings.{listed, if_at, act_in, acts}
 use Rattle.run_laws.specs.NodeActions.{upcoming, Follows}

@@ -6,17 +6,17 @@ use Rattle.std.proofs.lemmas.Bool.{and_right, le-ltb, false≢true}
 use Rattle.std.proofs.lemmas.List.{length-map}
 use Rattle.std.proofs.lemmas.Option.{none-some}
 use Rattle.list_lemmas.proofs.ElementPositions.{get_or-map_constant}
-use Rattle.pals_base.specs.declared.values.PortValue.{PortValue}
+use Rattle.pals_base.specs.declared.basic_types.PortValue.{PortValue}
 use Rattle.pals_model.specs.declared.design.Component.{Component}
 use Rattle.pals_model.specs.declared.flight_copy.FlightCopy.{FlightCopy}
 use Rattle.pals_runs.specs.declared.phase.Phase.TheVariants.{Waiting, Running}
 use Rattle.bus_machine.specs.Plans.{plan_of, link_at}
 use Rattle.bus_machine.specs.Nodes.{NodeState, opening_node, sent_rounds}
 use Rattle.bus_machine.specs.NodeEvents.{slot_at}
-use Rattle.bus_machine.specs.EarliestReadings.{start_alarm}
-use Rattle.bus_machine.specs.States.{opening, node_at, flight_at}
+use Rattle.bus_machine.specs.AlarmsAndReleases.{start_alarm}
+use Rattle.bus_machine.specs.BusStates.{opening, node_at, flight_at}
 use Rattle.bus_machine.specs.Runs.{Run}
-use Rattle.bus_machine.specs.MissedStarts.{rounds_sent_on}
+use Rattle.bus_machine.specs.MissedMessages.{rounds_sent_on}
 use Rattle.bus_machine.specs.proof.AgreementLaws.{IsRunOf}
 use Rattle.run_laws.specs.Deadlines.{last_before}
 use Rattle.run_laws.specs.Worlds.{opening_world, reading_at, since_at, ready_at}

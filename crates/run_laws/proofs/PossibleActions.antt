@@ -9,7 +9,7 @@ use Rattle.std.proofs.lemmas.Bool.{cases_eq, false≢true, ltb-false, and_from, 
 use Rattle.std.proofs.lemmas.Grind.{common_steps}
 use Rattle.std.proofs.lemmas.List.Elements.{All-cons, All-nil}
 use Rattle.std.proofs.lemmas.Option.{same_Some, slice_get_within, slice_get-get_or}
-use Rattle.pals_base.specs.declared.values.NodeNo.{NodeNo}
+use Rattle.pals_base.specs.declared.basic_types.NodeNo.{NodeNo}
 use Rattle.pals_model.specs.declared.design.Link.{Link}
 use Rattle.pals_model.specs.declared.flight_copy.FlightCopy.{FlightCopy}
 use Rattle.pals_runs.specs.declared.phase.Phase.{Phase}
@@ -20,7 +20,7 @@ use Rattle.bus_machine.specs.declared.node_action.NodeAction.TheVariants as acti
 use Rattle.bus_machine.specs.Plans.{plan_of, component_at, link_at, no_link}
 use Rattle.bus_machine.specs.Nodes.{round_of, finished_steps}
 use Rattle.bus_machine.specs.NodeEvents.{is_waiting, next_step, running_step}
-use Rattle.bus_machine.specs.States.{BusState, node_at, flight_at}
+use Rattle.bus_machine.specs.BusStates.{BusState, node_at, flight_at}
 use Rattle.bus_machine.specs.Runs.{Run}
 use Rattle.bus_machine.specs.Machine.{BusEvent, Start, Step, Finish, Send, Arrive, is_allowed}
 use Rattle.bus_machine.specs.ActionsAndTargets.{Progress, send_is_next, next_in}
@@ -29,9 +29,9 @@ use Rattle.bus_machine.specs.proof.AgreementLaws.{IsRunOf}
 use Rattle.run_laws.specs.TraceRules.{is_due}
 use Rattle.pals_clock.specs.declared.clock.Clocks.{Clocks}
 use Rattle.run_laws.specs.Runs.{Does, IsAwaited, KeepsTo, Runs, next_start}
-use Rattle.run_laws.specs.proof.StepsUnderLock.{IsDueAt}
+use Rattle.run_laws.specs.proof.ClockAnswersAndDueArrivals.{IsDueAt}
 use Rattle.run_laws.proofs.NodePicks.{runs_agree, node_agrees, plan_rules}
-use Rattle.run_laws.proofs.DueArrivalsAndListPicks.{due_takes}
+use Rattle.run_laws.proofs.ClockAnswersAndDueArrivals.{due_takes}
 use Rattle.run_laws.proofs.BoundedSearch.{first_or_none}
 
 -- ---- what is possible

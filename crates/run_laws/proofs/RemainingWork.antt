@@ -9,9 +9,9 @@ use Rattle.std.proofs.lemmas.Bool.{and_parts, not-true, false≢true, ltb-true}
 use Rattle.std.proofs.lemmas.Grind.{common_steps, get_or-set_at}
 use Rattle.std.proofs.lemmas.List.{get_or-set_other}
 use Rattle.std.proofs.lemmas.Option.{slice_get-get_or}
-use Rattle.pals_base.specs.declared.values.NodeNo.{NodeNo}
-use Rattle.pals_base.specs.declared.values.LinkNo.{LinkNo}
-use Rattle.pals_base.specs.declared.values.PortValue.{PortValue}
+use Rattle.pals_base.specs.declared.basic_types.NodeNo.{NodeNo}
+use Rattle.pals_base.specs.declared.basic_types.LinkNo.{LinkNo}
+use Rattle.pals_base.specs.declared.basic_types.PortValue.{PortValue}
 use Rattle.pals_model.specs.declared.design.Component.{Component}
 use Rattle.pals_model.specs.declared.design.Link.{Link}
 use Rattle.pals_model.specs.declared.flight_copy.FlightCopy.{FlightCopy}
@@ -30,9 +30,9 @@ use Rattle.bus_machine.specs.NodeEvents.{is_waiting, started, next_step, stepped
 use Rattle.bus_machine.specs.NodeEvents.{may_send, after_send as phase_after_send, sent_from, message_from, arrived}
 use Rattle.bus_machine.specs.NodeEvents.{received}
 use Rattle.bus_machine.specs.LinkEvents.{sent_copy, arriving}
-use Rattle.bus_machine.specs.States.{BusState, opening, node_at, flight_at, with_node}
+use Rattle.bus_machine.specs.BusStates.{BusState, opening, node_at, flight_at, with_node}
 use Rattle.bus_machine.specs.Runs.{Run}
-use Rattle.bus_machine.specs.MissedStarts.{missing_link}
+use Rattle.bus_machine.specs.MissedMessages.{missing_link}
 use Rattle.bus_machine.specs.Machine.{BusEvent, Start, Step, Finish, Send, Arrive, Drop, Repeat, is_allowed, after}
 use Rattle.bus_machine.specs.Machine.{after_start, after_send, after_arrive, on_step, flight_after_send, arrival}
 use Rattle.bus_machine.specs.Machine.{early_stop}
@@ -40,16 +40,16 @@ use Rattle.bus_machine.specs.Replay.{entries, stop_entry}
 use Rattle.bus_machine.specs.Agreement.{PhaseAgrees, Agrees}
 use Rattle.bus_machine.specs.proof.AgreementLaws.{IsRunOf}
 use Rattle.bus_machine.proofs.ListsAndOldestCopies.{numbered_at}
-use Rattle.bus_machine.proofs.AgreementChanges.{node_set, node_stays}
+use Rattle.bus_machine.proofs.StateChangeAgreement.{node_set, node_stays}
 use Rattle.bus_machine.proofs.MessageAndRunAgreement.{node_opens}
-use Rattle.bus_machine.proofs.NodeEventAgreement.{is_waiting_phase}
+use Rattle.bus_machine.proofs.NodeEventBusAgreement.{is_waiting_phase}
 use Rattle.pals_clock.specs.declared.clock.Clocks.{Clocks}
 use Rattle.run_laws.specs.Runs.{KeepsTo}
 use Rattle.run_laws.specs.proof.LinkTiming.{one_if}
 use Rattle.run_laws.specs.proof.RunTermination.{most_lines}
 use Rattle.run_laws.proofs.NodePicks.{node_agrees, below_nodes, plan_rules}
-use Rattle.run_laws.proofs.LinkEventEffects.{without_by}
-use Rattle.run_laws.proofs.DueArrivalsAndListPicks.{message_keeps}
+use Rattle.run_laws.proofs.LinkTimingPreservation.{without_by}
+use Rattle.run_laws.proofs.ClockAnswersAndDueArrivals.{message_keeps}
 use Rattle.run_laws.proofs.Sums.{sum_below, sum_stays, sum_rises, sum_falls, sum_none, sum_scale, sum_both, sum_columns}
 use Rattle.run_laws.proofs.Sums.{one_is, sum_list}
 

@@ -4,8 +4,8 @@ use Rattle.std.proofs.Common.{refl, sym, ap, ◌∙◌, subst, arith}
 use Rattle.std.specs.Option.{unwrap_or}
 use Rattle.std.proofs.lemmas.List.{append-nil, append_assoc}
 use Rattle.std.proofs.lemmas.Option.{same_Some}
-use Rattle.pals_base.specs.declared.values.NodeNo.{NodeNo}
-use Rattle.pals_base.specs.declared.values.LinkNo.{LinkNo}
+use Rattle.pals_base.specs.declared.basic_types.NodeNo.{NodeNo}
+use Rattle.pals_base.specs.declared.basic_types.LinkNo.{LinkNo}
 use Rattle.pals_model.specs.declared.design.Link.{Link}
 use Rattle.pals_runs.specs.declared.journal.Arrived.{Arrived}
 use Rattle.pals_runs.specs.declared.journal.Arrived.TheVariants.{Kept, Ignored, Early}
@@ -14,10 +14,10 @@ use Rattle.pals_runs.specs.declared.journal.JournalEntry.{JournalEntry}
 use Rattle.pals_runs.specs.declared.journal.JournalEntry.TheVariants as entry
 use Rattle.bus_machine.specs.Nodes.{round_of}
 use Rattle.bus_machine.specs.NodeEvents.{next_step}
-use Rattle.bus_machine.specs.States.{BusState, node_at}
+use Rattle.bus_machine.specs.BusStates.{BusState, node_at}
 use Rattle.bus_machine.specs.Plans.{link_at}
 use Rattle.bus_machine.specs.Runs.{Run}
-use Rattle.bus_machine.specs.MissedStarts.{missing_link}
+use Rattle.bus_machine.specs.MissedMessages.{missing_link}
 use Rattle.bus_machine.specs.Machine.{BusEvent, Start, Step, Finish, Send, Arrive, Drop, Repeat, arrival, early_stop}
 use Rattle.bus_machine.specs.Replay.{entries, start_entry, stop_entry}
 use Rattle.bus_machine.specs.proof.AgreementLaws.{IsRunOf}

@@ -8,8 +8,8 @@ use Rattle.std.proofs.lemmas.Bool.{ltb-false, eqb-true, leb-true, false≢true, 
 use Rattle.std.proofs.lemmas.Grind.{common_steps}
 use Rattle.std.proofs.lemmas.Option.{same_Some}
 use Rattle.list_lemmas.proofs.Booleans.{or_second}
-use Rattle.pals_base.specs.declared.values.PortValue.{PortValue}
-use Rattle.pals_base.specs.PeriodBound.{step_period, sent_steps, alarm}
+use Rattle.pals_base.specs.declared.basic_types.PortValue.{PortValue}
+use Rattle.pals_base.specs.PeriodBoundAndReleases.{step_period, sent_steps, alarm}
 use Rattle.pals_model.specs.DesignRules.{IsComponent}
 use Rattle.pals_model.proofs.FirstMatches.{at_element}
 use Rattle.pals_runs.specs.declared.phase.Phase.{Phase}

@@ -5,10 +5,10 @@ use Rattle.pals_model.specs.proof.CompositionLaws.TextLines.{IsLine}
 use Rattle.pals_model.specs.RoundTexts.{report_lines}
 use Rattle.pals_model.specs.DesignRules.{IsDesign}
 use Rattle.pals_model.specs.declared.design.DesignParts.{DesignParts}
-use Rattle.pals_model.proofs.LineLaws.{report_has_lines}
+use Rattle.pals_model.proofs.TextLineLaws.{report_has_lines}
 use Rattle.pals_runs.specs.declared.journal.JournalEntry.{JournalEntry}
 use Rattle.pals_runs.specs.JournalLines.{entry_line}
-use Rattle.bus_machine.specs.States.{finished_by_all}
+use Rattle.bus_machine.specs.BusStates.{finished_by_all}
 use Rattle.run_laws.specs.EntriesOfDesigns.{IsEntryIn}
 use Rattle.run_laws.specs.HistoriesAndTraces.{trace_of}
 use Rattle.run_laws.specs.proof.RunTraces.{RunsAreSound, TracesAreTexts, RunsAreTraces}

@@ -9,9 +9,9 @@ use Rattle.std.proofs.lemmas.Grind.{get_or-set_at}
 use Rattle.std.proofs.lemmas.List.{length-set, get_or-set_other, get_or_append_left}
 use Rattle.std.proofs.Math.Seq.{get_or-append_seam}
 use Rattle.std.proofs.lemmas.Option.{none-some}
-use Rattle.pals_base.specs.declared.values.NodeNo.{NodeNo}
-use Rattle.pals_base.specs.declared.values.PortValue.{PortValue}
-use Rattle.pals_base.specs.PeriodBound.{alarm}
+use Rattle.pals_base.specs.declared.basic_types.NodeNo.{NodeNo}
+use Rattle.pals_base.specs.declared.basic_types.PortValue.{PortValue}
+use Rattle.pals_base.specs.PeriodBoundAndReleases.{alarm}
 use Rattle.pals_model.specs.declared.design.Link.{Link}
 use Rattle.pals_model.specs.declared.flight_copy.FlightCopy.{FlightCopy}
 use Rattle.pals_model.specs.Delays.{delay_of}
@@ -24,8 +24,8 @@ use Rattle.bus_machine.specs.Plans.{plan_of, component_at, link_at}
 use Rattle.bus_machine.specs.Nodes.{NodeState, round_of, finished_steps, at_rest, sent_rounds}
 use Rattle.bus_machine.specs.NodeEvents.{may_send, sent_from, after_send, message_from, slot_at}
 use Rattle.bus_machine.specs.LinkEvents.{is_in_flight, sent_copy}
-use Rattle.bus_machine.specs.EarliestReadings.{start_alarm, step_alarm, release_reading}
-use Rattle.bus_machine.specs.States.{BusState, node_at, flight_at}
+use Rattle.bus_machine.specs.AlarmsAndReleases.{start_alarm, step_alarm, release_reading}
+use Rattle.bus_machine.specs.BusStates.{BusState, node_at, flight_at}
 use Rattle.bus_machine.specs.Runs.{Run}
 use Rattle.bus_machine.specs.Machine.{flight_after_send}
 use Rattle.bus_machine.specs.Machine as machine
@@ -33,10 +33,10 @@ use Rattle.bus_machine.specs.proof.AgreementLaws.{IsRunOf}
 use Rattle.run_laws.specs.Deadlines.{last_before, lesser}
 use Rattle.run_laws.specs.Worlds.{World, reading_at, since_at, ready_at, sendings, moved, is_held, world_after}
 use Rattle.bus_machine.proofs.ListsAndOldestCopies.{numbered_at}
-use Rattle.bus_machine.proofs.NodeLocalAgreement.{MaySend, may_send_of}
-use Rattle.bus_machine.proofs.AgreementChanges.{node_set, node_stays}
-use Rattle.bus_machine.proofs.NodeEventAgreement.{send_keeps}
-use Rattle.bus_machine.proofs.QuantitiesAndSentRounds.{keeps_at}
+use Rattle.bus_machine.proofs.NodeEventLocalAgreement.{MaySend, may_send_of}
+use Rattle.bus_machine.proofs.StateChangeAgreement.{node_set, node_stays}
+use Rattle.bus_machine.proofs.NodeEventBusAgreement.{send_keeps}
+use Rattle.bus_machine.proofs.NodeReplacement.{keeps_at}
 use Rattle.run_laws.specs.proof.WorldInvariant.{KeepsDeadline, RunsSince, IsSentAt, IsOnce, copies, waits, taken, one_if}
 use Rattle.run_laws.specs.proof.WorldInvariant.{KeepsLink, KeepsTime}
 use Rattle.run_laws.proofs.TimeArithmetic.{sent_prompt}

@@ -29,7 +29,7 @@ use Rattle.pals_runs.specs.declared.verdicts.Verdict.{Verdict}
 use Rattle.pals_runs.specs.declared.verdicts.Verdict.TheVariants.{Sound, Wrong}
 use Rattle.pals_runs.specs.JournalLines.{entry_line}
 use Rattle.bus_machine.specs.Nodes.{NodeState}
-use Rattle.bus_machine.specs.States.{BusState, opening, finished_by_all, no_node}
+use Rattle.bus_machine.specs.BusStates.{BusState, opening, finished_by_all, no_node}
 use Rattle.bus_machine.specs.Plans.{link_at}
 use Rattle.bus_machine.specs.Runs.{Run}
 use Rattle.bus_machine.specs.Machine.{after}
@@ -46,7 +46,7 @@ use Rattle.run_laws.specs.EntriesOfDesigns.{IsEntryIn}
 use Rattle.run_laws.specs.HistoriesAndTraces.{IsStoppedOrDone, History, opens, goes_on, IsTraceOf}
 use Rattle.run_laws.proofs.EntryLines.{lines_differ}
 use Rattle.run_laws.proofs.ParsedEntryRanges.{told_are_in}
-use Rattle.run_laws.specs.proof.SoundTraces.{SoundAreTraces}
+use Rattle.run_laws.specs.proof.HistoryAndTraceLaws.{SoundAreTraces}
 use Rattle.run_laws.proofs.UniqueEntrySpelling.{told_is_line}
 use Rattle.run_laws.proofs.SoundRows.{report_is}
 use Rattle.run_laws.proofs.SoundEntries.{listed, AreLast, target_within, entry_next}

@@ -5,8 +5,8 @@ use Rattle.std.proofs.lemmas.Bool.{eqb-true}
 use Rattle.std.proofs.lemmas.Grind.{flat_map-append}
 use Rattle.std.proofs.lemmas.List.{append-nil}
 use Rattle.std.proofs.lemmas.Option.{same_Some}
-use Rattle.pals_base.specs.declared.values.NodeNo.{NodeNo}
-use Rattle.pals_base.specs.PeriodBound.{alarm}
+use Rattle.pals_base.specs.declared.basic_types.NodeNo.{NodeNo}
+use Rattle.pals_base.specs.PeriodBoundAndReleases.{alarm}
 use Rattle.pals_clock.specs.ClockStates.{ClockState}
 use Rattle.pals_runs.specs.declared.phase.Phase.{Phase}
 use Rattle.pals_runs.specs.declared.phase.Phase.TheVariants.{Waiting, Running, Between, Holding, Done}
@@ -14,9 +14,9 @@ use Rattle.pals_runs.specs.declared.journal.JournalEntry.{JournalEntry}
 use Rattle.bus_machine.specs.declared.plan.Plan.{Plan}
 use Rattle.bus_machine.specs.Plans.{plan_of}
 use Rattle.bus_machine.specs.Nodes.{NodeState, round_of, sent_rounds}
-use Rattle.bus_machine.specs.States.{BusState, node_at}
+use Rattle.bus_machine.specs.BusStates.{BusState, node_at}
 use Rattle.bus_machine.specs.Runs.{Run}
-use Rattle.bus_machine.specs.MissedStarts.{missing_link}
+use Rattle.bus_machine.specs.MissedMessages.{missing_link}
 use Rattle.bus_machine.specs.Machine.{BusEvent, Start, Step, Finish, Send, Arrive, Drop, Repeat, is_allowed, arrival}
 use Rattle.bus_machine.specs.Machine.{early_stop}
 use Rattle.bus_machine.specs.Replay.{entries, start_entry}
@@ -24,12 +24,12 @@ use Rattle.bus_machine.specs.Agreement.{Agrees}
 use Rattle.bus_machine.specs.proof.AgreementLaws.{IsRunOf}
 use Rattle.bus_machine.specs.declared.node_action.NodeAction.TheVariants as action
 use Rattle.bus_machine.specs.ActionsAndTargets.{Progress, send_is_next, next_in}
-use Rattle.bus_machine.proofs.NodeEventAgreement.{sender_before}
+use Rattle.bus_machine.proofs.NodeEventBusAgreement.{sender_before}
 use Rattle.run_laws.specs.JournalReadings.{listed, start_in, send_in, starts, sends}
 use Rattle.pals_clock.specs.declared.clock.Clocks.{Clocks}
 use Rattle.pals_clock.specs.declared.clock.Clocks.TheVariants.{Meet, Lists}
 use Rattle.run_laws.specs.Runs.{Shows, Does, KeepsTo, Runs, opens, picks_for, goes_on}
-use Rattle.run_laws.specs.proof.ReadingsAndStops.{IsFor, TimesFit}
+use Rattle.run_laws.specs.proof.ReadingsAndStopCauses.{IsFor, TimesFit}
 use Rattle.run_laws.proofs.NodePicks.{runs_agree}
 use Rattle.run_laws.proofs.JournalStartsAndSends.{rounds_are_shown, stop_shows}
 use Rattle.run_laws.proofs.LinkTiming.{unsent_round}

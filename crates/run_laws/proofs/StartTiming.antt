@@ -11,9 +11,9 @@ use Rattle.std.proofs.lemmas.Option.{slice_get-get_or, slice_get_within, slice_g
 use Rattle.std.proofs.lemmas.Option.{same_Some}
 use Rattle.list_lemmas.proofs.Options.{option_map-parts}
 use Rattle.list_lemmas.proofs.ElementPositions.{get_or-map_constant}
-use Rattle.pals_base.specs.declared.values.NodeNo.{NodeNo}
-use Rattle.pals_base.specs.declared.values.PortValue.{PortValue}
-use Rattle.pals_base.specs.PeriodBound.{alarm}
+use Rattle.pals_base.specs.declared.basic_types.NodeNo.{NodeNo}
+use Rattle.pals_base.specs.declared.basic_types.PortValue.{PortValue}
+use Rattle.pals_base.specs.PeriodBoundAndReleases.{alarm}
 use Rattle.pals_model.specs.declared.design.Link.{Link}
 use Rattle.pals_model.specs.declared.design.Feed.{Feed}
 use Rattle.pals_model.specs.declared.design.DesignParts.{DesignParts}
@@ -30,17 +30,17 @@ use Rattle.bus_machine.specs.declared.plan.Plan.{Plan}
 use Rattle.bus_machine.specs.Plans.{plan_of, component_at, input_of, input_from_feed, input_from_link, link_at}
 use Rattle.bus_machine.specs.Nodes.{NodeState, sent_rounds}
 use Rattle.bus_machine.specs.NodeEvents.{lacks, missing, started, slot_at, may_send}
-use Rattle.bus_machine.specs.EarliestReadings.{step_alarm}
-use Rattle.bus_machine.specs.States.{BusState, node_at, flight_at, with_node}
+use Rattle.bus_machine.specs.AlarmsAndReleases.{step_alarm}
+use Rattle.bus_machine.specs.BusStates.{BusState, node_at, flight_at, with_node}
 use Rattle.bus_machine.specs.Runs.{Run}
-use Rattle.bus_machine.specs.MissedStarts.{missing_link, link_into}
+use Rattle.bus_machine.specs.MissedMessages.{missing_link, link_into}
 use Rattle.bus_machine.specs.Machine.{after_start}
 use Rattle.bus_machine.specs.proof.AgreementLaws.{IsRunOf}
 use Rattle.run_laws.specs.Worlds.{World, reading_at, ready_at, sendings, moved, world_after}
 use Rattle.bus_machine.specs.Agreement.{PhaseAgrees, SlotAgrees}
-use Rattle.bus_machine.proofs.AgreementChanges.{node_set, node_stays}
-use Rattle.bus_machine.proofs.NodeEventAgreement.{start_keeps, is_waiting_phase}
-use Rattle.bus_machine.proofs.QuantitiesAndSentRounds.{keeps_at}
+use Rattle.bus_machine.proofs.StateChangeAgreement.{node_set, node_stays}
+use Rattle.bus_machine.proofs.NodeEventBusAgreement.{start_keeps, is_waiting_phase}
+use Rattle.bus_machine.proofs.NodeReplacement.{keeps_at}
 use Rattle.run_laws.specs.proof.WorldInvariant.{IsOnce, copies, waits, taken, one_if, RunsSince, KeepsLink, KeepsTime}
 use Rattle.run_laws.proofs.Lists.{zipped_at}
 use Rattle.run_laws.proofs.WorldNodeTiming.{FitsAt, fits_at, may_is, Stands, stands_at, both_in_time, sends_in_time}

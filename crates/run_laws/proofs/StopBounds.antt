@@ -1,9 +1,9 @@
--- Readings where a run stops are bounded.
+-- Readings where a run stops are bounded, with any clocks: StopsAreBounded.
 use Rattle.std.proofs.Common.{◌≡◌, ℕ, ◌+◌, ◌-◌, ◌*◌, ◌<◌, ◌≤◌, max, List, slice_get, Option, Some, None, sym, ap, ◌∙◌}
 use Rattle.std.proofs.Common.{subst, arith}
 use Rattle.std.specs.Prelude.{IfSome}
 use Rattle.std.proofs.lemmas.Option.{same_Some}
-use Rattle.pals_base.specs.PeriodBound.{alarm, backoff}
+use Rattle.pals_base.specs.PeriodBoundAndReleases.{alarm, backoff}
 use Rattle.pals_model.specs.declared.design.Link.{Link}
 use Rattle.pals_model.specs.Delays.{delay_of}
 use Rattle.pals_runs.specs.declared.journal.Cause.{Cause}
@@ -12,7 +12,7 @@ use Rattle.pals_runs.specs.declared.journal.Stop.{Stop}
 use Rattle.pals_runs.specs.declared.journal.Stop.TheVariants as stop
 use Rattle.pals_runs.specs.declared.journal.JournalEntry.{JournalEntry}
 use Rattle.bus_machine.specs.Plans.{plan_of, link_at}
-use Rattle.bus_machine.specs.States.{BusState, node_at}
+use Rattle.bus_machine.specs.BusStates.{BusState, node_at}
 use Rattle.bus_machine.specs.Runs.{Run}
 use Rattle.bus_machine.specs.proof.AgreementLaws.{IsRunOf}
 use Rattle.run_laws.specs.JournalReadings.{sends}
@@ -20,19 +20,18 @@ use Rattle.pals_clock.specs.declared.clock.Clocks.{Clocks}
 use Rattle.pals_clock.specs.declared.clock.Clocks.TheVariants.{Meet, Lists}
 use Rattle.run_laws.specs.Runs.{Runs}
 use Rattle.run_laws.specs.proof.LinkTiming.{due_of}
-use Rattle.run_laws.specs.proof.ReadingsAndStops.{IsFor, StopsAtStart, CauseFits, StopFits}
+use Rattle.run_laws.specs.proof.ReadingsAndStopCauses.{IsFor, StopsAtStart, CauseFits, StopFits}
 use Rattle.run_laws.specs.StopBounds.{sent_at, BoundedStop}
 use Rattle.run_laws.specs.proof.StopBounds.{StopsAreBounded}
 use Rattle.run_laws.proofs.RisingTargets.{next_alarm}
 use Rattle.run_laws.proofs.StartAndSendReadings.{all_times_fit}
 use Rattle.run_laws.proofs.StopCauses.{stops_fit}
-use Rattle.run_laws.proofs.LinkEventEffects.{sent_of}
+use Rattle.run_laws.proofs.LinkTimingPreservation.{sent_of}
 use Rattle.run_laws.proofs.MeetingStopsAndBounds.{bounds, link_is, source_within}
 
 pub no_less : (clocks : Clocks) (t at : ℕ) → IsFor clocks t at → t ≤ at
 no_less Meet t at is = omega arith
 no_less (Lists clocks) t at is = is
-
 
 transit_by : (run : Run) (clocks : Clocks) (journal : List JournalEntry) (s : BusState) (number round : ℕ)
     (reading : Option ℕ) (cause : Cause) → IsRunOf run
@@ -65,7 +64,6 @@ transit_by run clocks journal s number round reading InTransit rules x next fits
     (((plan_of run.design l.source.0).sent_steps - 1) * (plan_of run.design l.source.0).step_period
     + run.design.gamma.alpha_max) < at) (sym here) own
 
-
 bounded_by : (run : Run) (clocks : Clocks) (journal : List JournalEntry) (s : BusState) (why : Option Stop)
     → IsRunOf run → Runs run clocks journal s → StopFits run clocks journal s why → IfSome why (BoundedStop run journal)
 bounded_by run clocks journal s None rules runs fits = tt
@@ -84,7 +82,6 @@ bounded_by run clocks journal s (Some (stop.Early link round reading)) rules run
     let due = of.2 in
     let most = fits.2.2 in
     omega arith
-
 
 pub stops_are_bounded : StopsAreBounded
 stops_are_bounded run clocks journal s rules runs =

@@ -12,10 +12,10 @@ use Rattle.std.proofs.lemmas.Grind.{common_steps, flat_map-append, get_or-set_at
 use Rattle.std.proofs.lemmas.List.{append-nil, get_or-set_other}
 use Rattle.std.proofs.lemmas.Option.{same_Some, slice_get_past, get_or_from_slice_get, slice_get-get_or}
 use Rattle.list_lemmas.proofs.Options.{some_by_test, none_unless_some}
-use Rattle.pals_base.specs.declared.values.NodeNo.{NodeNo}
-use Rattle.pals_base.specs.declared.values.LinkNo.{LinkNo}
-use Rattle.pals_base.specs.declared.values.PortValue.{PortValue}
-use Rattle.pals_base.specs.PeriodBound.{alarm}
+use Rattle.pals_base.specs.declared.basic_types.NodeNo.{NodeNo}
+use Rattle.pals_base.specs.declared.basic_types.LinkNo.{LinkNo}
+use Rattle.pals_base.specs.declared.basic_types.PortValue.{PortValue}
+use Rattle.pals_base.specs.PeriodBoundAndReleases.{alarm}
 use Rattle.pals_base.specs.ClockPicks.{remaining_from}
 use Rattle.pals_clock.specs.ClockStates.{ClockState, standing_at}
 use Rattle.pals_model.specs.declared.design.Link.{Link}
@@ -37,9 +37,9 @@ use Rattle.bus_machine.specs.Nodes.{NodeState, round_of, sent_rounds}
 use Rattle.bus_machine.specs.NodeEvents.{is_waiting, next_step, running_step, stepped, finished, slot_at, arrived}
 use Rattle.bus_machine.specs.NodeEvents.{received}
 use Rattle.bus_machine.specs.LinkEvents.{is_in_flight, arriving}
-use Rattle.bus_machine.specs.States.{BusState, node_at, flight_at, with_node}
+use Rattle.bus_machine.specs.BusStates.{BusState, node_at, flight_at, with_node}
 use Rattle.bus_machine.specs.Runs.{Run}
-use Rattle.bus_machine.specs.MissedStarts.{missing_link, cause_of}
+use Rattle.bus_machine.specs.MissedMessages.{missing_link, cause_of}
 use Rattle.bus_machine.specs.Machine.{BusEvent, Start, Step, Finish, Send, Arrive, Drop, Repeat, is_allowed, after}
 use Rattle.bus_machine.specs.Machine.{after_start, after_arrive, arrival, early_stop, missed_stop}
 use Rattle.bus_machine.specs.Replay.{entries, start_entry, stop_entry}
@@ -48,8 +48,8 @@ use Rattle.bus_machine.specs.proof.AgreementLaws.{IsRunOf}
 use Rattle.bus_machine.specs.ActionsAndTargets.{target}
 use Rattle.run_laws.specs.TraceRules.{is_due}
 use Rattle.bus_machine.proofs.ListsAndOldestCopies.{oldest_is_one}
-use Rattle.bus_machine.proofs.NodeEventAgreement.{is_waiting_phase, on_step_stop}
-use Rattle.bus_machine.proofs.QuantitiesAndSentRounds.{keeps_at}
+use Rattle.bus_machine.proofs.NodeEventBusAgreement.{is_waiting_phase, on_step_stop}
+use Rattle.bus_machine.proofs.NodeReplacement.{keeps_at}
 use Rattle.run_laws.specs.JournalReadings.{send_in, sends}
 use Rattle.run_laws.specs.NodeActions.{upcoming}
 use Rattle.pals_clock.specs.declared.clock.Clocks.{Clocks}
@@ -58,10 +58,10 @@ use Rattle.run_laws.specs.Runs.{no_clock, clock_at, Shows, HasEnded, IsAwaited, 
 use Rattle.run_laws.specs.Runs.{opens, picks_for, goes_on}
 use Rattle.run_laws.specs.proof.LinkTiming.{view, early_on, due_of, one_if, copies, Whereabouts, in_flight, in_slot}
 use Rattle.run_laws.specs.proof.LinkTiming.{was_taken, came_early, IsDueCopy}
-use Rattle.run_laws.specs.proof.ReadingsAndStops.{IsFor, StopsAtStart, NeverSent, CauseFits, StopFits, StopsFit}
+use Rattle.run_laws.specs.proof.ReadingsAndStopCauses.{IsFor, StopsAtStart, NeverSent, CauseFits, StopFits, StopsFit}
 use Rattle.run_laws.proofs.NodePicks.{runs_agree, node_agrees, many_clocks}
 use Rattle.run_laws.proofs.JournalStartsAndSends.{rounds_are_shown}
-use Rattle.run_laws.proofs.LinkEventEffects.{arriving_tells, due_if_sent}
+use Rattle.run_laws.proofs.LinkTimingPreservation.{arriving_tells, due_if_sent}
 use Rattle.run_laws.proofs.MissedLinks.{missed_link}
 use Rattle.run_laws.proofs.LinkViews.{TimedIn}
 use Rattle.run_laws.proofs.LinkTiming.{links_timed, with_message_count}

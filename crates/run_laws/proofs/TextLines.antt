@@ -1,6 +1,6 @@
 -- A text that is made of lines has these lines: the claim TextsHaveLines.
 use Rattle.std.proofs.Common.{◌≡◌, ℕ, List, [], ◌∷◌, ◌++◌, refl, ap, ◌∙◌}
-use Rattle.pals_model.proofs.LineLaws.{text_splits}
+use Rattle.pals_model.proofs.TextLineLaws.{text_splits}
 use Rattle.run_laws.specs.TextLines.{without_end}
 use Rattle.run_laws.specs.proof.ReportLines.{TextsHaveLines}
 

@@ -19,7 +19,7 @@ use Rattle.pals_runs.specs.declared.events_and_faults.EventSubject.TheVariants a
 use Rattle.bound_checker.specs.proof.MessageTimes.{IsNear}
 use Rattle.bus_machine.specs.Plans.{plan_of}
 use Rattle.bus_machine.specs.LinkEvents.{is_in_flight}
-use Rattle.bus_machine.specs.States.{node_at, flight_at}
+use Rattle.bus_machine.specs.BusStates.{node_at, flight_at}
 use Rattle.bus_machine.specs.Runs.{Run}
 use Rattle.run_laws.specs.Worlds.{World, since_at, ready_at, sendings, world_after}
 use Rattle.run_laws.specs.Deadlines.{node_deadline, message_deadline}

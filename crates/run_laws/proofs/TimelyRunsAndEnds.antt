@@ -19,7 +19,7 @@ use Rattle.pals_runs.specs.declared.journal.Stop.TheVariants as stop
 use Rattle.bus_machine.specs.declared.node_action.NodeAction.{NodeAction}
 use Rattle.bus_machine.specs.proof.AgreementLaws.{IsRunOf}
 use Rattle.bus_machine.specs.Plans.{plan_of, link_at, no_link}
-use Rattle.bus_machine.specs.States.{BusState, node_at}
+use Rattle.bus_machine.specs.BusStates.{BusState, node_at}
 use Rattle.bus_machine.specs.Runs.{Run}
 use Rattle.bus_machine.specs.Nodes.{sent_rounds}
 use Rattle.bus_machine.specs.ActionsAndTargets.{targets, target, next_in}
@@ -30,7 +30,7 @@ use Rattle.run_laws.specs.proof.LinkTiming.{due_of}
 use Rattle.run_laws.specs.TimelyRounds.{IsTimely}
 use Rattle.run_laws.specs.ListRunEndsAndStops.{PicksAll, PicksEndAt, ListStop, AllAtEnd}
 use Rattle.run_laws.specs.Meetings.{AllDone, MeetingStop}
-use Rattle.run_laws.specs.proof.ReadingsAndStops.{StopFits}
+use Rattle.run_laws.specs.proof.ReadingsAndStopCauses.{StopFits}
 use Rattle.run_laws.specs.proof.RunTermination.{IsFirstEnded}
 use Rattle.run_laws.specs.proof.TimelyRunsAndEnds.{InTime, NoneStops, BoundsAreInTime, EndsFirst, EndsAgree}
 use Rattle.run_laws.specs.proof.TimelyRunsAndEnds.{PickedAreDone}
@@ -38,9 +38,9 @@ use Rattle.run_laws.proofs.NodePicks.{runs_agree, node_agrees}
 use Rattle.run_laws.proofs.JournalStartsAndSends.{rounds_are_shown}
 use Rattle.run_laws.proofs.StopCauses.{stops_fit}
 use Rattle.run_laws.proofs.MeetingStopsAndBounds.{source_within, bounds, meetings_stop}
-use Rattle.run_laws.proofs.ListClockEnds.{done_are_picked, ended_picks_end, lists_stop}
+use Rattle.run_laws.proofs.ListRunEndsAndStops.{done_are_picked, ended_picks_end, lists_stop}
 use Rattle.run_laws.proofs.RunTermination.{ends_are_named}
-use Rattle.run_laws.proofs.LinkEventEffects.{sent_of}
+use Rattle.run_laws.proofs.LinkTimingPreservation.{sent_of}
 
 -- ---- what hangs on the readings of lists alone
 readings_at : (node : ℕ) (clocks : List ClockState)

@@ -17,7 +17,7 @@ use Rattle.pals_model.proofs.FirstMatches.{at_element}
 use Rattle.pals_model.proofs.WordBytes.{all_pass}
 use Rattle.pals_runs.specs.declared.journal.JournalEntry.{JournalEntry}
 use Rattle.pals_runs.specs.declared.phase.Phase.TheVariants.{Done}
-use Rattle.bus_machine.specs.States.{BusState, opening, node_at, flight_at}
+use Rattle.bus_machine.specs.BusStates.{BusState, opening, node_at, flight_at}
 use Rattle.bus_machine.specs.Plans.{link_at}
 use Rattle.bus_machine.specs.Runs.{Run}
 use Rattle.bus_machine.specs.Machine.{Start, Finish, Send, after}

@@ -5,8 +5,8 @@ use Rattle.std.proofs.Common.{◌∷◌, length, slice_get, Option, Some, None, 
 use Rattle.std.specs.Prelude.{max, min, not, nat_le, if◌then◌else◌, fold}
 use Rattle.std.specs.Option.{option_map_or}
 use Rattle.std.proofs.lemmas.Bool.{and_from, and_parts, not-true, leb-true, le-leb, cases_lt, false≢true}
-use Rattle.pals_base.specs.declared.period_bound.Gamma.{Gamma}
-use Rattle.pals_base.specs.PeriodBound.{alarm}
+use Rattle.pals_base.specs.declared.period_bound_and_releases.Gamma.{Gamma}
+use Rattle.pals_base.specs.PeriodBoundAndReleases.{alarm}
 use Rattle.pals_model.specs.declared.design.Component.{Component}
 use Rattle.pals_model.specs.DesignRules.{IsComponent, greatest_rate}
 use Rattle.pals_model.proofs.FirstMatches.{at_element}
@@ -17,8 +17,8 @@ use Rattle.bus_machine.specs.declared.plan.Plan.{Plan}
 use Rattle.bus_machine.specs.Plans.{plan_of, component_at}
 use Rattle.bus_machine.specs.Nodes.{NodeState, round_of, finished_steps, sent_rounds}
 use Rattle.bus_machine.specs.NodeEvents.{may_send}
-use Rattle.bus_machine.specs.EarliestReadings.{start_alarm, step_alarm, release_reading}
-use Rattle.bus_machine.specs.States.{node_at}
+use Rattle.bus_machine.specs.AlarmsAndReleases.{start_alarm, step_alarm, release_reading}
+use Rattle.bus_machine.specs.BusStates.{node_at}
 use Rattle.bus_machine.specs.Runs.{Run}
 use Rattle.bus_machine.specs.Agreement.{PhaseAgrees}
 use Rattle.bus_machine.specs.proof.AgreementLaws.{IsRunOf}

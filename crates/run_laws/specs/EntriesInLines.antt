@@ -1,10 +1,9 @@
--- What a line of a journal says of a design: the entry that it tells, the event of that entry, its node and its
--- reading.
+-- What a line of a journal says of a design: the entry that it tells.
 use Rattle.std.specs.Prelude.{ℕ, List, Option, option_map, option_and_then}
-use Rattle.pals_base.specs.declared.values.NodeNo.{NodeNo}
-use Rattle.pals_base.specs.declared.values.LinkNo.{LinkNo}
+use Rattle.pals_base.specs.declared.basic_types.NodeNo.{NodeNo}
+use Rattle.pals_base.specs.declared.basic_types.LinkNo.{LinkNo}
 use Rattle.pals_model.specs.declared.design.DesignParts.{DesignParts}
-use Rattle.pals_model.specs.NamesInTexts.{node_named, link_named}
+use Rattle.pals_model.specs.ComponentAndLinkNames.{node_named, link_named}
 use Rattle.pals_runs.specs.declared.journal.JournalEntry.{JournalEntry}
 use Rattle.run_laws.specs.LineForms.{LineForm, ArriveLine, StartLine, StepLine, FinishLine, SendLine, DropLine, RepeatLine}
 use Rattle.run_laws.specs.LineForms.{EarlyLine, MissedLine, form_of}

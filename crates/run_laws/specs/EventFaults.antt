@@ -3,8 +3,8 @@ use Rattle.std.specs.Prelude.{ℕ, ◌+◌, ◌-◌, nat_eq, nat_lt, nat_le, Boo
 use Rattle.std.specs.Prelude.{Option, Some, None}
 use Rattle.std.specs.List.{enumerate_from}
 use Rattle.std.specs.Option.{unwrap_or}
-use Rattle.pals_base.specs.declared.values.NodeNo.{NodeNo}
-use Rattle.pals_base.specs.declared.values.LinkNo.{LinkNo}
+use Rattle.pals_base.specs.declared.basic_types.NodeNo.{NodeNo}
+use Rattle.pals_base.specs.declared.basic_types.LinkNo.{LinkNo}
 use Rattle.pals_base.specs.UpwardNumbers.{upwards}
 use Rattle.pals_model.specs.declared.flight_copy.FlightCopy.{FlightCopy}
 use Rattle.pals_runs.specs.declared.events_and_faults.Event.{Event}
@@ -12,8 +12,8 @@ use Rattle.pals_runs.specs.declared.events_and_faults.EventFault.{EventFault}
 use Rattle.pals_runs.specs.declared.events_and_faults.EventSubject.{EventSubject}
 use Rattle.bus_machine.specs.Plans.{plan_of}
 use Rattle.bus_machine.specs.NodeEvents.{next_step}
-use Rattle.bus_machine.specs.EarliestReadings.{start_alarm, step_alarm, release_reading}
-use Rattle.bus_machine.specs.States.{node_at, flight_at}
+use Rattle.bus_machine.specs.AlarmsAndReleases.{start_alarm, step_alarm, release_reading}
+use Rattle.bus_machine.specs.BusStates.{node_at, flight_at}
 use Rattle.bus_machine.specs.Runs.{Run}
 use Rattle.bus_machine.specs.Machine.{BusEvent, Start, Step, Finish, Send, Arrive, is_allowed}
 use Rattle.run_laws.specs.Worlds.{World, reading_at, since_at, flight_since}

@@ -7,7 +7,7 @@ use Rattle.pals_runs.specs.declared.journal.Cause.{Cause}
 use Rattle.pals_runs.specs.declared.journal.Cause.TheVariants.{NotSent, Lost}
 use Rattle.pals_runs.specs.declared.journal.Stop.{Stop}
 use Rattle.bus_machine.specs.Plans.{plan_of, link_at}
-use Rattle.bus_machine.specs.States.{BusState, node_at}
+use Rattle.bus_machine.specs.BusStates.{BusState, node_at}
 use Rattle.bus_machine.specs.Runs.{Run}
 use Rattle.bus_machine.specs.ActionsAndTargets.{targets}
 use Rattle.run_laws.specs.Runs.{HasEnded}
@@ -24,28 +24,23 @@ use Rattle.run_laws.specs.TimelyRounds.{IsTimely}
 abbrev pub IsOver : Run → List ClockState → BusState → ℕ → Type 0
 IsOver run clocks s node = ((node_at s node).phase ≡ Done) ⊎ HasEnded run clocks s node
 
-
 abbrev pub AllOver : Run → List ClockState → BusState → Type 0
 AllOver run clocks s = EachNode run (λ node. IsOver run clocks s node)
-
 
 -- a node's picks reach its last target
 abbrev pub PicksAll : Run → List ClockState → ℕ → Type 0
 PicksAll run clocks node = length (picks_of run clocks node) ≡ length (targets (plan_of run.design node) run.rounds)
-
 
 -- they end before this one
 abbrev pub PicksEndAt : Run → List ClockState → ℕ → ℕ → Type 0
 PicksEndAt run clocks node goal =
     slice_get (targets (plan_of run.design node) run.rounds) (length (picks_of run clocks node)) ≡ Some goal
 
-
 -- a stop of a link stands at the pick of its target for the start of this round
 pub record StopsAtPick (run : Run) (clocks : List ClockState) (number begins : ℕ) (reading : Option ℕ) : Type 0 where
   pub start : ℕ
   pub reading_is : reading ≡ Some start
   pub is_pick : IsPickFor run clocks (link_at run.design number).target.0 (action.Start begins) start
-
 
 -- a message that is missed, at the start of the round after its own, is not in time, and it is not lost; where it was
 -- not sent, its source's picks end before its send
@@ -57,7 +52,6 @@ pub record MissesInput (run : Run) (clocks : List ClockState) (number round : �
   pub unsent : cause ≡ NotSent → (at : ℕ)
       → IsPickFor run clocks (link_at run.design number).source.0 (action.Send round) at → ⊥
 
-
 -- one that comes early is of the round that its target is to start, or of a later one, and it was due by the pick of
 -- that very start
 pub record ComesEarly (run : Run) (clocks : List ClockState) (begins number round : ℕ)
@@ -68,12 +62,10 @@ pub record ComesEarly (run : Run) (clocks : List ClockState) (begins number roun
   pub sent : IsPickFor run clocks (link_at run.design number).source.0 (action.Send round) send
   pub due : send + delay_of run.delays number round ≤ stands.start
 
-
 abbrev pub ListStop : Run → List ClockState → BusState → Stop → Type 0
 ListStop run clocks s (stop.Missed link round reading cause) = MissesInput run clocks link.0 round reading cause
 ListStop run clocks s (stop.Early link round reading) =
     ComesEarly run clocks (node_at s (link_at run.design link.0).target.0).count link.0 round reading
-
 
 -- each node is done; or, with list clocks, each is done or has come to its list's end
 abbrev pub AllAtEnd : Run → Clocks → BusState → Type 0

@@ -1,7 +1,7 @@
 -- What a stop, with any clocks, says of the bounds: how late or early the message's delay and its source's send
--- were.
+-- were; and delays that keep to them.
 use Rattle.std.specs.Prelude.{◌≡◌, ℕ, ◌+◌, ◌-◌, ◌*◌, ◌<◌, ◌≤◌, max, List, Option, Some, slice_get, length}
-use Rattle.pals_base.specs.PeriodBound.{alarm, backoff}
+use Rattle.pals_base.specs.PeriodBoundAndReleases.{alarm, backoff}
 use Rattle.pals_model.specs.Delays.{delay_of}
 use Rattle.pals_runs.specs.declared.journal.Cause.TheVariants.{InTransit}
 use Rattle.pals_runs.specs.declared.journal.Stop.{Stop}

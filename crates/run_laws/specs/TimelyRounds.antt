@@ -1,4 +1,4 @@
--- With list clocks: which rounds of links are in time, and what the end of a run tells of them.
+-- With list clocks: which rounds of links are in time.
 use Rattle.std.specs.Prelude.{ℕ, ◌+◌, ◌<◌, ◌≤◌, List}
 use Rattle.pals_clock.specs.ClockStates.{ClockState}
 use Rattle.pals_model.specs.Delays.{delay_of}

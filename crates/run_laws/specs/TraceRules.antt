@@ -16,8 +16,8 @@ use Rattle.pals_runs.specs.JournalLines.{entry_line}
 use Rattle.bus_machine.specs.Plans.{plan_of, link_at}
 use Rattle.bus_machine.specs.Nodes.{round_of}
 use Rattle.bus_machine.specs.NodeEvents.{next_step}
-use Rattle.bus_machine.specs.EarliestReadings.{start_alarm, step_alarm, release_reading}
-use Rattle.bus_machine.specs.States.{BusState, node_at, flight_at}
+use Rattle.bus_machine.specs.AlarmsAndReleases.{start_alarm, step_alarm, release_reading}
+use Rattle.bus_machine.specs.BusStates.{BusState, node_at, flight_at}
 use Rattle.bus_machine.specs.Runs.{Run}
 use Rattle.bus_machine.specs.Machine.{BusEvent, is_allowed, arrival}
 use Rattle.bus_machine.specs.Replay.{entries}

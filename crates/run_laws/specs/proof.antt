@@ -1,17 +1,17 @@
 -- What the theorem of the program does not rest on: definitions of contracts below it, of laws, and of proofs.
 pub mod RunQuantifiers
 pub mod ListPicks
-pub mod ListClockEnds
+pub mod ListRunEndsAndStops
 pub mod MeetingLaws
 pub mod StopBounds
 pub mod RisingReadings
 pub mod LinkTiming
-pub mod ReadingsAndStops
-pub mod StepsUnderLock
+pub mod ReadingsAndStopCauses
+pub mod ClockAnswersAndDueArrivals
 pub mod TwoCounterRuns
 pub mod RunGuarantees
 pub mod RunTraces
-pub mod SoundTraces
+pub mod HistoryAndTraceLaws
 pub mod RunTermination
 pub mod TimelyRunsAndEnds
 pub mod EntryLines

@@ -1,6 +1,6 @@
 //! Laws of histories and of the traces that tell them: a trace is judged sound exactly where it is one of a history
 //! that is over. Each law is the contract of a function that does nothing.
-ghost use Rattle.run_laws.specs.proof.SoundTraces.{HistoriesReplay, SoundAreTraces, SoundIsTrace, TracesAreSound};
+ghost use Rattle.run_laws.specs.proof.HistoryAndTraceLaws.{HistoriesReplay, SoundAreTraces, SoundIsTrace, TracesAreSound};
 ghost use Rattle.run_laws.specs.proof.RunTraces.{RunsAreHistories, RunsAreTraces};
 ghost use Rattle.run_laws.specs.proof.EntryLines.{ToldAreLines};
 

@@ -4,14 +4,14 @@ ghost use Rattle.run_laws.specs.proof.RunGuarantees.{ClausesAreKept};
 ghost use Rattle.run_laws.specs.proof.RunTermination.{EachGoesOn, EachRunEnds, EndsAreNamed, JournalsEnd};
 ghost use Rattle.run_laws.specs.proof.RisingReadings.{ReadingsAreBelowTargets, ReadingsRise};
 ghost use Rattle.run_laws.specs.proof.TimelyRunsAndEnds.{BoundsAreInTime, EndsAgree, NoneStops, PickedAreDone};
-ghost use Rattle.run_laws.specs.proof.StepsUnderLock.{DueArrives, EndsStay, ListEnds, ListPicks};
+ghost use Rattle.run_laws.specs.proof.ClockAnswersAndDueArrivals.{DueArrives, EndsStay, ListEnds, ListPicks};
 ghost use Rattle.run_laws.specs.proof.RunReplay.{RunsReplay};
 ghost use Rattle.run_laws.specs.proof.MeetingLaws.{MeetingsEnd, MeetingsShowTargets, MeetingsStop, NoMeetingStops};
 ghost use Rattle.run_laws.specs.proof.ListPicks.{LinesArePicks, NodesPick, ReadingsArePicks};
 ghost use Rattle.run_laws.specs.proof.TwoCounterRuns.{SomeListEnds, SomeMeetingEnds};
 ghost use Rattle.run_laws.specs.proof.RunTraces.{RunsAreSound, TracesAreTexts};
-ghost use Rattle.run_laws.specs.proof.ReadingsAndStops.{AllTimesFit, StopsFit};
-ghost use Rattle.run_laws.specs.proof.ListClockEnds.{DoneArePicked, EndedPicksEnd, EndsAreTimely, ListsStop};
+ghost use Rattle.run_laws.specs.proof.ReadingsAndStopCauses.{AllTimesFit, StopsFit};
+ghost use Rattle.run_laws.specs.proof.ListRunEndsAndStops.{DoneArePicked, EndedPicksEnd, EndsAreTimely, ListsStop};
 ghost use Rattle.run_laws.specs.proof.LinkTiming.{LinksAreTimed};
 ghost use Rattle.run_laws.specs.proof.JournalStartsAndSends.{RoundsAreShown};
 

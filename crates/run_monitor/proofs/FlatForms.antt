@@ -9,7 +9,7 @@ use Rattle.std.proofs.lemmas.Result.{IfOk-weaker}
 use Rattle.pals_runs.specs.Formula.{Formula, Var, Not, And, Or, Previous, Once, Historically, Since, Halted}
 use Rattle.run_monitor.specs.declared.flat_form.FlatForm.{FlatForm}
 use Rattle.run_monitor.specs.declared.flat_form.FlatForm.TheVariants as flat
-use Rattle.pals_runs.specs.proof.FormulaComponents.{reads, names}
+use Rattle.pals_runs.specs.proof.ComponentsInFormulas.{reads, names}
 use Rattle.run_monitor.specs.proof.FlatForms.{formula_at, built, formulas_behind, forms_of, HasParts, IsFlat, Adds}
 
 -- ---- the formulas of forms

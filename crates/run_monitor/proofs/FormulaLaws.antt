@@ -9,9 +9,9 @@ use Rattle.pals_runs.specs.declared.forms.Compare.{Compare}
 use Rattle.pals_runs.specs.Formula.{Formula, Var, Halted, Not, And, Or, Previous, Once, Historically, Since}
 use Rattle.run_monitor.specs.TemporalOperators.{since}
 use Rattle.run_monitor.specs.FormulaSemantics.{frame_in, variable_in, compares, holds}
-use Rattle.run_monitor.specs.proof.BitPerFormula.{next_value, bits_after}
-use Rattle.run_monitor.specs.proof.FormulaAndHistoryLaws.{PreviousReads, OnceReads, HistoricallyReads, SinceReads}
-use Rattle.run_monitor.specs.proof.FormulaAndHistoryLaws.{PastStays, OneBitEach}
+use Rattle.run_monitor.specs.proof.IncrementalSemantics.{next_value, bits_after}
+use Rattle.run_monitor.specs.proof.FormulaLaws.{PreviousReads, OnceReads, HistoricallyReads, SinceReads}
+use Rattle.run_monitor.specs.proof.FormulaLaws.{PastStays, OneBitEach}
 use Rattle.run_monitor.proofs.TemporalOperators.{once-first, once-next, always-first, always-next, since-first}
 use Rattle.run_monitor.proofs.TemporalOperators.{since-next, previously-same, once-same, always-same, since-same}
 use Rattle.run_monitor.proofs.TemporalOperators.{previously-reads, once-reads, always-reads, since-reads}

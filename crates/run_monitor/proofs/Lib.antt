@@ -1,10 +1,10 @@
 pub mod TemporalOperators
 pub mod FormulaLaws
-pub mod HistoryGrowth
+pub mod FrameRowGrowth
 pub mod FirstFalseProperty
 pub mod WatchTextGrowth
 pub mod CounterProperties
 pub mod FlatForms
 pub mod BitWrites
-pub mod MonitorHistories
+pub mod MonitorStates
 pub mod SeveralMonitors

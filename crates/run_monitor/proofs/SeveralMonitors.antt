@@ -17,10 +17,10 @@ use Rattle.pals_runs.specs.Formula.{Formula}
 use Rattle.run_monitor.specs.declared.false_property.FalseProperty.{FalseProperty}
 use Rattle.run_monitor.specs.FormulaSemantics.{holds, frame_rows}
 use Rattle.run_monitor.specs.FalseProperties.{formula_values}
-use Rattle.run_monitor.specs.proof.MonitorState.{MonitorState, whole, said, StandsFor, IsNew, GoesOn}
+use Rattle.run_monitor.specs.proof.MonitorStates.{MonitorState, whole, said, StandsFor, IsNew, GoesOn}
 use Rattle.run_monitor.specs.proof.SeveralMonitors.{MonitorsState, HasWatched, WatchesOn, WatchesRound, EachGoesOn}
 use Rattle.run_monitor.proofs.WatchTextGrowth.{first_false-more}
-use Rattle.run_monitor.proofs.HistoryGrowth.{history_goes_on, history_has_rounds}
+use Rattle.run_monitor.proofs.FrameRowGrowth.{history_goes_on, history_has_rounds}
 
 abbrev no_monitor : MonitorState
 no_monitor = record { forms = []; begun = false; kept = []; seen = [] }

@@ -1,4 +1,4 @@
--- The rows of watched properties, round by round.
+-- The text and the verdicts of watched properties, one round more.
 use Rattle.std.proofs.Common.{◌≡◌, ◌∙◌, ℕ, zero, suc, ◌+◌, ◌<◌, ◌≤◌, List, [], ◌∷◌, ◌++◌, length, map, refl, ap, ap₂}
 use Rattle.std.proofs.Common.{arith, append-nil, zero-add, length-append}
 use Rattle.std.specs.Prelude.{flat_map}
@@ -13,7 +13,7 @@ use Rattle.run_monitor.specs.FormulaSemantics.{holds, frame_rows}
 use Rattle.run_monitor.specs.WatchText.{verdict_line, watched_lines}
 use Rattle.run_monitor.specs.proof.FrameRowGrowth.{RowsGoOn}
 use Rattle.run_monitor.proofs.FormulaLaws.{past_stays}
-use Rattle.run_monitor.proofs.HistoryGrowth.{history_goes_on, history_has_rounds}
+use Rattle.run_monitor.proofs.FrameRowGrowth.{history_goes_on, history_has_rounds}
 use Rattle.std.specs.Option.{option_or}
 use Rattle.list_lemmas.proofs.Options.{option_or-none}
 use Rattle.run_monitor.specs.FalseProperties.{formula_values, first_false_at, first_false_in, first_false}
@@ -58,7 +58,6 @@ formula_values-stay [] h more round within = refl
 formula_values-stay (f ∷ fs) h more round within =
     ap₂ (λ b bs. b ∷ bs) (past_stays f h more round within) (formula_values-stay fs h more round within)
 
-
 first_false_in-stay : (fs : List Formula) (h more : List (List Frame)) (from count : ℕ) → from + count ≤ length h
     → first_false_in fs (h ++ more) (upwards from count) ≡ first_false_in fs h (upwards from count)
 first_false_in-stay fs h more from zero within = refl
@@ -66,14 +65,12 @@ first_false_in-stay fs h more from (suc count) within =
     ap₂ option_or (ap (violation_of from) (formula_values-stay fs h more from (omega arith)))
     (first_false_in-stay fs h more (suc from) count (omega arith))
 
-
 first_false-append : (fs : List Formula) (h : List (List Frame)) (xs ys : List ℕ)
     → first_false_in fs h (xs ++ ys) ≡ option_or (first_false_in fs h xs) (first_false_in fs h ys)
 first_false-append fs h [] ys = refl
 first_false-append fs h (x ∷ xs) ys =
     ap (option_or (first_false_at fs h x)) (first_false-append fs h xs ys)
     ∙ or_assoc (first_false_at fs h x) (first_false_in fs h xs) (first_false_in fs h ys)
-
 
 pub first_false-more : (fs : List Formula) (h : List (List Frame)) (row : List Frame)
     → first_false fs (h ++ row ∷ []) (length (h ++ row ∷ []))

@@ -9,6 +9,7 @@ use Rattle.pals_model.specs.declared.environment.Env.{Env}
 use Rattle.pals_runs.specs.Formula.{Formula}
 use Rattle.run_monitor.specs.declared.false_property.FalseProperty.{FalseProperty}
 use Rattle.run_monitor.specs.FormulaSemantics.{holds, frame_rows}
+
 -- what each formula says at a round
 abbrev pub formula_values : List Formula → List (List Frame) → ℕ → List Bool
 formula_values fs h round = map (λ f. holds f h round) fs

@@ -1,4 +1,4 @@
-//! What is found false.
+//! A property that is false: its round, and its place among all properties.
 
 /// A round at which a formula is false, and the place of the formula among all, from 0.
 #[derive(Clone, Copy)]

@@ -1,4 +1,4 @@
-//! The bits of forms.
+//! The bit of each form: what it says of the frames of a round, and of a further round from the bits that were kept.
 ghost use Rattle.std.specs.Prelude.{◌≡◌, ◌<◌, length, is_some, Some, slice_get};
 ghost use Rattle.run_monitor.specs.FormulaSemantics.{frame_in, variable_in, compares};
 ghost use Rattle.run_monitor.specs.proof.FlatForms.{IsFlat};

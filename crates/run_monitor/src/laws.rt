@@ -1,6 +1,6 @@
 //! Laws of monitors. Each law is the contract of a function that does nothing.
-ghost use Rattle.run_monitor.specs.proof.FormulaAndHistoryLaws.{PreviousReads, OnceReads, HistoricallyReads};
-ghost use Rattle.run_monitor.specs.proof.FormulaAndHistoryLaws.{SinceReads, PastStays, OneBitEach};
+ghost use Rattle.run_monitor.specs.proof.FormulaLaws.{PreviousReads, OnceReads, HistoricallyReads};
+ghost use Rattle.run_monitor.specs.proof.FormulaLaws.{SinceReads, PastStays, OneBitEach};
 ghost use Rattle.run_monitor.specs.proof.FrameRowGrowth.{HistoryHasRounds, HistoryGoesOn, SaidAtOnce, RowsGoOn};
 ghost use Rattle.run_monitor.specs.proof.FirstFalseProperty.{ViolatedIsFirst, OthersHold};
 ghost use Rattle.run_monitor.specs.proof.CounterProperties.{SmallIsWatched, UpIsWatched, QuietIsWatched, TwoText};

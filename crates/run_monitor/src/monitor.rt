@@ -1,8 +1,8 @@
-//! Monitors of one formula.
+//! A monitor of one formula, which goes on round by round with one bit for each form.
 ghost use Rattle.std.specs.Prelude.{◌≡◌, IfOk};
 ghost use Rattle.pals_runs.specs.proof.FormulasOfForms.{formula_of};
 ghost use Rattle.run_monitor.specs.proof.FormBits.{row_of};
-ghost use Rattle.run_monitor.specs.proof.MonitorState.{said, IsNew, Sees, SeesAll, Advances};
+ghost use Rattle.run_monitor.specs.proof.MonitorStates.{said, IsNew, Sees, SeesAll, Advances};
 
 use crate::flat_form::{FlatForm, add};
 use crate::form_bits::{advance_all, bit_at, see_frame, see_row};
@@ -23,14 +23,14 @@ pub struct Monitor {
 }
 
 impl Model for Monitor {
-    ghost use Rattle.run_monitor.specs.proof.MonitorState.{MonitorState, state_code};
+    ghost use Rattle.run_monitor.specs.proof.MonitorStates.{MonitorState, state_code};
 
     ghost Value = { MonitorState };
 
     ghost coded = { state_code };
 
     ghost use Rattle.run_monitor.specs.proof.FlatForms.{forms_of};
-    ghost use Rattle.run_monitor.specs.proof.MonitorState.{IsReady};
+    ghost use Rattle.run_monitor.specs.proof.MonitorStates.{IsReady};
 
     ghost view = { λ m. record { forms = forms_of m.forms; begun = m.begun; kept = m.kept; seen = m.seen } };
 

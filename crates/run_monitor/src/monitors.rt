@@ -9,7 +9,7 @@ ghost use Rattle.pals_runs.specs.Formula.{Formula};
 ghost use Rattle.pals_runs.specs.proof.FormulasOfForms.{formula_of};
 ghost use Rattle.run_monitor.specs.proof.FormBits.{row_of};
 ghost use Rattle.run_monitor.specs.FormulaSemantics.{frame_rows};
-ghost use Rattle.run_monitor.specs.proof.MonitorState.{said, GoesOn};
+ghost use Rattle.run_monitor.specs.proof.MonitorStates.{said, GoesOn};
 ghost use Rattle.run_monitor.specs.proof.SeveralMonitors.{said_by, EachGoesOn, HasWatched, WatchesOn, WatchesRound};
 
 use crate::false_property::FalseProperty;

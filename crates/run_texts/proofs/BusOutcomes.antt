@@ -9,7 +9,7 @@ use Rattle.pals_model.specs.RoundTexts.{text_of, report}
 use Rattle.pals_runs.specs.declared.phase.Phase.TheVariants.{Done}
 use Rattle.pals_runs.specs.declared.journal.Stop.{Stop}
 use Rattle.bus_machine.specs.Agreement.{Agrees}
-use Rattle.bus_machine.specs.States.{node_at, finished_by_all}
+use Rattle.bus_machine.specs.BusStates.{node_at, finished_by_all}
 use Rattle.bus_machine.specs.Runs.{Run}
 use Rattle.pals_bus.specs.BusValues.{BusValue}
 use Rattle.loose_world.specs.proof.FinishedRows.{common_lines}

@@ -1,8 +1,8 @@
--- The ends of a run's nodes, one after another.
+-- The first node whose clock ended, as the end of one more node is looked at.
 use Rattle.std.proofs.Common.{◌≡◌, inl, inr, ℕ, ◌+◌, ◌<◌, List, Option, Some, None, slice_get, refl, ap, ◌∙◌, arith}
 use Rattle.std.proofs.lemmas.Bool.{cases_eq}
 use Rattle.std.specs.Option.{option_or}
-use Rattle.pals_base.specs.declared.values.NodeNo.{NodeNo}
+use Rattle.pals_base.specs.declared.basic_types.NodeNo.{NodeNo}
 use Rattle.node_threads.specs.declared.node_end.NodeEnd.{NodeEnd}
 use Rattle.node_threads.specs.declared.node_end.NodeEnd.TheVariants.{Finished, ClockEnded}
 use Rattle.run_texts.specs.proof.NodeEnds.{IsComeEnd, AreFirst}

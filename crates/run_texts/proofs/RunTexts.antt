@@ -5,13 +5,13 @@ use Rattle.pals_base.specs.declared.limits.TheConstants.{ROUNDS, READING}
 use Rattle.pals_clock.specs.declared.clock.Clocks.{Clocks}
 use Rattle.pals_clock.specs.declared.clock.Clocks.TheVariants.{Meet, Lists}
 use Rattle.pals_model.specs.RoundTexts.{text_of, report, report_lines}
-use Rattle.pals_model.proofs.LineLaws.{text_of-append}
+use Rattle.pals_model.proofs.TextLineLaws.{text_of-append}
 use Rattle.pals_runs.specs.declared.journal.JournalEntry.{JournalEntry}
 use Rattle.pals_runs.specs.declared.journal.Stop.{Stop}
 use Rattle.pals_runs.specs.declared.verdicts.Verdict.TheVariants.{Sound}
 use Rattle.pals_runs.specs.JournalLines.{entry_line}
 use Rattle.bus_machine.specs.proof.AgreementLaws.{IsRunOf}
-use Rattle.bus_machine.specs.States.{BusState, finished_by_all}
+use Rattle.bus_machine.specs.BusStates.{BusState, finished_by_all}
 use Rattle.bus_machine.specs.Runs.{Run}
 use Rattle.run_laws.specs.TextLines.{lines_of}
 use Rattle.run_laws.specs.TraceVerdicts.{verdict}

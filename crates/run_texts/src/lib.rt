@@ -2,7 +2,7 @@
 //! rounds and the journal of one that stopped; or the line of the first node whose clock ended.
 #![tactic(auto)]
 
-mod first_ended;
+mod first_clock_end;
 mod run_report;
 
 pub use run_report::{RunReport, tell_run};

@@ -10,7 +10,7 @@ ghost use Rattle.run_laws.specs.proof.RunTraces.{AreReadings};
 ghost use Rattle.run_texts.specs.RunTexts.{TellsRun};
 ghost use Rattle.run_texts.specs.proof.RunReports.{journal_lines};
 
-use crate::first_ended::first_ended;
+use crate::first_clock_end::first_ended;
 use loose_world::{add_common_rows, add_journal};
 use node_threads::RunEnd;
 use pals_base::{Nanos, NoMemory, NodeNo};

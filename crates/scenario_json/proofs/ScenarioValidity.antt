@@ -7,8 +7,8 @@ use Rattle.std.proofs.lemmas.List.Elements.{All-nil}
 use Rattle.serde_json.specs.Data.{Data}
 use Rattle.serde_json.specs.Find.{get}
 use Rattle.pals_base.specs.declared.limits.TheConstants.{ROUNDS, CELLS, HOUR}
-use Rattle.pals_base.specs.declared.values.NodeNo.{NodeNo}
-use Rattle.pals_base.specs.declared.values.PortValue.{PortValue}
+use Rattle.pals_base.specs.declared.basic_types.NodeNo.{NodeNo}
+use Rattle.pals_base.specs.declared.basic_types.PortValue.{PortValue}
 use Rattle.pals_clock.specs.declared.clock.Clocks.{Clocks}
 use Rattle.pals_clock.specs.declared.clock.Clocks.TheVariants.{Meet}
 use Rattle.pals_model.specs.declared.design.DesignParts.{DesignParts}
@@ -28,14 +28,14 @@ use Rattle.scenario_json.specs.Clocks.{clocks_in}
 use Rattle.scenario_json.specs.proof.InputsDelaysAndClocks.{AreInputsOf, AreDelaysOf, AreClocksFor}
 use Rattle.scenario_json.proofs.InputsDelaysAndClocks.{no_inputs_keep, inputs_keep, least_delays_keep, delays_keep}
 use Rattle.scenario_json.proofs.InputsDelaysAndClocks.{clocks_keep}
-use Rattle.analysis_fields.specs.proof.FaultAndProcessorFacts.{IsFaultOf, IsProcessorOf}
+use Rattle.analysis_fields.specs.proof.FaultAndProcessorValidity.{IsFaultOf, IsProcessorOf}
 use Rattle.analysis_fields.specs.declared.replica_faults.RoundFault.{RoundFault}
 use Rattle.analysis_fields.specs.declared.processors.Processor.{Processor}
 use Rattle.analysis_fields.specs.NamedFormulas.{PropertyValue}
 use Rattle.analysis_fields.specs.ReplicasAndFaults.{faults_in}
 use Rattle.analysis_fields.specs.Processors.{processors_in}
-use Rattle.analysis_fields.proofs.ReplicaFaultFacts.{faults_keep}
-use Rattle.analysis_fields.proofs.ProcessorFacts.{processors_are_valid}
+use Rattle.analysis_fields.proofs.ReplicaFaultValidity.{faults_keep}
+use Rattle.analysis_fields.proofs.ProcessorValidity.{processors_are_valid}
 use Rattle.scenario_json.specs.declared.scenario.Scenario.{Scenario}
 use Rattle.scenario_json.specs.proof.ScenarioValidity.{IsScenarioOf}
 use Rattle.scenario_json.specs.Scenarios.{field, small_enough, needs_processors, rounds_in, inputs_field, events_field}

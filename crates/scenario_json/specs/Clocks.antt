@@ -1,4 +1,4 @@
--- The clocks of the nodes.
+-- What the field of clocks means: a list of readings for each node, or that all meet, or its first fault.
 use Rattle.std.specs.Prelude.{ℕ, bytes_eq, codes, decimal, List, [], ◌∷◌, ◌++◌, length, replicate, slice_set}
 use Rattle.std.specs.Prelude.{slice_index, Bool, ◌-◌, option_map, unwrap_or, false, Result, Ok, if◌then◌else◌}
 use Rattle.serde_json.specs.Data.{Data}

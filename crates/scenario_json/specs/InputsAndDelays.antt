@@ -1,8 +1,8 @@
--- The values of the root in ports, and the lists of other fields that stand by name.
+-- What the fields of inputs and of delays mean: a list for each root in port and for each link, or the first fault.
 use Rattle.std.specs.Prelude.{ℕ, nat_lt, codes, decimal, List, [], ◌∷◌, ◌++◌, length, replicate, slice_set, Result, Ok}
 use Rattle.serde_json.specs.Data.{Data}
 use Rattle.pals_base.specs.declared.behaviour.Kind.{Kind}
-use Rattle.pals_base.specs.declared.values.PortValue.{PortValue}
+use Rattle.pals_base.specs.declared.basic_types.PortValue.{PortValue}
 use Rattle.pals_base.specs.declared.limits.TheConstants.{HOUR}
 use Rattle.pals_model.specs.declared.design.DesignParts.{DesignParts}
 use Rattle.pals_model.specs.ComponentInputs.{root_inputs}

@@ -1,4 +1,4 @@
-//! The clocks of the nodes.
+//! Reads the field of clocks: a list of readings for each node, or that all nodes meet.
 ghost use Rattle.std.specs.Prelude.{◌≡◌, [], IfOk, codes, length, replicate};
 ghost use Rattle.std.specs.List.Sorted.{IsNonDecreasing};
 ghost use Rattle.serde_json.specs.View.{view};

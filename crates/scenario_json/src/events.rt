@@ -1,4 +1,4 @@
-//! The events of a world.
+//! Reads the field of events, each by its word and its parts.
 ghost use Rattle.std.specs.Prelude.{◌≡◌, map, option_and_then};
 ghost use Rattle.std.specs.List.{list_all};
 ghost use Rattle.serde_json.specs.Find.{as_str};

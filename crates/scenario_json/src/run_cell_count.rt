@@ -1,4 +1,4 @@
-//! How much a run leaves.
+//! How many values the rounds of a run leave, which is kept below a limit.
 ghost use Rattle.std.specs.Prelude.{◌≡◌, ◌<◌, ◌≤◌, ◌^◌, length, sum_by};
 ghost use Rattle.pals_base.specs.declared.limits.TheConstants.{COMPONENTS};
 ghost use Rattle.pals_model.specs.declared.design.Link.{Link};

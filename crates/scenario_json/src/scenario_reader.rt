@@ -1,4 +1,4 @@
-//! A whole scenario, field by field.
+//! Reads a whole scenario from its bytes, field by field, or finds its first fault.
 ghost use Rattle.std.specs.Prelude.{◌≡◌, find, map, not, option_map, IfOk};
 ghost use Rattle.serde_json.specs.View.{view};
 ghost use Rattle.pals_clock.specs.declared.clock.Clocks.TheVariants.{Meet};

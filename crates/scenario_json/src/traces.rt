@@ -1,4 +1,4 @@
-//! The lines of a trace.
+//! Reads the field of a trace: its lines.
 ghost use Rattle.serde_json.specs.View.{view};
 ghost use Rattle.scenario_values.specs.ResultCombinators.{Answers};
 ghost use Rattle.scenario_json.specs.Traces.{trace_in};

@@ -7,8 +7,8 @@ use Rattle.serde_json.specs.Find.{as_str, get}
 use Rattle.scenario_values.specs.declared.fault.ScenarioFault.TheVariants.{WrongKind}
 use Rattle.pals_base.specs.declared.behaviour.Kind.{Kind}
 use Rattle.pals_base.specs.declared.limits.TheConstants.{HOUR, ROUNDS}
-use Rattle.pals_base.specs.declared.values.NodeNo.{NodeNo}
-use Rattle.pals_base.specs.declared.values.PortValue.{PortValue}
+use Rattle.pals_base.specs.declared.basic_types.NodeNo.{NodeNo}
+use Rattle.pals_base.specs.declared.basic_types.PortValue.{PortValue}
 use Rattle.pals_model.specs.declared.design.DesignParts.{DesignParts}
 use Rattle.pals_runs.specs.declared.plant_pairs.Pair.{Pair}
 use Rattle.pals_runs.specs.Formula.{Formula}

@@ -11,7 +11,7 @@ use Rattle.serde_json.specs.Data.{Data}
 use Rattle.serde_json.specs.Find.{as_str}
 use Rattle.pals_model.specs.declared.design.DesignParts.{DesignParts}
 use Rattle.pals_model.specs.PortKinds.{rate_of}
-use Rattle.pals_model.specs.NamesInTexts.{node_named}
+use Rattle.pals_model.specs.ComponentAndLinkNames.{node_named}
 use Rattle.pals_runs.specs.declared.plant_pairs.Pair.{Pair}
 use Rattle.scenario_values.specs.declared.fault.ScenarioFault.TheVariants.{WrongKind, OutOfRange, Unknown}
 use Rattle.scenario_values.specs.ResultCombinators.{◌>>=◌, only_if, through}
@@ -22,7 +22,7 @@ use Rattle.scenario_values.specs.NameLookup.{node_at}
 use Rattle.analysis_fields.specs.declared.plants.NamedPair.{NamedPair}
 use Rattle.analysis_fields.specs.Plants.{pair, named_in, shares, is_between, are_equals, is_alone, is_fusible, pair_in}
 use Rattle.analysis_fields.specs.Plants.{with_pair, plants_in}
-use Rattle.analysis_fields.proofs.ProcessorFacts.{node_within}
+use Rattle.analysis_fields.proofs.ProcessorValidity.{node_within}
 use Rattle.plant_fuse.specs.FusedComposition.{IsPair, AreApart, ArePairs}
 use Rattle.plant_fuse.proofs.FusiblePairs.{pair_by}
 

@@ -1,5 +1,5 @@
 mod SuccessfulFields
-mod NamesInDesign
+mod LinkNamesInDesign
 mod ScenarioEvents
 mod TraceLineLimit
 mod FusiblePairs

@@ -7,7 +7,7 @@ use Rattle.serde_json.specs.Find.{as_str}
 use Rattle.scenario_values.specs.declared.fault.ScenarioFault.TheVariants.{WrongKind}
 use Rattle.pals_base.specs.declared.behaviour.Kind.{Kind}
 use Rattle.pals_base.specs.declared.limits.TheConstants.{HOUR, READING, ROUNDS, LIST_ITEMS}
-use Rattle.pals_base.specs.declared.values.PortValue.{PortValue}
+use Rattle.pals_base.specs.declared.basic_types.PortValue.{PortValue}
 use Rattle.pals_clock.specs.ClockStates.{ClockState}
 use Rattle.pals_clock.specs.declared.clock.Clocks.TheVariants.{Meet}
 use Rattle.pals_model.specs.declared.design.DesignParts.{DesignParts}

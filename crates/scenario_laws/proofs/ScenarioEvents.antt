@@ -7,8 +7,8 @@ use Rattle.std.proofs.lemmas.List.Elements.{All-nil, All-push}
 use Rattle.serde_json.specs.Data.{Data}
 use Rattle.serde_json.specs.Find.{as_str}
 use Rattle.pals_base.specs.declared.limits.TheConstants.{ROUNDS, LIST_ITEMS}
-use Rattle.pals_base.specs.declared.values.NodeNo.{NodeNo}
-use Rattle.pals_base.specs.declared.values.LinkNo.{LinkNo}
+use Rattle.pals_base.specs.declared.basic_types.NodeNo.{NodeNo}
+use Rattle.pals_base.specs.declared.basic_types.LinkNo.{LinkNo}
 use Rattle.pals_model.specs.declared.design.DesignParts.{DesignParts}
 use Rattle.pals_runs.specs.declared.commands.Command.{Command}
 use Rattle.pals_runs.specs.declared.events_and_faults.Event.{Event}
@@ -24,10 +24,10 @@ use Rattle.scenario_json.specs.declared.events.EventWord.TheVariants.{Pass, Star
 use Rattle.scenario_json.specs.declared.events.EventWord.TheVariants.{Repeat}
 use Rattle.scenario_json.specs.Events.{word_of, is_usual, node_part, link_parts, event_of, usual_word, event_from}
 use Rattle.scenario_json.specs.Events.{event_in, with_event, events_in}
-use Rattle.analysis_fields.proofs.ProcessorFacts.{node_within}
+use Rattle.analysis_fields.proofs.ProcessorValidity.{node_within}
 use Rattle.loose_world.specs.LooseRuns.{IsLooseIn}
 use Rattle.scenario_laws.specs.proof.LooseEvents.{loose_world_command, AreLooseEvents}
-use Rattle.scenario_laws.proofs.NamesInDesign.{link_below}
+use Rattle.scenario_laws.proofs.LinkNamesInDesign.{link_below}
 
 -- ---- nodes and links
 node_part_below : (design : DesignParts) (place : List ℕ) (ds : List Data) (node : NodeNo)

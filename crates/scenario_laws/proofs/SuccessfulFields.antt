@@ -4,8 +4,8 @@ use Rattle.std.proofs.Common.{Result, Ok, Err, replicate, refl, subst}
 use Rattle.std.specs.Prelude.{find, not}
 use Rattle.serde_json.specs.Data.{Data}
 use Rattle.serde_json.specs.Find.{get}
-use Rattle.pals_base.specs.declared.values.NodeNo.{NodeNo}
-use Rattle.pals_base.specs.declared.values.PortValue.{PortValue}
+use Rattle.pals_base.specs.declared.basic_types.NodeNo.{NodeNo}
+use Rattle.pals_base.specs.declared.basic_types.PortValue.{PortValue}
 use Rattle.pals_clock.specs.declared.clock.Clocks.{Clocks}
 use Rattle.pals_clock.specs.declared.clock.Clocks.TheVariants.{Meet}
 use Rattle.pals_model.specs.declared.design.DesignParts.{DesignParts}

@@ -6,7 +6,7 @@ use Rattle.serde_json.specs.Data.{Data}
 use Rattle.serde_json.specs.Find.{as_null, as_bool}
 use Rattle.pals_base.specs.declared.behaviour.Kind.{Kind}
 use Rattle.pals_base.specs.declared.behaviour.Kind.TheVariants.{Integer, Boolean}
-use Rattle.pals_base.specs.declared.values.PortValue.TheVariants.{Absent}
+use Rattle.pals_base.specs.declared.basic_types.PortValue.TheVariants.{Absent}
 use Rattle.pals_model.specs.declared.design.DesignParts.{DesignParts}
 use Rattle.scenario_values.specs.declared.fault.ScenarioFault.TheVariants.{WrongKind}
 use Rattle.scenario_values.specs.FieldValues.{integer_of, elements, entries, short_list, in_range, whole, number, text}

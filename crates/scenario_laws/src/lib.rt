@@ -2,7 +2,7 @@
 //! scenario keep that was read, whatever they say.
 #![tactic(auto)]
 
-pub mod event_laws;
+pub mod event_and_trace_laws;
 pub mod plant_laws;
 pub mod scenario_meaning;
 pub mod scenario_suitability;

@@ -1,4 +1,4 @@
-//! A law of all bytes. The function does nothing: its contract is the law.
+//! The law that bytes mean a scenario or have a first fault. The function does nothing: its contract is the law.
 ghost use Rattle.std.specs.Prelude.{◌⊎◌, ℕ, List};
 ghost use Rattle.pals_model.specs.declared.design.DesignParts.{DesignParts};
 ghost use Rattle.pals_runs.specs.declared.commands.Command.{Command};

@@ -1,4 +1,4 @@
-//! A law of whole scenarios. The function does nothing: its contract is the law.
+//! The law that a scenario that was read suits its design. The function does nothing: its contract is the law.
 ghost use Rattle.scenario_laws.specs.proof.ScenarioSuitability.{ScenariosSuit};
 
 /// A scenario that was read for a design suits it, whatever the command: its rounds are within their

@@ -1,4 +1,4 @@
-//! What scenarios that are read hold.
+//! Predicates on scenarios that are read: whether they hold what a case says.
 use pals_base::{LinkNo, NodeNo, PortValue, Text};
 use pals_clock::Clocks;
 use pals_model::{Delays, Env};

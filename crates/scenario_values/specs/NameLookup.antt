@@ -1,10 +1,10 @@
 -- The numbers of the component and the link that have a name in a design, or that nothing has it.
 use Rattle.std.specs.Prelude.{ℕ, bytes_eq, List, position, Result}
-use Rattle.pals_base.specs.declared.values.NodeNo.{NodeNo}
-use Rattle.pals_base.specs.declared.values.LinkNo.{LinkNo}
+use Rattle.pals_base.specs.declared.basic_types.NodeNo.{NodeNo}
+use Rattle.pals_base.specs.declared.basic_types.LinkNo.{LinkNo}
 use Rattle.pals_model.specs.declared.design.DesignParts.{DesignParts}
 use Rattle.pals_model.specs.ComponentInputs.{root_inputs}
-use Rattle.pals_model.specs.NamesInTexts.{node_named, link_named}
+use Rattle.pals_model.specs.ComponentAndLinkNames.{node_named, link_named}
 use Rattle.scenario_values.specs.declared.fault.ScenarioFault.{ScenarioFault}
 use Rattle.scenario_values.specs.declared.fault.ScenarioFault.TheVariants.{Unknown}
 use Rattle.scenario_values.specs.ResultCombinators.{given}

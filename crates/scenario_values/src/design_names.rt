@@ -3,7 +3,7 @@ ghost use Rattle.std.specs.Prelude.{◌≡◌, [], IfOk, map, string_bytes};
 ghost use Rattle.pals_model.specs.declared.design.Component.{Component};
 ghost use Rattle.pals_model.specs.declared.design.Feed.{Feed};
 ghost use Rattle.pals_model.specs.ComponentInputs.{new_names};
-ghost use Rattle.pals_model.specs.NamesInTexts.{link_name};
+ghost use Rattle.pals_model.specs.ComponentAndLinkNames.{link_name};
 ghost use Rattle.scenario_values.specs.proof.NameTables.{Numbers};
 
 use crate::ScenarioFault;
@@ -116,7 +116,7 @@ impl<'a> DesignNames<'a> {
     ghost use Rattle.std.specs.Prelude.{◌≡◌, ◌<◌, IfOk, IfSome, length, option_map, option_copied, find, position};
     ghost use Rattle.std.specs.Prelude.{bytes_eq};
     ghost use Rattle.pals_model.specs.ComponentInputs.{root_inputs};
-    ghost use Rattle.pals_model.specs.NamesInTexts.{node_named, link_named};
+    ghost use Rattle.pals_model.specs.ComponentAndLinkNames.{node_named, link_named};
     ghost use Rattle.pals_model.specs.PortKinds.{root_kind};
     ghost use Rattle.pals_model.specs.DesignRules.{IsDesign};
     ghost use Rattle.pals_runs.specs.JournalLines.{node_word};

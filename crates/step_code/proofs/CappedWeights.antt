@@ -21,7 +21,7 @@ use Rattle.step_code.proofs.LoopCrossings.{around_outer}
 use Rattle.step_code.proofs.CheckedPlaces.{known_there, known_later}
 use Rattle.step_code.proofs.ListMembers.{get_set_other, get_set_same}
 use Rattle.step_code.proofs.InnermostLoops.{is_found}
-use Rattle.step_code.proofs.VerifiedPlaces.{verified_closed, verified_known, verified_entry}
+use Rattle.step_code.proofs.VerifiedInstructionsAndEntries.{verified_closed, verified_known, verified_entry}
 
 -- ---- fuel
 map_same : (f g : ℕ → ℕ) (ts : List ℕ) → ((t : ℕ) → Member ts t → f t ≡ g t) → map f ts ≡ map g ts

@@ -28,11 +28,9 @@ pub record IsKnown (c : CodeParts) (p : ℕ) (i : Instr) : Type 0 where
   pub entry : is_bad_entry c.instrs c.entries p ≡ false
   pub sound : IsSound c p i
 
-
 next_by : (p t : ℕ) (b : Bool) → Member (option_to_list (if b then Some (p + 1) else None)) t → p < t
 next_by p t true among = ⊎_elim (λ (e : p + 1 ≡ t). omega arith) (λ none. absurd none) among
 next_by p t false among = absurd among
-
 
 pub known_there : (c : CodeParts) (p : ℕ) (i : Instr) → IsKnown c p i → AreThere (forward_successors p (Some i)) (length c.instrs)
 known_there c p i known =
@@ -50,7 +48,6 @@ known_there c p i known =
           (member_either (option_to_list (jump_of i)) (option_to_list (next_of p i)) t among);
     }
 
-
 pub known_later : (c : CodeParts) (p : ℕ) (i : Instr) → IsKnown c p i → AreLater p (forward_successors p (Some i))
 known_later c p i known = record {
   each = λ t among.
@@ -63,16 +60,13 @@ known_later c p i known = record {
       (member_either (option_to_list (jump_of i)) (option_to_list (next_of p i)) t among);
 }
 
-
 both_false : (a b : Bool) → a ≡ false → b ≡ false → (a || b) ≡ true → ⊥
 both_false true b is is' found = false≢true (sym is)
 both_false false b is is' found = false≢true (sym is' ∙ found)
 
-
 found_here : (c : CodeParts) (p : ℕ) (i : Instr) (test : Instr → Bool) → slice_get c.instrs p ≡ Some i
     → finds c test p ≡ test i
 found_here c p i test here = ap (λ o. on_some o test) here
-
 
 pub none_bad_jump : (c : CodeParts) (p : ℕ) (i : Instr) → slice_get c.instrs p ≡ Some i
     → is_bad_entry c.instrs c.entries p ≡ false → jumps_badly c.instrs p i ≡ false → ¬ Finds c BadJump p
@@ -80,21 +74,17 @@ none_bad_jump c p i here entry jumps found =
     both_false (is_bad_entry c.instrs c.entries p) (finds c (jumps_badly c.instrs p) p) entry
     (found_here c p i (jumps_badly c.instrs p) here ∙ jumps) found
 
-
 pub none_back_jump : (c : CodeParts) (p : ℕ) (i : Instr) → slice_get c.instrs p ≡ Some i
     → jumps_back c.instrs p i ≡ false → ¬ Finds c BackJump p
 none_back_jump c p i here is found = false≢true (sym (found_here c p i (jumps_back c.instrs p) here ∙ is) ∙ found)
-
 
 pub none_bad_slot : (c : CodeParts) (p : ℕ) (i : Instr) → slice_get c.instrs p ≡ Some i → misses_slot c p i ≡ false
     → ¬ Finds c BadSlot p
 none_bad_slot c p i here is found = false≢true (sym (found_here c p i (misses_slot c p) here ∙ is) ∙ found)
 
-
 same_instr : (c : CodeParts) (p : ℕ) (i j : Instr) → slice_get c.instrs p ≡ Some i
     → slice_get c.instrs p ≡ Some j → i ≡ j
 same_instr c p i j here here' = let twice : Some i ≡ Some j = sym here ∙ here' in cc
-
 
 none_underflows : (c : CodeParts) (hs : List (Option ℕ)) (p h : ℕ) (i : Instr) → AreHeights c.instrs c.entries p hs
     → p < length c.instrs → slice_get c.instrs p ≡ Some i → Holds hs p h → takes i ≤ h → ¬ Underflows c p
@@ -104,7 +94,6 @@ none_underflows c hs p h i are within here holds enough u =
     let instr = ap takes (same_instr c p i u.instr here u.here) in
     let fewer = u.fewer in
     omega arith
-
 
 none_differs : (c : CodeParts) (hs new : List (Option ℕ)) (p h : ℕ) (i : Instr) → AreHeights c.instrs c.entries p hs
     → p < length c.instrs → slice_get c.instrs p ≡ Some i → Holds hs p h → PassesOn hs new p i h → ¬ Differs c p
@@ -121,13 +110,11 @@ none_differs c hs new p h i are within here holds on d =
       differs = λ e. d.differs (e ∙ sym is);
     })
 
-
 unreached : (c : CodeParts) (hs : List (Option ℕ)) (p h n : ℕ) → AreHeights c.instrs c.entries p hs
     → p < length c.instrs → slice_get hs p ≡ Some None → Reaches c.instrs c.entries n p h → ⊥
 unreached c hs p h n are within none r =
     let no : ◌≡◌ {A = Option (Option ℕ)} (Some None) (Some (Some h)) = sym none
     ∙ reached_held c.instrs c.entries hs n p h are within r in cc
-
 
 clean_more : (c : CodeParts) (p : ℕ) → IsCleanBelow c p → ((r : Rule) → ¬ Finds c r p) → IsCleanBelow c (p + 1)
 clean_more c p clean here = record {
@@ -135,7 +122,6 @@ clean_more c p clean here = record {
       ⊎_elim (λ (below : q < p). clean.none q r below found)
       (λ (ge : p ≤ q). let same : q ≡ p = omega arith in here r (subst (Finds c r) same found)) (cases_lt q p);
 }
-
 
 rules_by : (c : CodeParts) (p : ℕ) (i : Instr) → IsKnown c p i → ¬ Underflows c p → ¬ Differs c p → (r : Rule)
     → ¬ Finds c r p
@@ -145,13 +131,11 @@ rules_by c p i k u d BadSlot = none_bad_slot c p i k.here k.sound.slots
 rules_by c p i k u d Underflow = u
 rules_by c p i k u d HeightsDiffer = d
 
-
 pub unreached_clean : (c : CodeParts) (hs : List (Option ℕ)) (p : ℕ) (i : Instr) → IsKnown c p i → IsCleanBelow c p
     → AreHeights c.instrs c.entries p hs → p < length c.instrs → slice_get hs p ≡ Some None → IsCleanBelow c (p + 1)
 unreached_clean c hs p i known clean are within none =
     clean_more c p clean (rules_by c p i known (λ u. unreached c hs p u.height u.steps are within none u.reached)
     (λ d. unreached c hs p d.height d.steps are within none d.reached))
-
 
 pub passed_clean : (c : CodeParts) (old new : List (Option ℕ)) (p h : ℕ) (i : Instr) (r : Result (Unit {0}) CodeFault)
     → IsKnown c p i → IsCleanBelow c p → AreHeights c.instrs c.entries p old → p < length c.instrs → Holds old p h
@@ -161,7 +145,6 @@ passed_clean c old new p h i (Ok done) known clean are within holds on =
     (none_differs c old new p h i are within known.here holds on))
 passed_clean c old new p h i (Err e) known clean are within holds on = tt
 
-
 pub passed_heights : (c : CodeParts) (old new : List (Option ℕ)) (p h : ℕ) (i : Instr) (r : Result (Unit {0}) CodeFault)
     → IsKnown c p i → AreHeights c.instrs c.entries p old → p < length c.instrs → Holds old p h
     → Passed old new p i h r → OnOk r (AreHeights c.instrs c.entries (p + 1) new)
@@ -169,14 +152,12 @@ passed_heights c old new p h i (Ok done) known are within holds on =
     reached_heights c.instrs c.entries old new p h i are within known.here holds on (known_later c p i known)
 passed_heights c old new p h i (Err e) known are within holds on = tt
 
-
 earlier_two : (c : CodeParts) (p : ℕ) (i : Instr) (r : Rule) → IsKnown c p i → rank r < 3 → ¬ Finds c r p
 earlier_two c p i BadJump k less = none_bad_jump c p i k.here k.entry k.sound.jumps
 earlier_two c p i BackJump k less = none_back_jump c p i k.here k.sound.forward
 earlier_two c p i BadSlot k less = none_bad_slot c p i k.here k.sound.slots
 earlier_two c p i Underflow k less = absurd (omega arith)
 earlier_two c p i HeightsDiffer k less = absurd (omega arith)
-
 
 earlier_three : (c : CodeParts) (p : ℕ) (i : Instr) (r : Rule) → IsKnown c p i → ¬ Underflows c p → rank r < 4
     → ¬ Finds c r p
@@ -186,13 +167,11 @@ earlier_three c p i BadSlot k none less = none_bad_slot c p i k.here k.sound.slo
 earlier_three c p i Underflow k none less = none
 earlier_three c p i HeightsDiffer k none less = absurd (omega arith)
 
-
 found_underflow : (c : CodeParts) (hs : List (Option ℕ)) (p h : ℕ) (i : Instr) → IsKnown c p i
     → AreHeights c.instrs c.entries p hs → p < length c.instrs → Holds hs p h → h < takes i → Underflows c p
 found_underflow c hs p h i known are within holds fewer =
     let g = are.given p h within holds in
     record { instr = i; here = known.here; steps = g.steps; height = h; reached = g.path; fewer = fewer }
-
 
 found_differs : (c : CodeParts) (hs : List (Option ℕ)) (p h : ℕ) (i : Instr) → IsKnown c p i
     → AreHeights c.instrs c.entries p hs → p < length c.instrs → Holds hs p h → Disagrees hs p i h → Differs c p
@@ -215,7 +194,6 @@ found_differs c hs p h i known are within holds d =
       given = are.given x.place x.other small x.held;
       differs = x.differs;
     }
-
 
 pub passed_fault : (c : CodeParts) (old new : List (Option ℕ)) (p h : ℕ) (i : Instr) (r : Result (Unit {0}) CodeFault)
     → length c.instrs ≤ INSTRUCTIONS → IsKnown c p i → IsCleanBelow c p → AreHeights c.instrs c.entries p old
@@ -243,7 +221,6 @@ passed_fault c old new p h i (Err (fault.BadSlot q)) short known clean are withi
 passed_fault c old new p h i (Err (fault.TooLong q)) short known clean are within holds on = absurd on
 passed_fault c old new p h i (Err (fault.BackJump q)) short known clean are within holds on = absurd on
 passed_fault c old new p h i (Err fault.Memory) short known clean are within holds on = absurd on
-
 
 pub known_by : (c : CodeParts) (p : ℕ) (xs ys : List Instr) (d : Instr) (a b e : Bool) → xs ≡ c.instrs → ys ≡ c.instrs
     → p < length c.instrs → is_bad_entry c.instrs c.entries p ≡ false

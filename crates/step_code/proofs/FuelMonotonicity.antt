@@ -1,7 +1,7 @@
 -- A run that is over stays the same when more instructions are allowed, and so does the number that it has made.
 use Rattle.std.proofs.Common.{◌≡◌, ◌∙◌, ℕ, zero, suc, ◌+◌, ◌<◌, ℤ, List, refl, sym, ap, subst, arith}
 use Rattle.std.specs.Prelude.{slice_get}
-use Rattle.pals_base.specs.declared.values.PortValue.{PortValue as Value}
+use Rattle.pals_base.specs.declared.basic_types.PortValue.{PortValue as Value}
 use Rattle.step_code.specs.declared.instr.Instr.{Instr}
 use Rattle.step_code.specs.InstructionEffects.{Next, Goes, Ends, Traps, Sticks, StepInputs, step}
 use Rattle.step_code.specs.proof.CodeRuns.{then_run, run, IsOver}

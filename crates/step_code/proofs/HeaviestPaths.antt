@@ -3,9 +3,9 @@ use Rattle.std.proofs.Common.{◌≡◌, ◌∙◌, inl, inr, ℕ, ℤ, zero, su
 use Rattle.std.proofs.Common.{Option, Some, None, refl, sym, ap, subst, ⊎_elim, arith}
 use Rattle.std.specs.Prelude.{◌⊎◌, slice_get}
 use Rattle.std.proofs.lemmas.Bool.{cases_lt}
-use Rattle.pals_base.specs.declared.values.Trap.{Trap}
+use Rattle.pals_base.specs.declared.basic_types.Trap.{Trap}
 use Rattle.pals_base.specs.declared.frames.Frame.{Frame}
-use Rattle.pals_base.specs.declared.values.PortValue.{PortValue as Value}
+use Rattle.pals_base.specs.declared.basic_types.PortValue.{PortValue as Value}
 use Rattle.pals_base.specs.SingleStep.{holding}
 use Rattle.step_code.specs.declared.instr.Instr.{Instr}
 use Rattle.step_code.specs.declared.instr.CodeParts.{CodeParts}
@@ -17,7 +17,7 @@ use Rattle.step_code.specs.proof.StackHeights.{Member}
 use Rattle.step_code.specs.proof.CodePaths.{IsPath, path_weight}
 use Rattle.step_code.specs.proof.VerifierRules.{IsVerified}
 use Rattle.step_code.proofs.CappedWeights.{LeadsForward, leads_forward}
-use Rattle.step_code.proofs.VerifiedPlaces.{verified_entry}
+use Rattle.step_code.proofs.VerifiedInstructionsAndEntries.{verified_entry}
 use Rattle.step_code.proofs.StepResults.{entry_within}
 
 -- ---- no path weighs more

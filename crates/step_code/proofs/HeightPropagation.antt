@@ -1,5 +1,4 @@
--- Stack heights that an instruction passes on to the places that it leads to: those places exist, and each of them
--- is set. For the claim of `pass_on`.
+-- The places to which an instruction passes its stack height exist, and each of them is set.
 use Rattle.std.proofs.Common.{◌≡◌, inl, ℕ, ◌<◌, List, length, Option, Some, None, option_to_list, refl, sym, subst}
 use Rattle.std.proofs.Common.{⊎_elim}
 use Rattle.std.specs.Prelude.{◌⊎◌, slice_set}
@@ -10,6 +9,7 @@ use Rattle.step_code.specs.PathWeights.{jump_of, next_of, forward_successors}
 use Rattle.step_code.specs.proof.StackHeights.{Member}
 use Rattle.step_code.specs.proof.VerifierAnswers.{Holds, AreThere, AreSet}
 use Rattle.step_code.proofs.ListMembers.{get_set_other, get_set_same, member_left, member_right}
+
 -- ---- one place set
 pub place_there : (n : ℕ) (o : Option ℕ) (p : ℕ) → o ≡ Some p → AreThere (option_to_list o) n → p < n
 place_there n o p is there = there.each p (subst (λ x. Member (option_to_list x) p) (sym is) (inl refl))

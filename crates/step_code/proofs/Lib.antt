@@ -10,7 +10,7 @@ pub mod EntryHeights
 pub mod ReachedHeights
 pub mod LeastBadEntryPoint
 pub mod VerifierInvariant
-pub mod VerifiedPlaces
+pub mod VerifiedInstructionsAndEntries
 pub mod CappedWeights
 pub mod VerifiedPremises
 pub mod StepResults

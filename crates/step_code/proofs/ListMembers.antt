@@ -8,17 +8,14 @@ pub member_left : {A : Type 0} (xs ys : List A) (x : A) → Member xs x → Memb
 member_left [] ys x among = absurd among
 member_left (z ∷ xs) ys x among = ⊎_elim (λ e. inl e) (λ later. inr (member_left xs ys x later)) among
 
-
 pub member_right : {A : Type 0} (xs ys : List A) (x : A) → Member ys x → Member (xs ++ ys) x
 member_right [] ys x among = among
 member_right (z ∷ xs) ys x among = inr (member_right xs ys x among)
-
 
 pub member_either : {A : Type 0} (xs ys : List A) (x : A) → Member (xs ++ ys) x → Member xs x ⊎ Member ys x
 member_either [] ys x among = inr among
 member_either (z ∷ xs) ys x among =
     ⊎_elim (λ e. inl (inl e)) (λ later. ⊎_elim (λ a. inl (inr a)) (λ b. inr b) (member_either xs ys x later)) among
-
 
 pub member_or_not : (ps : List ℕ) (p : ℕ) → Member ps p ⊎ (Member ps p → ⊥)
 member_or_not [] p = inr (λ among. among)
@@ -37,7 +34,6 @@ get_set_other (x ∷ xs) zero zero a other = absurd (other refl)
 get_set_other (x ∷ xs) zero (suc j) a other = refl
 get_set_other (x ∷ xs) (suc i) zero a other = refl
 get_set_other (x ∷ xs) (suc i) (suc j) a other = get_set_other xs i j a (λ e. other (ap suc e))
-
 
 pub get_set_same : {A : Type 0} (xs : List A) (i : ℕ) (a y : A) → slice_get xs i ≡ Some y
     → slice_get (slice_set xs i a) i ≡ Some a

@@ -3,10 +3,10 @@ use Rattle.std.proofs.Common.{◌≡◌, ◌∙◌, inl, inr, ℕ, zero, suc, �
 use Rattle.std.proofs.Common.{replicate, Option, Some, None, refl, sym, ap, subst, ⊎_elim, arith, length-append}
 use Rattle.std.specs.Prelude.{slice_get}
 use Rattle.std.proofs.lemmas.List.{length-map, length-replicate}
-use Rattle.pals_base.specs.declared.values.Trap.{Trap}
+use Rattle.pals_base.specs.declared.basic_types.Trap.{Trap}
 use Rattle.pals_base.specs.declared.frames.Frame.{Frame}
-use Rattle.pals_base.specs.declared.values.PortValue.{PortValue as Value}
-use Rattle.pals_base.specs.declared.values.PortValue.TheVariants.{Absent}
+use Rattle.pals_base.specs.declared.basic_types.PortValue.{PortValue as Value}
+use Rattle.pals_base.specs.declared.basic_types.PortValue.TheVariants.{Absent}
 use Rattle.pals_base.specs.SingleStep.{Fired, holding, is_present}
 use Rattle.step_code.specs.declared.instr.Instr.{Instr}
 use Rattle.step_code.specs.declared.instr.CodeParts.{CodeParts}
@@ -17,10 +17,10 @@ use Rattle.step_code.specs.proof.CodeRuns.{unless_halted, exec, Leaves, has_entr
 use Rattle.step_code.specs.InstructionsPerStep.{silent, step_inputs, slots_of}
 use Rattle.step_code.specs.proof.StackHeights.{Member}
 use Rattle.step_code.specs.proof.VerifierRules.{IsVerified}
-use Rattle.step_code.specs.proof.LevelAndFedCode.{HasSlotsAndPorts, IsNotStuck}
+use Rattle.step_code.specs.proof.StuckFreedomConditions.{HasSlotsAndPorts, IsNotStuck}
 use Rattle.step_code.proofs.WeightBounds.{ends_within}
 use Rattle.step_code.proofs.StuckFreedom.{Begun, never_stuck}
-use Rattle.step_code.proofs.VerifiedPlaces.{verified_entry}
+use Rattle.step_code.proofs.VerifiedInstructionsAndEntries.{verified_entry}
 use Rattle.step_code.proofs.VerifiedPremises.{verified_nested, verified_fed, verified_level}
 
 -- ---- lengths

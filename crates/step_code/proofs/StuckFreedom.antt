@@ -4,9 +4,9 @@ use Rattle.std.proofs.Common.{if◌then◌else◌, List, [], ◌∷◌, length, 
 use Rattle.std.specs.Prelude.{not, slice_get, slice_set, int_lt, Result, Ok, Err}
 use Rattle.std.proofs.lemmas.List.{length-set}
 use Rattle.std.proofs.lemmas.Option.{slice_get-get_or}
-use Rattle.pals_base.specs.declared.values.Trap.{Trap}
-use Rattle.pals_base.specs.declared.values.PortValue.{PortValue as Value}
-use Rattle.pals_base.specs.declared.values.PortValue.TheVariants.{Present, Absent}
+use Rattle.pals_base.specs.declared.basic_types.Trap.{Trap}
+use Rattle.pals_base.specs.declared.basic_types.PortValue.{PortValue as Value}
+use Rattle.pals_base.specs.declared.basic_types.PortValue.TheVariants.{Present, Absent}
 use Rattle.pals_base.specs.declared.behaviour.Op.{Op}
 use Rattle.pals_base.specs.declared.behaviour.Op.TheVariants as op
 use Rattle.pals_base.specs.Arithmetic.{negation_of, magnitude_of}
@@ -24,7 +24,7 @@ use Rattle.step_code.specs.proof.CodeRuns.{Continuation, then_run, run}
 use Rattle.step_code.specs.proof.LoopNesting.{Nests, IsNested}
 use Rattle.step_code.specs.proof.StackHeights.{takes, after, Member, Reaches, all_successors}
 use Rattle.step_code.specs.proof.SlotsAndPorts.{FindsSlotsAndPorts}
-use Rattle.step_code.specs.proof.LevelAndFedCode.{HasAgreeingHeights, HasSlotsAndPorts, IsNotStuck}
+use Rattle.step_code.specs.proof.StuckFreedomConditions.{HasAgreeingHeights, HasSlotsAndPorts, IsNotStuck}
 
 abbrev pub Holds : Type 1
 Holds = ℕ → List ℤ → List ℤ → List Value → Type 0

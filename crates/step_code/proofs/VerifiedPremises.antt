@@ -18,11 +18,11 @@ use Rattle.step_code.specs.proof.VerifierRules.{HeightsDiffer, IsVerified}
 use Rattle.step_code.specs.proof.LoopNesting.{Free, IsNested}
 use Rattle.step_code.specs.proof.CleanJumpsAndLoops.{Jumps, IsEnd, Clean}
 use Rattle.step_code.proofs.CleanNesting.{loop_is, clean_nested}
-use Rattle.step_code.specs.proof.LevelAndFedCode.{HasAgreeingHeights, HasSlotsAndPorts}
+use Rattle.step_code.specs.proof.StuckFreedomConditions.{HasAgreeingHeights, HasSlotsAndPorts}
 use Rattle.step_code.proofs.LoopCrossings.{not_le, has_slot}
 use Rattle.step_code.proofs.FaultlessInstructions.{goes_well}
 use Rattle.step_code.proofs.CheckedPlaces.{IsKnown, known_there}
-use Rattle.step_code.proofs.VerifiedPlaces.{verified_known, verified_closed}
+use Rattle.step_code.proofs.VerifiedInstructionsAndEntries.{verified_known, verified_closed}
 
 -- ---- jumps and loops
 goes : (c : CodeParts) (p to : ℕ) → strays c.instrs p to ≡ false → not (nat_lt p to) ≡ false → Jumps c.instrs p to

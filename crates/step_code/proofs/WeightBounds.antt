@@ -6,8 +6,8 @@ use Rattle.std.proofs.Common.{subst, arith}
 use Rattle.std.specs.Prelude.{slice_get, slice_set, int_lt, Result, Ok, Err}
 use Rattle.std.proofs.lemmas.Int.{ints}
 use Rattle.std.proofs.Math.Nat.{mul-le-mul_left, le_of_mul-le-mul_left, mul-add, mul_left_comm}
-use Rattle.pals_base.specs.declared.values.Trap.{Trap}
-use Rattle.pals_base.specs.declared.values.PortValue.{PortValue as Value}
+use Rattle.pals_base.specs.declared.basic_types.Trap.{Trap}
+use Rattle.pals_base.specs.declared.basic_types.PortValue.{PortValue as Value}
 use Rattle.pals_base.specs.declared.behaviour.Op.{Op}
 use Rattle.pals_base.specs.declared.behaviour.Op.TheVariants as op
 use Rattle.pals_base.specs.Arithmetic.{negation_of, magnitude_of}
@@ -25,6 +25,7 @@ use Rattle.step_code.specs.PathWeights.{forward_successors, forward_successors_a
 use Rattle.step_code.specs.proof.CodeRuns.{Continuation, then_run, run, IsOver}
 use Rattle.step_code.specs.proof.LoopNesting.{Free, On, Opens, Closes, Nests, IsNested}
 use Rattle.step_code.proofs.ListMembers.{get_set_other, get_set_same}
+
 -- ---- what an instruction may lead to
 abbrev pub Reached : (ℕ → List ℤ → Type 0) → Next → Type 0
 Reached P (Goes q stack slots outs) = P q slots

@@ -1,4 +1,4 @@
--- SubcomponentWeights that stop at u64's greatest value.
+-- Weights that stop at u64's greatest value.
 use Rattle.std.specs.Prelude.{◌≡◌, ℕ, ◌-◌, ◌^◌, ◌<◌, ◌≤◌, min, List, length, Some, slice_get}
 use Rattle.step_code.specs.declared.instr.Instr.{Instr}
 use Rattle.step_code.specs.PathWeights.{weight_at, heaviest}

@@ -1,9 +1,9 @@
 -- How many instructions a step makes when the code runs.
 use Rattle.std.specs.Prelude.{ℕ, zero, suc, ℤ, pos, List, [], ◌++◌, map, replicate, Option, Some, None, slice_get}
-use Rattle.pals_base.specs.declared.values.Trap.{Trap}
+use Rattle.pals_base.specs.declared.basic_types.Trap.{Trap}
 use Rattle.pals_base.specs.declared.frames.Frame.{Frame}
-use Rattle.pals_base.specs.declared.values.PortValue.{PortValue}
-use Rattle.pals_base.specs.declared.values.PortValue.TheVariants.{Absent}
+use Rattle.pals_base.specs.declared.basic_types.PortValue.{PortValue}
+use Rattle.pals_base.specs.declared.basic_types.PortValue.TheVariants.{Absent}
 use Rattle.pals_base.specs.SingleStep.{holding, is_present}
 use Rattle.step_code.specs.declared.instr.Instr.{Instr}
 use Rattle.step_code.specs.declared.instr.CodeParts.{CodeParts}

@@ -9,5 +9,5 @@ pub mod CodeMeaning
 pub mod Examples
 pub mod LoopNesting
 pub mod CleanJumpsAndLoops
-pub mod LevelAndFedCode
+pub mod StuckFreedomConditions
 pub mod SlotsAndPorts

@@ -1,4 +1,5 @@
-//! Why parts are no code.
+//! The faults of parts that are no code: the rules of the verifier that they break, too many instructions, or want
+//! of memory.
 
 use std::alloc::AllocError;
 use thiserror::Error;

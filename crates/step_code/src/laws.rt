@@ -1,8 +1,9 @@
-//! Laws of the definitions. Each function does nothing: its contract is the law.
+//! Laws of step code: that its steps end, and how many instructions they make. Each function does nothing: its
+//! contract is the law.
 ghost use Rattle.std.specs.Prelude.{◌≡◌, ◌≤◌, ℕ, pos, List, [], ◌∷◌, length, Some};
 ghost use Rattle.pals_base.specs.declared.frames.Frame.{Frame};
-ghost use Rattle.pals_base.specs.declared.values.PortValue.{PortValue};
-ghost use Rattle.pals_base.specs.declared.values.PortValue.TheVariants.{Present};
+ghost use Rattle.pals_base.specs.declared.basic_types.PortValue.{PortValue};
+ghost use Rattle.pals_base.specs.declared.basic_types.PortValue.TheVariants.{Present};
 ghost use Rattle.pals_base.specs.SingleStep.{Fired};
 ghost use Rattle.step_code.specs.declared.instr.CodeParts.{CodeParts};
 ghost use Rattle.step_code.specs.PathWeights.{weight_of};

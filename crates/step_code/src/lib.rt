@@ -4,11 +4,11 @@
 
 pub mod code;
 pub mod fault;
-mod heights;
 pub mod instr;
 mod instruction_rules;
 pub mod laws;
 mod loops;
+mod stack_heights;
 mod verifier;
 mod weights;
 

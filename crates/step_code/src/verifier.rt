@@ -1,4 +1,4 @@
-//! Whether parts are code.
+//! The verifier: the code of parts, or their first fault.
 ghost use Rattle.std.specs.Prelude.{◌≡◌, ◌<◌, ◌≤◌, ◌+◌, ℕ, Bool, false, length, IfOk, IfErr, OnOk};
 ghost use Rattle.step_code.specs.proof.InnermostLoops.{AreInnermost};
 ghost use Rattle.step_code.specs.proof.VerifierRules.{is_bad_entry, enters_badly, IsCleanBelow, IsFaultOf, IsVerified};
@@ -7,10 +7,10 @@ ghost use Rattle.pals_base.specs.declared.limits.TheConstants.{INSTRUCTIONS};
 
 use crate::code::Code;
 use crate::fault::CodeFault;
-use crate::heights::{entry_heights, pass_on};
 use crate::instr::CodeParts;
 use crate::instruction_rules::{jumps_back, jumps_badly, misses_slot};
 use crate::loops::{LoopSpan, innermost};
+use crate::stack_heights::{entry_heights, pass_on};
 use crate::weights::most_weight;
 use pals_base::limits::INSTRUCTIONS;
 use std::alloc::Global;

@@ -8,14 +8,14 @@ use Rattle.std.proofs.lemmas.Bool.{cases_lt}
 use Rattle.std.proofs.lemmas.List.{get_or-take, get_or_append_left, get_or-set_other, length-set, length-take-le}
 use Rattle.std.proofs.Math.Seq.{get_or-append_seam}
 use Rattle.std.proofs.lemmas.Option.{slice_get-get_or}
-use Rattle.pals_base.specs.declared.values.Trap.{Trap}
+use Rattle.pals_base.specs.declared.basic_types.Trap.{Trap}
 use Rattle.pals_base.specs.declared.frames.Frame.{Frame}
-use Rattle.pals_base.specs.declared.values.PortValue.{PortValue as Value}
-use Rattle.pals_base.specs.declared.values.PortValue.TheVariants.{Present}
+use Rattle.pals_base.specs.declared.basic_types.PortValue.{PortValue as Value}
+use Rattle.pals_base.specs.declared.basic_types.PortValue.TheVariants.{Present}
 use Rattle.pals_base.specs.ExpressionValues.{on_value}
 use Rattle.pals_base.specs.Actions.{Effect, for_each, with_vars, without_loop, acts}
 use Rattle.pals_base.specs.ForRanges.{counted_from}
-use Rattle.pals_base.specs.PlainTrees.{Actions}
+use Rattle.pals_base.specs.ExpressionAndActionTrees.{Actions}
 use Rattle.step_code.specs.declared.instr.Instr.{Instr}
 use Rattle.step_code.specs.declared.instr.Instr.TheVariants as code
 use Rattle.step_code.specs.InstructionEffects.{Goes, StepInputs, on_found, step}

@@ -5,21 +5,21 @@ use Rattle.std.specs.Prelude.{slice_get, slice_set, int_lt, Result, Ok, Err}
 use Rattle.std.proofs.lemmas.Int.{ints}
 use Rattle.std.proofs.lemmas.List.{length-set}
 use Rattle.std.proofs.lemmas.Option.{slice_get-get_or}
-use Rattle.pals_base.specs.declared.values.Trap.{Trap}
+use Rattle.pals_base.specs.declared.basic_types.Trap.{Trap}
 use Rattle.pals_base.specs.declared.frames.Frame.{Frame}
-use Rattle.pals_base.specs.declared.values.PortValue.{PortValue as Value}
-use Rattle.pals_base.specs.declared.values.PortValue.TheVariants.{Present}
+use Rattle.pals_base.specs.declared.basic_types.PortValue.{PortValue as Value}
+use Rattle.pals_base.specs.declared.basic_types.PortValue.TheVariants.{Present}
 use Rattle.pals_base.specs.ExpressionValues.{is_true, eval}
 use Rattle.pals_base.specs.Actions.{Effect, for_each, with_vars, act, acts, act_first}
 use Rattle.pals_base.specs.ForRanges.{counted_from, count_of, numbers}
-use Rattle.pals_base.proofs.LoopNumbers.{no_numbers}
-use Rattle.pals_base.specs.PlainTrees.{Expression, Action, Assign, Emit, If, For, Actions, Nothing, Do, Branches}
-use Rattle.pals_base.specs.PlainTrees.{NoBranch, Where}
+use Rattle.pals_base.proofs.ForRanges.{no_numbers}
+use Rattle.pals_base.specs.ExpressionAndActionTrees.{Expression, Action, Assign, Emit, If, For, Actions, Nothing, Do, Branches}
+use Rattle.pals_base.specs.ExpressionAndActionTrees.{NoBranch, Where}
 use Rattle.step_code.specs.declared.instr.Instr.{Instr}
 use Rattle.step_code.specs.declared.instr.Instr.TheVariants as code
 use Rattle.step_code.specs.InstructionEffects.{Goes, StepInputs, on_found, step}
 use Rattle.step_code.specs.CodeLengths.{length_of, length_act, length_acts, length_branches}
-use Rattle.step_compiler.specs.TreeInstructions.{code_of, code_act, code_acts, code_branches}
+use Rattle.step_compiler.specs.ExpressionAndActionInstructions.{code_of, code_act, code_acts, code_branches}
 use Rattle.step_compiler.proofs.PlacedCodeLengths.{HasAt, has_front, has_back, code-length, act-length, acts-length}
 use Rattle.step_compiler.proofs.PlacedCodeLengths.{branches-length}
 use Rattle.step_compiler.proofs.AccessBounds.{Sees, Sizes, SeesAct, SeesActs, SeesBranches}

@@ -5,7 +5,7 @@ use Rattle.list_lemmas.proofs.ListOperations.{drop-next}
 use Rattle.pals_base.specs.declared.behaviour.Operand.{Operand}
 use Rattle.pals_base.specs.declared.behaviour.Act.{Act}
 use Rattle.pals_base.specs.declared.behaviour.Branch.{Branch}
-use Rattle.pals_base.specs.PlainTrees.{Then, Do, Where}
+use Rattle.pals_base.specs.ExpressionAndActionTrees.{Then, Do, Where}
 use Rattle.pals_base.specs.proof.TreeViews.{tree_of, operands_along, action_of, actions_along, branches_along}
 
 -- a part of n items, and what is laid out behind it

@@ -6,12 +6,12 @@ use Rattle.std.specs.Prelude.{filter}
 use Rattle.std.specs.List.{list_all, list_any, All}
 use Rattle.std.proofs.lemmas.Bool.{and_parts, cases_Bool, true≢false, false≢true, not-true}
 use Rattle.pals_base.specs.declared.behaviour.BehaviourParts.{BehaviourParts}
-use Rattle.pals_base.specs.PlainTrees.{Edge}
+use Rattle.pals_base.specs.ExpressionAndActionTrees.{Edge}
 use Rattle.pals_base.specs.SingleStep.{is_complete, leaving}
 use Rattle.pals_base.specs.UpwardNumbers.{upwards}
 use Rattle.pals_base.specs.BehaviourRules.{is_edge, IsBehaviour}
 use Rattle.pals_base.specs.proof.SettledStates.{settles}
-use Rattle.pals_base.proofs.WaysAndCycles.{settled_unless_cycle}
+use Rattle.pals_base.proofs.TransitionWaysAndCycles.{settled_unless_cycle}
 use Rattle.pals_base.proofs.UpwardNumbers.{length-upwards}
 use Rattle.step_code.specs.CodeLengths.{code_length}
 use Rattle.step_code.specs.proof.StackHeights.{Member}

@@ -8,7 +8,7 @@ use Rattle.std.proofs.Math.Bool.{or-false}
 use Rattle.list_lemmas.proofs.Numbers.{nat_eq-self}
 use Rattle.list_lemmas.proofs.Booleans.{or_second}
 use Rattle.pals_base.specs.declared.behaviour.BehaviourParts.{BehaviourParts}
-use Rattle.pals_base.specs.PlainTrees.{Edge}
+use Rattle.pals_base.specs.ExpressionAndActionTrees.{Edge}
 use Rattle.pals_base.specs.SingleStep.{is_complete}
 use Rattle.pals_base.specs.UpwardNumbers.{upwards}
 use Rattle.step_code.specs.CodeLengths.{length_edge, length_edges}

@@ -5,13 +5,13 @@ use Rattle.std.proofs.Common.{◌-◌, ◌≤◌}
 use Rattle.std.specs.Prelude.{slice_get, find}
 use Rattle.std.proofs.lemmas.Bool.{false≢true, cases_lt, true≢false, or_right}
 use Rattle.pals_base.specs.declared.behaviour.BehaviourParts.{BehaviourParts}
-use Rattle.pals_base.specs.PlainTrees.{Edge, Trigger, Dispatch, Always, When}
+use Rattle.pals_base.specs.ExpressionAndActionTrees.{Edge, Trigger, Dispatch, Always, When}
 use Rattle.pals_base.specs.SingleStep.{is_complete, leaving, is_dispatch}
 use Rattle.pals_base.specs.BehaviourRules.{IsBehaviour}
 use Rattle.pals_base.proofs.UpwardNumbers.{get_or-map_upwards}
 use Rattle.step_code.specs.declared.instr.Instr.{Instr}
 use Rattle.step_code.specs.CodeLengths.{length_trigger, length_edge}
-use Rattle.step_compiler.specs.TreeInstructions.{code_acts}
+use Rattle.step_compiler.specs.ExpressionAndActionInstructions.{code_acts}
 use Rattle.step_compiler.specs.proof.BlockOrder.{is_placed, block_order}
 use Rattle.step_compiler.specs.BlockInstructions.{trigger_code, last_instr, false_guard_target, edge_code, block_code, block_length}
 use Rattle.step_compiler.specs.BlockInstructions.{start_of, blocks_code, dispatch_offset}
@@ -150,14 +150,12 @@ pub record LiesIn (b : BehaviourParts) (order : List ℕ) (p k : ℕ) : Type 0 w
   pub from : p + start_of b order state ≤ k
   pub before : k < p + start_of b order state + block_length b state
 
-
 lies_first : (b : BehaviourParts) (t : ℕ) (order : List ℕ) (p k : ℕ) (r : Bool) → nat_eq t t ≡ r → p ≤ k
     → k < p + block_length b t
     → (p + (if r then 0 else block_length b t + start_of b order t) ≤ k)
     × (k < p + (if r then 0 else block_length b t + start_of b order t) + block_length b t)
 lies_first b t order p k true is from before = (omega arith, omega arith)
 lies_first b t order p k false is from before = absurd (grind arith)
-
 
 lies_later : (b : BehaviourParts) (t s : ℕ) (order : List ℕ) (p k : ℕ) (r : Bool) → nat_eq t s ≡ r
     → is_placed order t ≡ false → is_placed order s ≡ true → p + block_length b t + start_of b order s ≤ k
@@ -167,7 +165,6 @@ lies_later : (b : BehaviourParts) (t s : ℕ) (order : List ℕ) (p k : ℕ) (r 
 lies_later b t s order p k true is out placed from before = let same : t ≡ s = grind arith in
     absurd (true≢false (sym placed ∙ ap (is_placed order) (sym same) ∙ out))
 lies_later b t s order p k false is out placed from before = (omega arith, omega arith)
-
 
 pub lies_in : (b : BehaviourParts) (order : List ℕ) (p k : ℕ) → AreOnce order → p ≤ k → k < p + order_length b order
     → LiesIn b order p k

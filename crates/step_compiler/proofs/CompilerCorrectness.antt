@@ -7,13 +7,13 @@ use Rattle.std.specs.List.{list_all}
 use Rattle.std.proofs.lemmas.Bool.{and_parts}
 use Rattle.std.proofs.lemmas.List.{length-map, length-replicate, get_or_append_left}
 use Rattle.std.proofs.lemmas.Option.{slice_get-get_or, slice_get_within}
-use Rattle.pals_base.specs.declared.values.Trap.{Trap}
+use Rattle.pals_base.specs.declared.basic_types.Trap.{Trap}
 use Rattle.pals_base.specs.declared.frames.Frame.{Frame}
-use Rattle.pals_base.specs.declared.values.PortValue.{PortValue as Value}
-use Rattle.pals_base.specs.declared.values.PortValue.TheVariants.{Absent}
+use Rattle.pals_base.specs.declared.basic_types.PortValue.{PortValue as Value}
+use Rattle.pals_base.specs.declared.basic_types.PortValue.TheVariants.{Absent}
 use Rattle.pals_base.specs.declared.behaviour.BehaviourParts.{BehaviourParts}
 use Rattle.pals_base.specs.declared.behaviour.StateDecl.{StateDecl}
-use Rattle.pals_base.specs.PlainTrees.{Edge}
+use Rattle.pals_base.specs.ExpressionAndActionTrees.{Edge}
 use Rattle.pals_base.specs.ExpressionValues.{on_value}
 use Rattle.pals_base.specs.Actions.{Effect, acts}
 use Rattle.pals_base.specs.SingleStep.{Fired, holding, is_present, silence, completes, may_begin, is_complete, leaving}
@@ -23,7 +23,7 @@ use Rattle.pals_base.specs.SingleStep as base
 use Rattle.pals_base.specs.BehaviourRules.{is_edge, dispatch_count, ends_unguarded, has_ways, IsBehaviour}
 use Rattle.pals_base.specs.proof.SettledStates.{settles}
 use Rattle.pals_base.proofs.SettledStates.{rule_at}
-use Rattle.pals_base.proofs.WaysAndCycles.{settled_unless_cycle}
+use Rattle.pals_base.proofs.TransitionWaysAndCycles.{settled_unless_cycle}
 use Rattle.pals_base.proofs.StepTermination.{leaving_sound}
 use Rattle.pals_base.proofs.UpwardNumbers.{length-upwards, slice_get-map_upwards}
 use Rattle.step_code.specs.declared.instr.Instr.{Instr}
@@ -53,7 +53,7 @@ use Rattle.step_compiler.proofs.BlockOrderCompleteness.{all_member, order_sum}
 use Rattle.step_compiler.proofs.BlockPlaces.{whole_block, dispatch_at}
 use Rattle.step_compiler.proofs.ExpressionRuns.{At, at, runs}
 use Rattle.step_compiler.proofs.ActionAndLoopEffects.{Fits}
-use Rattle.step_compiler.proofs.BlockRuns.{Finishes, taken, blocks_run}
+use Rattle.step_compiler.proofs.TransitionRuns.{Finishes, taken, blocks_run}
 
 -- ---- what transitions that leave a state have
 

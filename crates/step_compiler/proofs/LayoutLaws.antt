@@ -6,7 +6,7 @@ use Rattle.std.specs.List.{list_all, AllByRecursion as Every}
 use Rattle.std.proofs.lemmas.Bool.{and_parts}
 use Rattle.std.proofs.lemmas.List.Elements.{All-from_recursion, All-filter, recursion_from_All}
 use Rattle.pals_base.specs.declared.behaviour.BehaviourParts.{BehaviourParts}
-use Rattle.pals_base.specs.PlainTrees.{Edge}
+use Rattle.pals_base.specs.ExpressionAndActionTrees.{Edge}
 use Rattle.pals_base.specs.SingleStep.{is_complete, leaving}
 use Rattle.pals_base.specs.BehaviourRules.{IsBehaviour, is_edge}
 use Rattle.pals_base.specs.UpwardNumbers.{upwards}
@@ -15,7 +15,7 @@ use Rattle.step_code.specs.declared.instr.CodeParts.{CodeParts}
 use Rattle.step_code.specs.CodeLengths.{length_edge, length_trigger}
 use Rattle.step_compiler.specs.LaidOutCode.{states_of, IsLaidOut, AreLaidOut}
 use Rattle.step_compiler.specs.proof.BlockOrder.{block_order}
-use Rattle.step_compiler.specs.TreeInstructions.{code_acts}
+use Rattle.step_compiler.specs.ExpressionAndActionInstructions.{code_acts}
 use Rattle.step_compiler.specs.BlockInstructions.{trigger_code, false_guard_target, last_instr, edge_code, block_code, block_length}
 use Rattle.step_compiler.specs.BlockInstructions.{blocks_code, start_of, entry_of}
 use Rattle.step_compiler.specs.proof.BlockLengthsAndStarts.{in_list}

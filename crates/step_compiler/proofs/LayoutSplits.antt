@@ -3,10 +3,10 @@ use Rattle.std.proofs.Common.{◌≡◌, ◌∙◌, ℕ, ◌+◌, Bool, true, fa
 use Rattle.std.proofs.Common.{append_assoc}
 use Rattle.std.specs.Prelude.{nat_eq}
 use Rattle.pals_base.specs.declared.behaviour.BehaviourParts.{BehaviourParts}
-use Rattle.pals_base.specs.PlainTrees.{Expression, Actions, Branches, NoBranch, Where, Edge}
+use Rattle.pals_base.specs.ExpressionAndActionTrees.{Expression, Actions, Branches, NoBranch, Where, Edge}
 use Rattle.step_code.specs.declared.instr.Instr.TheVariants as code
 use Rattle.step_code.specs.CodeLengths.{length_of, length_acts, length_branches, length_edge, length_edges}
-use Rattle.step_compiler.specs.TreeInstructions.{code_of, code_acts, code_branches}
+use Rattle.step_compiler.specs.ExpressionAndActionInstructions.{code_of, code_acts, code_branches}
 use Rattle.step_compiler.specs.BlockInstructions.{edge_code, block_code}
 use Rattle.step_compiler.specs.proof.BlockLengthsAndStarts.{leaving_among}
 

@@ -3,14 +3,14 @@ pub mod AccessBounds
 pub mod ExpressionRuns
 pub mod ActionAndLoopEffects
 pub mod ActionRuns
-pub mod BlockRuns
+pub mod TransitionRuns
 pub mod JumpsWithinLoops
 pub mod AppendedCode
 pub mod LayoutSplits
 pub mod BlockOrderExtension
 pub mod NumbersFromZero
 pub mod CappedBlockStarts
-pub mod OutsideTransitionMarks
+pub mod AwaitedStateMarks
 pub mod BlockOrderInvariant
 pub mod BlockOrderCompleteness
 pub mod SoundAccesses

@@ -3,12 +3,12 @@
 use Rattle.std.proofs.Common.{◌≡◌, inl, ℕ, ◌+◌, ◌-◌, Bool, true, false, if◌then◌else◌, List, [], ◌∷◌, ◌++◌, length}
 use Rattle.std.proofs.Common.{refl, subst, arith, nat_eq}
 use Rattle.pals_base.specs.declared.behaviour.BehaviourParts.{BehaviourParts}
-use Rattle.pals_base.specs.PlainTrees.{Edge, Trigger, Dispatch, Always, When}
+use Rattle.pals_base.specs.ExpressionAndActionTrees.{Edge, Trigger, Dispatch, Always, When}
 use Rattle.pals_base.specs.SingleStep.{is_complete, leaving}
 use Rattle.step_code.specs.declared.instr.Instr.{Instr}
 use Rattle.step_code.specs.declared.instr.Instr.TheVariants as code
 use Rattle.step_code.specs.CodeLengths.{length_of, length_acts, length_trigger, length_edge, length_edges}
-use Rattle.step_compiler.specs.TreeInstructions.{code_of, code_acts}
+use Rattle.step_compiler.specs.ExpressionAndActionInstructions.{code_of, code_acts}
 use Rattle.step_compiler.specs.BlockInstructions.{trigger_code, last_instr, false_guard_target, edge_code, block_code, block_length}
 use Rattle.step_compiler.specs.BlockInstructions.{start_of, blocks_code}
 use Rattle.step_compiler.proofs.PlacedCodeLengths.{HasAt, has_front, has_back, code-length, acts-length, trigger-length}

@@ -12,9 +12,9 @@ use Rattle.pals_base.specs.declared.behaviour.BehaviourParts.{BehaviourParts}
 use Rattle.pals_base.specs.declared.behaviour.Kind.{Kind}
 use Rattle.pals_base.specs.declared.behaviour.Kind.TheVariants.{Integer, Boolean}
 use Rattle.pals_base.specs.declared.expression_kinds.Kinds.{Kinds}
-use Rattle.pals_base.specs.PlainTrees.{Expression, Literal, Variable, PortRead, Fresh, Neg, Abs, Not, Chain, Operands}
-use Rattle.pals_base.specs.PlainTrees.{NoMore, Then, Action, Assign, Emit, If, For, Actions, Nothing, Do, Branches}
-use Rattle.pals_base.specs.PlainTrees.{NoBranch, Where, Trigger, Dispatch, Always, When}
+use Rattle.pals_base.specs.ExpressionAndActionTrees.{Expression, Literal, Variable, PortRead, Fresh, Neg, Abs, Not, Chain, Operands}
+use Rattle.pals_base.specs.ExpressionAndActionTrees.{NoMore, Then, Action, Assign, Emit, If, For, Actions, Nothing, Do, Branches}
+use Rattle.pals_base.specs.ExpressionAndActionTrees.{NoBranch, Where, Trigger, Dispatch, Always, When}
 use Rattle.pals_base.specs.TypingRules.{allows, port_kinds, declared_or, operator_kinds, kinds_of, kinds_along, suits_variable}
 use Rattle.pals_base.specs.TypingRules.{suits_port, turns, is_short, is_sound, are_sound, branches_are_sound}
 use Rattle.pals_base.specs.BehaviourRules.{has_condition}

@@ -2,7 +2,7 @@
 use Rattle.std.proofs.Common.{◌≡◌, ◌<◌, true, ◌&&◌, length, nat_lt}
 use Rattle.std.proofs.lemmas.Bool.{and_parts, ltb-true}
 use Rattle.pals_base.specs.declared.behaviour.BehaviourParts.{BehaviourParts}
-use Rattle.pals_base.specs.PlainTrees.{Edge}
+use Rattle.pals_base.specs.ExpressionAndActionTrees.{Edge}
 use Rattle.pals_base.specs.TypingRules.{are_sound}
 use Rattle.pals_base.specs.BehaviourRules.{has_condition, is_edge}
 
@@ -11,7 +11,6 @@ pub record HasEdge (b : BehaviourParts) (e : Edge) : Type 0 where
   pub target : e.target < length b.states
   pub condition : has_condition b e.trigger ≡ true
   pub sound : are_sound e.actions b 0 1 ≡ true
-
 
 pub edge_has : (b : BehaviourParts) (e : Edge) → is_edge b e ≡ true → HasEdge b e
 edge_has b e is =

@@ -10,7 +10,7 @@ use Rattle.std.proofs.lemmas.Option.{slice_get_within}
 use Rattle.list_lemmas.proofs.ElementPositions.{slice_get-push, slice_get-take}
 use Rattle.pals_base.specs.declared.behaviour.BehaviourParts.{BehaviourParts}
 use Rattle.pals_base.specs.BehaviourRules.{IsBehaviour}
-use Rattle.pals_base.specs.PlainTrees.{Edge}
+use Rattle.pals_base.specs.ExpressionAndActionTrees.{Edge}
 use Rattle.step_compiler.specs.proof.BlockOrder.{is_placed, is_awaited, leads_from_outside, may_follow, next_state}
 use Rattle.step_compiler.specs.proof.BlockOrder.{with_next, ordered, block_order}
 use Rattle.step_compiler.specs.LaidOutCode.{complete_states, MayFollow, IsNext, IsBlockOrder}

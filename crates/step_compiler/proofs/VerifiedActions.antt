@@ -8,8 +8,8 @@ use Rattle.std.proofs.lemmas.Bool.{and_parts, cases_lt}
 use Rattle.std.proofs.lemmas.Int.{ints}
 use Rattle.list_lemmas.proofs.Numbers.{nat_eq-self}
 use Rattle.pals_base.specs.ExpressionValues.{same_number}
-use Rattle.pals_base.specs.PlainTrees.{Expression, Action, Assign, Emit, If, For, Actions, Nothing, Do, Branches}
-use Rattle.pals_base.specs.PlainTrees.{NoBranch, Where}
+use Rattle.pals_base.specs.ExpressionAndActionTrees.{Expression, Action, Assign, Emit, If, For, Actions, Nothing, Do, Branches}
+use Rattle.pals_base.specs.ExpressionAndActionTrees.{NoBranch, Where}
 use Rattle.step_code.specs.declared.instr.Instr.{Instr}
 use Rattle.step_code.specs.declared.instr.Instr.TheVariants as code
 use Rattle.step_code.specs.declared.instr.CodeParts.{CodeParts}
@@ -17,7 +17,7 @@ use Rattle.step_code.specs.declared.loops.LoopSpan.{LoopSpan}
 use Rattle.step_code.specs.Loops.{closes, loop_from, loop_at, with_loop, loops_below, around}
 use Rattle.step_code.specs.proof.VerifierRules.{on_some, stays, ends_loop}
 use Rattle.step_code.specs.CodeLengths.{length_of, length_act, length_acts, length_branches}
-use Rattle.step_compiler.specs.TreeInstructions.{code_of, code_act, code_acts, code_branches}
+use Rattle.step_compiler.specs.ExpressionAndActionInstructions.{code_of, code_act, code_acts, code_branches}
 use Rattle.step_compiler.proofs.AccessBounds.{Sees, Sizes, SeesAct, SeesActs, SeesBranches}
 use Rattle.step_compiler.proofs.PlacedCodeLengths.{HasAt, has_front, has_back, code-length, act-length, acts-length}
 use Rattle.step_compiler.proofs.PlacedCodeLengths.{branches-length}

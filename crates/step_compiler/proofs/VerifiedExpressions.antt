@@ -5,8 +5,8 @@ use Rattle.std.specs.Prelude.{slice_get, option_to_list}
 use Rattle.std.proofs.lemmas.Bool.{cases_lt, false≢true}
 use Rattle.pals_base.specs.declared.behaviour.Op.{Op}
 use Rattle.pals_base.specs.declared.behaviour.Op.TheVariants as op
-use Rattle.pals_base.specs.PlainTrees.{Expression, Literal, Variable, PortRead, Fresh, Neg, Abs, Not, Chain, Operands}
-use Rattle.pals_base.specs.PlainTrees.{NoMore, Then}
+use Rattle.pals_base.specs.ExpressionAndActionTrees.{Expression, Literal, Variable, PortRead, Fresh, Neg, Abs, Not, Chain, Operands}
+use Rattle.pals_base.specs.ExpressionAndActionTrees.{NoMore, Then}
 use Rattle.step_code.specs.declared.instr.Instr.{Instr}
 use Rattle.step_code.specs.declared.instr.Instr.TheVariants as code
 use Rattle.step_code.specs.declared.instr.CodeParts.{CodeParts}
@@ -14,7 +14,7 @@ use Rattle.step_code.specs.PathWeights.{jump_of, may_go_on, next_of}
 use Rattle.step_code.specs.proof.StackHeights.{takes, after, Member, back_of, all_successors}
 use Rattle.step_code.specs.proof.VerifierRules.{stays, lacks_loop, misses_slot}
 use Rattle.step_code.specs.CodeLengths.{operand_length, length_of, length_rest}
-use Rattle.step_compiler.specs.TreeInstructions.{operator, operand_code, code_of, code_rest}
+use Rattle.step_compiler.specs.ExpressionAndActionInstructions.{operator, operand_code, code_of, code_rest}
 use Rattle.step_compiler.proofs.AccessBounds.{Sees, SeesAll}
 use Rattle.step_compiler.proofs.PlacedCodeLengths.{HasAt, has_front, has_back, code-length, operand-length}
 use Rattle.step_compiler.proofs.StackHeights.{next_height, height, height_next, height_at, Right, operand_height}

@@ -8,7 +8,7 @@ use Rattle.std.proofs.lemmas.Bool.{true≢false, false≢true}
 use Rattle.std.proofs.lemmas.Option.{slice_get_within}
 use Rattle.pals_base.specs.declared.behaviour.BehaviourParts.{BehaviourParts}
 use Rattle.pals_base.specs.declared.limits.TheConstants.{INSTRUCTIONS}
-use Rattle.pals_base.specs.PlainTrees.{Edge, Trigger, Dispatch, Always, When}
+use Rattle.pals_base.specs.ExpressionAndActionTrees.{Edge, Trigger, Dispatch, Always, When}
 use Rattle.pals_base.specs.SingleStep.{is_complete, leaving, is_dispatch}
 use Rattle.pals_base.specs.UpwardNumbers.{upwards}
 use Rattle.pals_base.specs.BehaviourRules.{is_edge, is_always, IsBehaviour}
@@ -28,7 +28,7 @@ use Rattle.step_code.specs.proof.VerifierRules.{misses_slot, is_none, enters_bad
 use Rattle.step_code.specs.proof.VerifierRules.{BadJump, BackJump, BadSlot, Underflow, HeightsDiffer, Finds, IsFaultOf}
 use Rattle.step_code.specs.proof.VerifierRules.{IsVerified}
 use Rattle.step_code.specs.CodeLengths.{length_of, length_acts, length_trigger, length_edge, length_edges, code_length}
-use Rattle.step_compiler.specs.TreeInstructions.{code_of, code_acts}
+use Rattle.step_compiler.specs.ExpressionAndActionInstructions.{code_of, code_acts}
 use Rattle.step_compiler.specs.proof.BlockOrder.{block_order}
 use Rattle.step_compiler.specs.LaidOutCode.{states_of}
 use Rattle.step_compiler.specs.BlockInstructions.{trigger_code, last_instr, false_guard_target, edge_code, block_code, block_length}

@@ -1,11 +1,11 @@
 -- The instructions that transitions, states and the whole behaviour are compiled to.
 use Rattle.std.specs.Prelude.{ℕ, ◌+◌, ◌-◌, nat_eq, Bool, if◌then◌else◌, List, [], ◌∷◌, ◌++◌, length, Option, Some, None}
 use Rattle.pals_base.specs.declared.behaviour.BehaviourParts.{BehaviourParts}
-use Rattle.pals_base.specs.PlainTrees.{Edge, Trigger, Dispatch, Always, When}
+use Rattle.pals_base.specs.ExpressionAndActionTrees.{Edge, Trigger, Dispatch, Always, When}
 use Rattle.pals_base.specs.SingleStep.{is_complete, is_dispatch, leaving}
 use Rattle.step_code.specs.declared.instr.Instr.{Instr}
 use Rattle.step_code.specs.CodeLengths.{length_trigger, length_edge, length_edges}
-use Rattle.step_compiler.specs.TreeInstructions.{code_of, code_acts}
+use Rattle.step_compiler.specs.ExpressionAndActionInstructions.{code_of, code_acts}
 use Rattle.step_code.specs.declared.instr.Instr.TheVariants as code
 
 -- a guard, which leads to a place where it is not true

@@ -1,4 +1,4 @@
-pub mod TreeInstructions
+pub mod ExpressionAndActionInstructions
 pub mod LoopDepths
 pub mod BlockInstructions
 pub mod LaidOutCode

@@ -2,6 +2,6 @@
 pub mod BlockOrder
 pub mod BlockLengthsAndStarts
 pub mod AppendedCode
-pub mod CompileRefusals
+pub mod CompileFaultCauses
 pub mod LayoutLaws
 pub mod CompiledCode

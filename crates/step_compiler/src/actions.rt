@@ -1,13 +1,13 @@
 //! The instructions of actions.
 ghost use Rattle.std.specs.Prelude.{[], ◌∷◌, OnOk};
 ghost use Rattle.pals_base.specs.proof.TreeViews.{action_of, actions_along, branches_along};
-ghost use Rattle.pals_base.specs.PlainTrees.{For};
-ghost use Rattle.step_compiler.specs.TreeInstructions.{code_act, code_acts, code_branches};
+ghost use Rattle.pals_base.specs.ExpressionAndActionTrees.{For};
+ghost use Rattle.step_compiler.specs.ExpressionAndActionInstructions.{code_act, code_acts, code_branches};
 ghost use Rattle.step_compiler.specs.proof.AppendedCode.{Adds};
 
 use crate::checked_numbers::{behind, next_depth};
+use crate::code_lengths::{acts_length, branches_length, expr_length};
 use crate::expressions::push_expr;
-use crate::lengths::{acts_length, branches_length, expr_length};
 use pals_base::{Act, Branch, Items, NoMemory};
 use step_code::Instr;
 

@@ -10,7 +10,7 @@ ghost use Rattle.step_compiler.specs.proof.CompiledCode.{leaving_code};
 ghost use Rattle.step_compiler.specs.proof.AppendedCode.{Adds};
 
 use crate::checked_numbers::behind;
-use crate::lengths::transition_length;
+use crate::code_lengths::transition_length;
 use crate::list_access::item_at;
 use crate::transitions::{is_complete, push_transition};
 use pals_base::{Behaviour, Guard, Items, NoMemory, Transition};

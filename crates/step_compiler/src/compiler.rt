@@ -1,16 +1,16 @@
-//! Code of behaviours.
+//! The compiler: the step code of a behaviour, or that it is too long.
 ghost use Rattle.std.specs.Prelude.{◌≡◌, length, IfOk, IfErr};
 ghost use Rattle.step_code.specs.CodeLengths.{code_length};
 ghost use Rattle.step_code.specs.proof.CodeMeaning.{Means};
 ghost use Rattle.step_compiler.specs.proof.CompiledCode.{compiled};
 ghost use Rattle.step_compiler.specs.LaidOutCode.{IsLaidOut};
-ghost use Rattle.step_compiler.specs.proof.CompileRefusals.{IsCauseFor};
+ghost use Rattle.step_compiler.specs.proof.CompileFaultCauses.{IsCauseFor};
 
 use crate::block_order::block_order;
 use crate::blocks::{entries, push_blocks, starts};
 use crate::checked_numbers::count;
+use crate::code_lengths::transitions_length;
 use crate::compile_fault::CompileFault;
-use crate::lengths::transitions_length;
 use crate::loop_depths::transitions_depth;
 use pals_base::limits::INSTRUCTIONS;
 use pals_base::{Behaviour, Items, NoMemory};

@@ -1,11 +1,11 @@
 //! The instructions of expressions.
 ghost use Rattle.std.specs.Prelude.{◌≡◌, OnOk};
 ghost use Rattle.pals_base.specs.proof.TreeViews.{tree_of, operands_along};
-ghost use Rattle.step_compiler.specs.TreeInstructions.{operator, operand_of, code_of, code_rest};
+ghost use Rattle.step_compiler.specs.ExpressionAndActionInstructions.{operator, operand_of, code_of, code_rest};
 ghost use Rattle.step_compiler.specs.proof.AppendedCode.{Adds};
 
 use crate::checked_numbers::behind;
-use crate::lengths::expr_length;
+use crate::code_lengths::expr_length;
 use pals_base::{Expr, Items, NoMemory, Op, Operand};
 use step_code::Instr;
 

@@ -9,8 +9,8 @@ ghost use Rattle.step_compiler.specs.proof.AppendedCode.{Adds};
 
 use crate::actions::push_acts;
 use crate::checked_numbers::{behind, count};
+use crate::code_lengths::transition_length;
 use crate::expressions::push_expr;
-use crate::lengths::transition_length;
 use crate::list_access::item_at;
 use pals_base::{Behaviour, Guard, Items, NoMemory, StateDecl, Transition};
 use step_code::Instr;
@@ -45,7 +45,11 @@ pub fn push_transition(
 
 // Where a guard that is not true leads: behind the transition, or to its last instruction in a
 // complete state, of which no step takes a guarded transition and behind which nothing may stand.
-fn false_guard_target(place: usize, transition: &Transition, never_taken: bool) -> Result<u32, NoMemory>
+fn false_guard_target(
+    place: usize,
+    transition: &Transition,
+    never_taken: bool,
+) -> Result<u32, NoMemory>
     ensures { IfOk result (λ to. to ≡ false_guard_target never_taken transition.now place) }
 {
     let end = behind(place, transition_length(transition))?;
@@ -53,7 +57,11 @@ fn false_guard_target(place: usize, transition: &Transition, never_taken: bool) 
 }
 
 // A guard, and the jump to a place where it is not true.
-fn push_guard(code: &mut Items<Instr>, guard: &Guard, false_guard_target: u32) -> Result<(), NoMemory>
+fn push_guard(
+    code: &mut Items<Instr>,
+    guard: &Guard,
+    false_guard_target: u32,
+) -> Result<(), NoMemory>
     ensures { OnOk result (Adds code.old code.new (trigger_code (trigger_of guard.now) false_guard_target)) }
 {
     match guard {

@@ -4,8 +4,8 @@ use Rattle.std.proofs.Common.{subst, arith, slice_index_or}
 use Rattle.std.specs.Prelude.{slice_get}
 use Rattle.std.proofs.lemmas.List.{length-map}
 use Rattle.std.proofs.lemmas.Option.{slice_get-get_or}
-use Rattle.pals_base.specs.declared.values.Trap.{Trap}
-use Rattle.pals_base.specs.declared.values.PortValue.{PortValue}
+use Rattle.pals_base.specs.declared.basic_types.Trap.{Trap}
+use Rattle.pals_base.specs.declared.basic_types.PortValue.{PortValue}
 use Rattle.pals_base.specs.SingleStep.{is_present}
 use Rattle.step_code.specs.declared.instr.Instr.{Instr}
 use Rattle.step_code.specs.declared.instr.CodeParts.{CodeParts}
@@ -17,12 +17,12 @@ use Rattle.step_code.specs.InstructionsPerStep.{count, step_inputs}
 use Rattle.step_code.specs.proof.StackHeights.{takes, Member}
 use Rattle.step_code.specs.proof.SlotsAndPorts.{FindsSlotsAndPorts}
 use Rattle.step_code.specs.proof.VerifierRules.{IsVerified}
-use Rattle.step_code.specs.proof.LevelAndFedCode.{HasSlotsAndPorts}
+use Rattle.step_code.specs.proof.StuckFreedomConditions.{HasSlotsAndPorts}
 use Rattle.step_code.proofs.StuckFreedom.{Begun, Fine, Stands, stands_on}
 use Rattle.step_code.proofs.FuelMonotonicity.{Moves, moves}
 use Rattle.step_code.proofs.WeightBounds.{ends_within}
 use Rattle.step_code.proofs.ReachedHeights.{low_stack}
-use Rattle.step_code.proofs.VerifiedPlaces.{verified_entry}
+use Rattle.step_code.proofs.VerifiedInstructionsAndEntries.{verified_entry}
 use Rattle.step_code.proofs.VerifiedPremises.{verified_nested, verified_fed, verified_level}
 use Rattle.step_code.proofs.StepResults.{entry_within}
 

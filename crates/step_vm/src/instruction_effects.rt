@@ -1,4 +1,4 @@
-//! What one instruction does.
+//! What one instruction does to the stack, the slots and the out ports, and where it leads.
 ghost use Rattle.std.specs.Prelude.{◌≡◌, ◌≤◌, ◌<◌, ◌+◌, length, map, Some, slice_get};
 ghost use Rattle.pals_base.specs.SingleStep.{is_present};
 ghost use Rattle.pals_base.specs.declared.limits.TheConstants.{INSTRUCTIONS};

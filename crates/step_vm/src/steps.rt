@@ -1,4 +1,4 @@
-//! Steps of code.
+//! The machine: one step of a component's code, from its frame and inputs to the frame and outputs that it leaves.
 ghost use Rattle.std.specs.Prelude.{◌≡◌, ◌≤◌, ◌-◌, ◌++◌, [], length, take, replicate, pos, Some, true, slice_get, ◌+◌};
 ghost use Rattle.pals_base.specs.SingleStep.{holding};
 ghost use Rattle.step_code.specs.proof.CodeRuns.{FitsCode, HasCodeSizes, Leaves, exec, has_entry, what_is_left, run_from};

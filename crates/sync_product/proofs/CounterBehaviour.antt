@@ -9,7 +9,7 @@ use Rattle.list_lemmas.proofs.PairwiseProperties.{AllPairs-one, AllPairs-three, 
 use Rattle.pals_base.specs.declared.behaviour.BehaviourParts.{BehaviourParts}
 use Rattle.pals_base.specs.declared.behaviour.StateDecl.{StateDecl}
 use Rattle.pals_base.specs.BehaviourRules.{IsBehaviour, IsAcyclic}
-use Rattle.pals_base.specs.PlainTrees.{Edge}
+use Rattle.pals_base.specs.ExpressionAndActionTrees.{Edge}
 use Rattle.pals_base.specs.SingleStep.{leaving}
 use Rattle.pals_model.specs.declared.design.Component.{Component}
 use Rattle.pals_model.specs.proof.TwoCounters.{two_counters}

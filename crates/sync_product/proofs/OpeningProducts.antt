@@ -2,8 +2,8 @@
 use Rattle.std.proofs.Common.{◌≡◌, ℕ, ◌+◌, List, [], ◌∷◌, length, map, replicate, refl, ap, ap₂}
 use Rattle.std.specs.List.{enumerate_from}
 use Rattle.std.proofs.lemmas.List.{length-map, length-replicate}
-use Rattle.pals_base.specs.declared.values.PortValue.{PortValue}
-use Rattle.pals_base.specs.declared.values.PortValue.TheVariants.{Absent}
+use Rattle.pals_base.specs.declared.basic_types.PortValue.{PortValue}
+use Rattle.pals_base.specs.declared.basic_types.PortValue.TheVariants.{Absent}
 use Rattle.pals_base.specs.declared.behaviour.VarDecl.{VarDecl}
 use Rattle.pals_base.specs.SingleStep.{initial}
 use Rattle.std.specs.Prelude.{pos}

@@ -8,9 +8,9 @@ use Rattle.std.proofs.lemmas.List.Elements.{All-head, All-tail}
 use Rattle.std.proofs.lemmas.Option.{slice_get_cases, get_or_from_slice_get}
 use Rattle.list_lemmas.proofs.ElementPositions.{slice_get-map_some}
 use Rattle.list_lemmas.proofs.ListOperations.{same_from_places}
-use Rattle.pals_base.specs.declared.values.PortValue.{PortValue}
+use Rattle.pals_base.specs.declared.basic_types.PortValue.{PortValue}
 use Rattle.pals_base.specs.declared.frames.Frame.{Frame}
-use Rattle.pals_base.specs.PeriodBound.{sent_steps}
+use Rattle.pals_base.specs.PeriodBoundAndReleases.{sent_steps}
 use Rattle.pals_base.specs.StepSequences.{steps, Stepped}
 use Rattle.pals_base.specs.Tuples.{column, columns, cut}
 use Rattle.pals_base.specs.UpwardNumbers.{upwards}

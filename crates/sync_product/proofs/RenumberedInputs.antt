@@ -5,8 +5,8 @@ use Rattle.std.proofs.lemmas.Bool.{eqb-true, and_parts}
 use Rattle.std.proofs.lemmas.List.Elements.{All-contains}
 use Rattle.std.proofs.lemmas.Option.{get_or_from_slice_get}
 use Rattle.list_lemmas.proofs.ElementPositions.{Contains-from_slice_get, slice_get-map_some}
-use Rattle.pals_base.specs.declared.values.PortValue.{PortValue}
-use Rattle.pals_base.specs.declared.values.PortValue.TheVariants.{Absent}
+use Rattle.pals_base.specs.declared.basic_types.PortValue.{PortValue}
+use Rattle.pals_base.specs.declared.basic_types.PortValue.TheVariants.{Absent}
 use Rattle.pals_base.specs.Adaptors.{adapt}
 use Rattle.pals_base.proofs.ColumnsAndCutTuples.{get_or-column}
 use Rattle.pals_model.specs.declared.design.Link.{Link}
@@ -21,7 +21,7 @@ use Rattle.pals_model.proofs.SourceLaws.{link_is_source, feed_is_source, nothing
 use Rattle.pals_model.proofs.RootInputLaws.{root_inputs_are_feeds}
 use Rattle.sync_product.specs.proof.RenumberedDesigns.{renumbered_link, renumbered_feed, IsRenumbered, values_of}
 use Rattle.sync_product.specs.proof.RenumberedDesigns.{AreSameInputs}
-use Rattle.sync_product.proofs.ListElements.{Passes, some_or_none}
+use Rattle.sync_product.proofs.PassingElements.{Passes, some_or_none}
 use Rattle.sync_product.proofs.ImageMembers.{none_there}
 use Rattle.sync_product.proofs.RenumberedDesigns.{rate_there, same_number, link_there, feed_there}
 

@@ -1,7 +1,7 @@
 -- The lengths of the out tuples of a round, and of the lists of out values that its steps leave.
 use Rattle.std.proofs.Common.{◌≡◌, ◌∙◌, ℕ, ◌<◌, List, length, map, replicate, slice_index_or, sym, ap, arith}
 use Rattle.std.proofs.lemmas.List.{length-map, length-replicate, get_or-map, get_or-replicate}
-use Rattle.pals_base.specs.declared.values.PortValue.{PortValue}
+use Rattle.pals_base.specs.declared.basic_types.PortValue.{PortValue}
 
 abbrev pub lengths : List (List PortValue) → List ℕ
 lengths rows = map (λ (row : List PortValue). length row) rows

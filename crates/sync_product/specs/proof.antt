@@ -4,6 +4,6 @@ pub mod ProductSizes
 pub mod ProductStates
 pub mod ComponentWiring
 pub mod ProductInvariant
-pub mod ProductLaws
+pub mod CompositionAgreement
 pub mod RenumberedDesigns
 pub mod ExchangedCounters

@@ -1,5 +1,5 @@
 //! What holds of every product. Each law is the contract of a function that does nothing.
-ghost use Rattle.sync_product.specs.proof.ProductLaws.{DesignStays, StandsAtComposition, HasPartsOfRound};
+ghost use Rattle.sync_product.specs.proof.CompositionAgreement.{DesignStays, StandsAtComposition, HasPartsOfRound};
 
 /// After any number of rounds of any environment, a product stands where the composition does, and
 /// shows what its components left in the last of these rounds.

@@ -1,4 +1,4 @@
-//! What the components send to one another.
+//! The message of each link, written from the rows of its source.
 ghost use Rattle.std.specs.Prelude.{◌≡◌, length, map};
 ghost use Rattle.pals_model.specs.DesignRules.{IsDesign};
 ghost use Rattle.sync_product.specs.proof.ProductSizes.{stage_size, stage_sizes, message_sizes};

@@ -1,7 +1,7 @@
 //! What does not depend on the numbers of components. Each law is the contract of a function that
 //! does nothing.
 ghost use Rattle.std.specs.Prelude.{◌≡◌, ◌<◌, ℕ, List, map, length, Some, slice_get};
-ghost use Rattle.pals_base.specs.declared.values.PortValue.{PortValue};
+ghost use Rattle.pals_base.specs.declared.basic_types.PortValue.{PortValue};
 ghost use Rattle.pals_model.specs.declared.design.Link.{Link};
 ghost use Rattle.pals_model.specs.declared.design.DesignParts.{DesignParts};
 ghost use Rattle.pals_model.specs.declared.environment.Env.{Env};

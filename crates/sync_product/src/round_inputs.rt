@@ -1,6 +1,6 @@
 //! What the in ports of a component read, step by step. The calls take no memory.
 ghost use Rattle.std.specs.Prelude.{◌≡◌, ◌<◌, [], length, map, slice_index_or};
-ghost use Rattle.pals_base.specs.declared.values.PortValue.TheVariants.{Absent};
+ghost use Rattle.pals_base.specs.declared.basic_types.PortValue.TheVariants.{Absent};
 ghost use Rattle.pals_base.specs.Tuples.{column};
 ghost use Rattle.sync_product.specs.proof.Rounds.{brought};
 

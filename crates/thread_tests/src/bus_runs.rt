@@ -3,7 +3,7 @@ ghost use Rattle.std.specs.Prelude.{IsTrue, IfOk, length};
 ghost use Rattle.pals_model.specs.Delays.{AreDelays};
 ghost use Rattle.node_threads.specs.proof.SharedCourses.{AreClocksOf};
 
-use crate::designs::design_of;
+use crate::accepted_design::design_of;
 use design_codes::compile_all;
 use loose_world::add_common_rows;
 use node_threads::{Gate, Host, NodeEnd, RunEnd, Starter, run_threads};

@@ -3,9 +3,9 @@
 #![tactic(auto)]
 
 #[cfg(test)]
-mod bus_runs;
+mod accepted_design;
 #[cfg(test)]
-mod designs;
+mod bus_runs;
 #[cfg(test)]
 mod gates;
 #[cfg(test)]

@@ -1,4 +1,4 @@
-//! Nodes whose clocks are lists, some of which are no good.
+//! Tests of runs in threads in which each node's clock is a list, some of them too short.
 ghost use Rattle.std.specs.Prelude.{IfOk};
 ghost use Rattle.std.specs.List.Sorted.{IsNonDecreasing};
 ghost use Rattle.pals_clock.specs.ClockStates.{AreReadings};

@@ -1,4 +1,4 @@
-//! Nodes that meet.
+//! Tests of runs in threads in which the nodes meet, under schedules and refused starts of several kinds.
 use crate::bus_runs::{bus_of, tells};
 use crate::gates::{Meets, Yields};
 use case_files::example_designs::TURN;

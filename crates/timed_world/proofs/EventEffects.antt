@@ -4,13 +4,13 @@ use Rattle.std.proofs.Common.{ap₂, ◌∙◌, sym, subst, arith}
 use Rattle.std.specs.Prelude.{Bool, slice_index_or, slice_set}
 use Rattle.std.proofs.lemmas.List.{get_or_default}
 use Rattle.pals_base.specs.declared.limits.TheConstants.{ROUNDS}
-use Rattle.pals_base.specs.declared.values.NodeNo.{NodeNo}
-use Rattle.pals_base.specs.declared.values.LinkNo.{LinkNo}
+use Rattle.pals_base.specs.declared.basic_types.NodeNo.{NodeNo}
+use Rattle.pals_base.specs.declared.basic_types.LinkNo.{LinkNo}
 use Rattle.pals_runs.specs.declared.events_and_faults.Event.{Event}
 use Rattle.pals_runs.specs.declared.events_and_faults.Event.TheVariants as event
 use Rattle.bus_machine.specs.Plans.{plan_of}
 use Rattle.bus_machine.specs.NodeEvents.{running_step}
-use Rattle.bus_machine.specs.States.{BusState, node_at}
+use Rattle.bus_machine.specs.BusStates.{BusState, node_at}
 use Rattle.bus_machine.specs.Runs.{Run}
 use Rattle.bus_machine.specs.Machine.{BusEvent, Start, Step, Finish, Send, Arrive}
 use Rattle.bus_machine.specs.proof.AgreementLaws.{IsRunOf}

@@ -3,6 +3,6 @@ pub mod NodeStandings
 pub mod FaultSearch
 pub mod SingleCopiesInFlight
 pub mod EventEffects
-pub mod BusRefusals
+pub mod MemoryRefusals
 pub mod EventLists
 pub mod MessagesPastDeadline

@@ -13,7 +13,7 @@ use Rattle.run_laws.specs.Worlds.{World}
 use Rattle.run_laws.specs.Deadlines.{message_deadline}
 use Rattle.run_laws.specs.EventFaults.{or_else, first_of, past, copy_past, link_past}
 use Rattle.run_laws.specs.proof.WorldInvariant.{KeepsTime, copies}
-use Rattle.timed_world.specs.proof.FlightFaults.{flying_past}
+use Rattle.timed_world.specs.proof.MessagesPastDeadline.{flying_past}
 use Rattle.timed_world.proofs.FaultSearch.{goes_past, has_found}
 use Rattle.timed_world.proofs.SingleCopiesInFlight.{count, count_first, flies_by, flight, near, or_none, single}
 

@@ -7,10 +7,10 @@ use Rattle.std.proofs.lemmas.Bool.{false≢true}
 use Rattle.pals_base.specs.declared.limits.TheConstants.{READING, ROUNDS}
 use Rattle.pals_runs.specs.declared.phase.Phase.{Phase}
 use Rattle.pals_runs.specs.declared.phase.Phase.TheVariants.{Waiting, Running, Between, Holding, Done}
-use Rattle.pals_base.specs.declared.period_bound.Gamma.{Gamma}
+use Rattle.pals_base.specs.declared.period_bound_and_releases.Gamma.{Gamma}
 use Rattle.bus_machine.specs.declared.plan.Plan.{Plan}
 use Rattle.bus_machine.specs.Plans.{plan_of, component_at}
-use Rattle.bus_machine.specs.States.{node_at}
+use Rattle.bus_machine.specs.BusStates.{node_at}
 use Rattle.bus_machine.specs.Runs.{Run}
 use Rattle.bus_machine.specs.Agreement.{PhaseAgrees}
 use Rattle.bus_machine.specs.proof.AgreementLaws.{IsRunOf}
@@ -20,9 +20,9 @@ use Rattle.run_laws.specs.proof.WorldInvariant.{KeepsDeadline, KeepsTime}
 use Rattle.run_laws.proofs.WorldNodeTiming.{deadline_is, phase_agrees, rounds_at_most, send_last as of_send}
 use Rattle.run_laws.proofs.WorldNodeTiming.{phase_last as of_phase}
 use Rattle.run_laws.proofs.WorldTimeRanges.{times_are_readings}
-use Rattle.timed_world.specs.declared.standing.NodeStanding.{NodeStanding}
+use Rattle.timed_world.specs.declared.node_standing.NodeStanding.{NodeStanding}
 use Rattle.timed_world.specs.proof.WorldValues.{WorldValue, KeepsWorld, world_of}
-use Rattle.timed_world.specs.proof.NodeFaults.{IsSound, standing_of, phase_last, send_last, last_time}
+use Rattle.timed_world.specs.proof.NodeStandings.{IsSound, standing_of, phase_last, send_last, last_time}
 
 -- ---- a moment is at most the time, if there is a last time
 some_lesser : (a : ℕ) (b : Option ℕ) → is_some (lesser (Some a) b) ≡ true

@@ -4,7 +4,7 @@ ghost use Rattle.pals_runs.specs.declared.events_and_faults.Event.TheVariants as
 ghost use Rattle.run_laws.specs.EventFaults.{fault_of, event_fault, is_named};
 ghost use Rattle.timed_world.specs.proof.WorldValues.{world_of};
 
-use crate::standing::too_soon;
+use crate::node_standing::too_soon;
 use crate::world::World;
 use pals_base::{LinkNo, NodeNo};
 use pals_runs::{Event, EventFault, EventSubject};

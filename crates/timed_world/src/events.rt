@@ -3,8 +3,8 @@ ghost use Rattle.std.specs.Prelude.{◌≡◌, ◌⊎◌, ◌<◌, ◌++◌, [],
 ghost use Rattle.std.specs.Prelude.{slice_index_or, slice_set};
 ghost use Rattle.pals_runs.specs.declared.events_and_faults.Event.TheVariants as event;
 ghost use Rattle.pals_runs.specs.declared.events_and_faults.EventFault.TheVariants as fault;
-ghost use Rattle.pals_node.specs.declared.answers.StartEnd.TheVariants as start;
-ghost use Rattle.pals_node.specs.declared.answers.StepEnd.TheVariants as step;
+ghost use Rattle.pals_node.specs.declared.refusals.StartEnd.TheVariants as start;
+ghost use Rattle.pals_node.specs.declared.refusals.StepEnd.TheVariants as step;
 ghost use Rattle.pals_bus.specs.declared.bus_error.BusError.TheVariants.{Refused};
 ghost use Rattle.pals_bus.specs.declared.bus_error.MessageError.TheVariants as message;
 ghost use Rattle.run_laws.specs.EventFaults.{fault_of};

@@ -5,8 +5,8 @@
 mod event_faults;
 mod event_list;
 mod events;
-mod opening;
-mod standing;
+mod initial_lists;
+mod node_standing;
 mod time_passing_faults;
 mod world;
 

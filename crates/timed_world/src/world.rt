@@ -5,14 +5,14 @@ ghost use Rattle.pals_base.specs.declared.limits.TheConstants.{COMPONENTS, LINKS
 ghost use Rattle.bus_machine.specs.proof.AgreementLaws.{IsRunOf};
 ghost use Rattle.bus_machine.specs.Plans.{plan_of};
 ghost use Rattle.pals_node.specs.proof.NodeInvariants.{IsPlan};
-ghost use Rattle.pals_bus.specs.proof.OpeningBusAndNodeValues.{AreCodes};
+ghost use Rattle.pals_bus.specs.proof.StepCodesOfNodes.{AreCodes};
 ghost use Rattle.run_laws.specs.proof.WorldInvariant.{KeepsTime};
 ghost use Rattle.run_laws.specs.Worlds.{flight_since};
-ghost use Rattle.timed_world.specs.proof.NodeFaults.{IsSound, standing_of};
+ghost use Rattle.timed_world.specs.proof.NodeStandings.{IsSound, standing_of};
 ghost use Rattle.timed_world.specs.proof.WorldValues.{opening_value, world_of};
 
-use crate::opening::{least_delays, no_moments, no_times};
-use crate::standing::NodeStanding;
+use crate::initial_lists::{least_delays, no_moments, no_times};
+use crate::node_standing::NodeStanding;
 use bus_machine::Plan;
 use pals_base::{Items, LinkNo, Nanos, NoMemory, NodeNo};
 use pals_bus::Bus;

@@ -9,7 +9,7 @@ use Rattle.pals_runs.specs.declared.journal.JournalEntry.{JournalEntry}
 use Rattle.pals_runs.specs.declared.journal.JournalEntry.TheVariants as entry
 use Rattle.pals_runs.specs.declared.verdicts.TraceRule.TheVariants as rule
 use Rattle.bus_machine.specs.Nodes.{NodeState}
-use Rattle.bus_machine.specs.States.{BusState, opening}
+use Rattle.bus_machine.specs.BusStates.{BusState, opening}
 use Rattle.bus_machine.specs.Runs.{Run}
 use Rattle.bus_machine.specs.Machine.{BusEvent, after}
 use Rattle.run_laws.specs.EntriesOfDesigns.{IsEntryIn}
@@ -17,7 +17,7 @@ use Rattle.run_laws.specs.EntryEventsAndReadings.{event_of, has_reading, timed}
 use Rattle.run_laws.specs.TraceRules.{broken, is_line_of}
 use Rattle.run_laws.specs.TraceVerdicts.{Audit, audit_after, audit_event, line_broken, noted}
 use Rattle.trace_audit.specs.proof.OwedStops.{owed_by}
-use Rattle.trace_audit.proofs.OrderAndOwedStops.{owed_behind}
+use Rattle.trace_audit.proofs.OwedStops.{owed_behind}
 
 -- no reading is noted before the first line
 zeros : (f : ℕ → NodeState) (from n : ℕ) → map {B = ℕ} (λ (_ : NodeState). 0) (map f (upwards from n)) ≡ replicate n 0

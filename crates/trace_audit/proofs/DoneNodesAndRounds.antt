@@ -4,7 +4,7 @@ use Rattle.std.specs.Prelude.{min}
 use Rattle.std.specs.List.{list_all}
 use Rattle.std.proofs.lemmas.List.{drop_all, drop_more}
 use Rattle.bus_machine.specs.Nodes.{NodeState}
-use Rattle.bus_machine.specs.States.{BusState, no_node, node_at}
+use Rattle.bus_machine.specs.BusStates.{BusState, no_node, node_at}
 use Rattle.run_laws.specs.TraceVerdicts.{is_done}
 
 abbrev pub are_done : List NodeState → Bool

@@ -7,7 +7,7 @@ use Rattle.std.proofs.Math.Bool.{or-true}
 use Rattle.std.proofs.lemmas.Map.Keys.{any_passes_from_place}
 use Rattle.std.specs.Cmp.{both_ways}
 use Rattle.pals_model.specs.declared.design.Link.{Link}
-use Rattle.bus_machine.specs.States.{flight_at}
+use Rattle.bus_machine.specs.BusStates.{flight_at}
 use Rattle.run_laws.specs.TraceRules.{is_due, has_due}
 use Rattle.pals_bus.specs.proof.DueMessages.{HasDue}
 use Rattle.pals_bus.specs.BusValues.{BusValue}

@@ -13,7 +13,7 @@ use Rattle.run_laws.specs.TraceVerdicts.{Audit, audit_after, end_broken, entry_o
 use Rattle.run_laws.specs.TraceVerdicts.{opening_audit, report_size, row_size, trace_verdict, verdict, wrong_or}
 use Rattle.run_laws.specs.TraceVerdicts.{wrong_row}
 use Rattle.trace_audit.specs.declared.replay.Replay.{Replay}
-use Rattle.trace_audit.specs.proof.AuditReplays.{Follows, IsReplay, audit_in}
+use Rattle.trace_audit.specs.proof.AuditInvariant.{Follows, IsReplay, audit_in}
 
 judged_at : (run : Run) (rows index : ℕ) (a : Audit) (lines : List (List ℕ)) (line : List ℕ) (o : Option JournalEntry)
     → index < length lines → line ≡ get_or lines index line → o ≡ entry_of_line run.design line

@@ -1,12 +1,12 @@
 pub mod BrokenRules
 pub mod StartLines
-pub mod OrderAndOwedStops
+pub mod OwedStops
 pub mod DueMessages
 pub mod DoneNodesAndRounds
 pub mod StartRules
 pub mod AuditInvariant
 pub mod TextLines
-pub mod ReportLinePlaces
+pub mod ReportLinePositions
 pub mod ReportEnds
 pub mod ReportRows
 pub mod JournalVerdicts

@@ -1,7 +1,7 @@
 -- The report's rows are made one round after the other: for the rows that an audit compares lines with.
 use Rattle.std.proofs.Common.{◌≡◌, ℕ, suc, List, length, sym, ap, ap₂, ◌∙◌, subst}
 use Rattle.std.specs.Prelude.{slice_get}
-use Rattle.pals_base.specs.declared.values.PortValue.{PortValue}
+use Rattle.pals_base.specs.declared.basic_types.PortValue.{PortValue}
 use Rattle.pals_base.proofs.UpwardNumbers.{slice_get-map_upwards}
 use Rattle.pals_model.specs.declared.design.DesignParts.{DesignParts}
 use Rattle.pals_model.specs.declared.environment.Env.{Env}
@@ -10,7 +10,7 @@ use Rattle.pals_model.specs.Composition.{part}
 use Rattle.pals_model.specs.ComponentInputs.{values_at}
 use Rattle.pals_report.specs.proof.RowLines.{ArePartsOf}
 use Rattle.sync_product.specs.proof.ProductStates.{ProductState, advanced, state_after}
-use Rattle.sync_product.proofs.ProductLaws.{design_stays, has_parts_of_round}
+use Rattle.sync_product.proofs.CompositionAgreement.{design_stays, has_parts_of_round}
 use Rattle.trace_audit.specs.declared.audited_rows.AuditedRows.{AuditedRows}
 use Rattle.trace_audit.specs.proof.ReportRows.{AreRows}
 

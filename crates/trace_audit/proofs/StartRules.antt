@@ -2,14 +2,14 @@
 use Rattle.std.proofs.Common.{◌≡◌, ◌↔◌, ℕ, ◌<◌, ◌≤◌, Bool, true, false, cond, List, [], ◌∷◌, ◌++◌, length, Option, Some}
 use Rattle.std.proofs.Common.{None, inl, inr, IsTrue, sym, ap, ◌∙◌}
 use Rattle.pals_base.specs.declared.limits.TheConstants.{ROUNDS}
-use Rattle.pals_base.specs.declared.values.NodeNo.{NodeNo}
+use Rattle.pals_base.specs.declared.basic_types.NodeNo.{NodeNo}
 use Rattle.pals_model.specs.DesignRules.{IsDesign}
 use Rattle.pals_runs.specs.declared.journal.Stop.{Stop}
 use Rattle.pals_runs.specs.declared.journal.JournalEntry.{JournalEntry}
 use Rattle.pals_runs.specs.declared.verdicts.TraceRule.{TraceRule}
 use Rattle.pals_runs.specs.declared.verdicts.TraceRule.TheVariants as rule
-use Rattle.bus_machine.specs.States.{node_at}
-use Rattle.bus_machine.specs.MissedStarts.{missing_link}
+use Rattle.bus_machine.specs.BusStates.{node_at}
+use Rattle.bus_machine.specs.MissedMessages.{missing_link}
 use Rattle.bus_machine.specs.Machine.{Start}
 use Rattle.bus_machine.specs.Replay.{start_entry}
 use Rattle.run_laws.specs.EntriesOfDesigns.{IsEntryIn}
@@ -19,7 +19,7 @@ use Rattle.pals_bus.specs.proof.Answers.{MissesMessage, StoppedAtStart}
 use Rattle.pals_bus.specs.proof.DueMessages.{HasDue}
 use Rattle.pals_bus.specs.BusValues.{BusValue, Happens}
 use Rattle.trace_audit.specs.proof.EntryClocks.{read_at}
-use Rattle.trace_audit.specs.proof.ToldEvents.{IsReady, SaysStart}
+use Rattle.trace_audit.specs.proof.ReplayedEvents.{IsReady, SaysStart}
 use Rattle.trace_audit.specs.proof.FirstBrokenRule.{first_rule}
 use Rattle.trace_audit.proofs.BrokenRules.{late_breaks}
 use Rattle.trace_audit.proofs.DueMessages.{due_is}

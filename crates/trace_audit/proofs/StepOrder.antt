@@ -3,13 +3,13 @@ use Rattle.std.proofs.Common.{◌≡◌, ℕ, nat_eq, true, false, ◌&&◌, Lis
 use Rattle.std.specs.Prelude.{is_some}
 use Rattle.std.specs.Option.{option_map_or, unwrap_or}
 use Rattle.std.proofs.lemmas.Bool.{eqb-true, eq-eqb, and_right}
-use Rattle.pals_base.specs.declared.values.NodeNo.{NodeNo}
+use Rattle.pals_base.specs.declared.basic_types.NodeNo.{NodeNo}
 use Rattle.pals_runs.specs.declared.journal.JournalEntry.TheVariants as entry
 use Rattle.pals_runs.specs.declared.phase.Phase.{Phase}
 use Rattle.pals_runs.specs.declared.verdicts.TraceRule.TheVariants as rule
 use Rattle.bus_machine.specs.Nodes.{round_of}
 use Rattle.bus_machine.specs.NodeEvents.{next_step}
-use Rattle.bus_machine.specs.States.{BusState, node_at}
+use Rattle.bus_machine.specs.BusStates.{BusState, node_at}
 use Rattle.bus_machine.specs.Runs.{Run}
 use Rattle.bus_machine.specs.Machine.{Step}
 use Rattle.bus_machine.specs.Replay.{entries}
@@ -23,7 +23,6 @@ next_is step p is = by (next_step p) is
     by None is' = absurd (cc)
     by (Some i) is' = ap Some (sym (eqb-true step i is'))
 
-
 pub step_fits : (run : Run) (s : BusState) (node : NodeNo) (round step : ℕ) (reading : Option ℕ)
     → round ≡ round_of (node_at s node.0) → next_step (node_at s node.0).phase ≡ Some step
     → fits run s (entry.Step node round step reading) ≡ true
@@ -31,13 +30,11 @@ step_fits run s node round step reading here next =
     ap₂ (λ a b. a && b) (eq-eqb round (round_of (node_at s node.0)) here)
     (ap (λ o. nat_eq step (unwrap_or o 0)) next ∙ eq-eqb step step refl)
 
-
 pub step_first : (run : Run) (s : BusState) (node : NodeNo) (round step : ℕ) (reading : Option ℕ)
     → round ≡ round_of (node_at s node.0) → next_step (node_at s node.0).phase ≡ Some step
     → first_entry (entries run s (Step node reading)) ≡ Some (entry.Step node round step reading)
 step_first run s node round step reading here next =
     ap₂ (λ r o. Some (entry.Step node r (unwrap_or o 0) reading)) (sym here) next
-
 
 -- another step than the next one, or none
 pub step_breaks : (run : Run) (s : BusState) (readings : List ℕ) (node : NodeNo) (round step : ℕ) (reading : Option ℕ)

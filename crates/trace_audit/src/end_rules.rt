@@ -1,10 +1,11 @@
-//! What holds where the lines end.
+//! The rule that a trace breaks at its end: a stop that is owed, nodes that are not done, or another number of rows
+//! than of finished rounds.
 ghost use Rattle.std.specs.Prelude.{◌≡◌};
 ghost use Rattle.std.specs.List.{list_all};
 ghost use Rattle.bus_machine.specs.Nodes.{NodeState};
-ghost use Rattle.bus_machine.specs.States.{finished_by_all};
+ghost use Rattle.bus_machine.specs.BusStates.{finished_by_all};
 ghost use Rattle.run_laws.specs.TraceVerdicts.{end_broken, is_done};
-ghost use Rattle.trace_audit.specs.proof.AuditReplays.{audit_in};
+ghost use Rattle.trace_audit.specs.proof.AuditInvariant.{audit_in};
 
 use crate::replay::Replay;
 use pals_base::NodeNo;

@@ -1,4 +1,4 @@
-//! The rule that is broken first.
+//! The first rule that an event breaks, and whether a message is due and two entries have one line.
 ghost use Rattle.std.specs.Prelude.{◌≡◌, Bool, Some, None, true};
 ghost use Rattle.trace_audit.specs.proof.FirstBrokenRule.{first_rule};
 

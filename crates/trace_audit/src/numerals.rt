@@ -1,4 +1,4 @@
-//! The numbers of a line.
+//! The numbers, rounds and readings that words of a line spell in decimal digits.
 ghost use Rattle.std.specs.Prelude.{◌≡◌, ◌<◌, ◌≤◌, IfSome, IfNone};
 ghost use Rattle.pals_base.specs.declared.limits.TheConstants.{READING};
 ghost use Rattle.run_laws.specs.LineForms.{spelled, number_up_to, round_in, reading_in};

@@ -1,15 +1,15 @@
-//! A run that is done again, line by line.
+//! The replay of a journal on a bus, line by line, each with the first rule that it breaks.
 ghost use Rattle.std.specs.Prelude.{◌≡◌, ◌<◌, Option, Some, None, Ok, false, IfOk, IfSome};
-ghost use Rattle.bus_machine.specs.States.{opening};
+ghost use Rattle.bus_machine.specs.BusStates.{opening};
 ghost use Rattle.run_laws.specs.EntriesOfDesigns.{IsEntryIn};
 ghost use Rattle.run_laws.specs.EntryEventsAndReadings.{has_reading};
 ghost use Rattle.run_laws.specs.TraceVerdicts.{opening_audit, line_broken};
 ghost use Rattle.trace_audit.specs.proof.OwedStops.{owed_by};
-ghost use Rattle.trace_audit.specs.proof.AuditReplays.{IsReplay, Follows, IsClockOf, audit_in};
+ghost use Rattle.trace_audit.specs.proof.AuditInvariant.{IsReplay, Follows, IsClockOf, audit_in};
 
 use crate::entry_clocks::{ClockReading, clock_of, has_reading, note};
 use crate::entry_comparison::is_line_of;
-use crate::redone_entries::replay_entry;
+use crate::replayed_entries::replay_entry;
 use pals_base::{Nanos, NoMemory};
 use pals_bus::Bus;
 use pals_runs::{Arrived, JournalEntry, Stop, TraceRule};

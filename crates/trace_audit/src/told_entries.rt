@@ -1,7 +1,7 @@
 //! The entries that lines tell.
 ghost use Rattle.std.specs.Prelude.{◌≡◌, ℕ, List, Some, IfSome};
 ghost use Rattle.pals_model.specs.declared.design.DesignParts.{DesignParts};
-ghost use Rattle.pals_model.specs.NamesInTexts.{node_named, link_named};
+ghost use Rattle.pals_model.specs.ComponentAndLinkNames.{node_named, link_named};
 ghost use Rattle.run_laws.specs.EntriesOfDesigns.{IsEntryIn};
 ghost use Rattle.run_laws.specs.EntriesInLines.{entry_of, entry_of_line};
 ghost use Rattle.trace_audit.specs.proof.LineForms.{node_form, link_form, shown};

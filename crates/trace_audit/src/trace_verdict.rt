@@ -3,11 +3,11 @@ ghost use Rattle.std.specs.Prelude.{◌≡◌, ◌/◌, ◌^◌, ◌<◌, ◌≤
 ghost use Rattle.std.specs.Arc.{arc_value};
 ghost use Rattle.pals_base.specs.declared.limits.TheConstants.{ROUNDS};
 ghost use Rattle.pals_model.specs.Delays.{AreDelays};
-ghost use Rattle.pals_bus.specs.proof.OpeningBusAndNodeValues.{AreCodes};
+ghost use Rattle.pals_bus.specs.proof.StepCodesOfNodes.{AreCodes};
 ghost use Rattle.pals_runs.specs.declared.verdicts.Verdict.TheVariants.{Sound, Wrong};
 ghost use Rattle.run_laws.specs.TraceVerdicts.{end_broken, journal_verdict, opening_audit, row_size, verdict, wrong_or};
 ghost use Rattle.trace_audit.specs.declared.report.ReportEnd.TheVariants.{Whole};
-ghost use Rattle.trace_audit.specs.proof.AuditReplays.{IsReplay, audit_in};
+ghost use Rattle.trace_audit.specs.proof.AuditInvariant.{IsReplay, audit_in};
 ghost use Rattle.trace_audit.specs.proof.ReportEnds.{ReportEnds};
 
 use crate::end_rules::end_rule;

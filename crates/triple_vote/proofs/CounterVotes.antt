@@ -3,7 +3,7 @@ use Rattle.std.proofs.Common.{◌≡◌, ◌∙◌, ℕ, zero, suc, ◌<◌, [],
 use Rattle.std.proofs.lemmas.List.Elements.{All-nil, All-cons}
 use Rattle.std.specs.Fmt.{digits}
 use Rattle.pals_base.specs.SingleStep.{fire}
-use Rattle.triple_vote.specs.Replicas.{voted_composition, voted_tap}
+use Rattle.triple_vote.specs.VotedComposition.{voted_composition, voted_tap}
 use Rattle.pals_model.specs.proof.TwoCounters.{two_counters}
 use Rattle.pals_runs.specs.declared.vote_faults.VoteFault.{VoteFault}
 use Rattle.triple_vote.specs.proof.VoteLaws.{IsFault}

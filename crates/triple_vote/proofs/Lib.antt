@@ -12,9 +12,9 @@ pub mod SelectiveListWrites
 pub mod LayerSteps
 pub mod LayerTuples
 pub mod VotedRounds
-pub mod LayerUpdates
+pub mod ThreeLayerUpdates
 pub mod TupleLengths
-pub mod StageMessages
+pub mod StageMessagesAndTaps
 pub mod FaultTables
 pub mod VotedMessagesAndTaps
 pub mod OpeningReplicas

@@ -4,8 +4,8 @@ use Rattle.std.proofs.Common.{slice_index_or, Some, sym, ap, ap₂, subst, arith
 use Rattle.std.proofs.lemmas.List.{length-map, get_or-map, get_or-replicate, get_or_default}
 use Rattle.std.proofs.lemmas.Option.{get_or_from_slice_get}
 use Rattle.list_lemmas.proofs.ElementPositions.{slice_get-map_some}
-use Rattle.pals_base.specs.declared.values.PortValue.{PortValue}
-use Rattle.pals_base.specs.declared.values.PortValue.TheVariants.{Absent}
+use Rattle.pals_base.specs.declared.basic_types.PortValue.{PortValue}
+use Rattle.pals_base.specs.declared.basic_types.PortValue.TheVariants.{Absent}
 use Rattle.pals_base.specs.declared.frames.Frame.{Frame}
 use Rattle.pals_base.specs.SingleStep.{initial}
 use Rattle.pals_model.specs.declared.design.Component.{Component}
@@ -24,8 +24,8 @@ use Rattle.sync_product.specs.proof.ProductSizes.{part_size, part_size_of, stage
 use Rattle.sync_product.specs.proof.Rounds.{frames_of}
 use Rattle.sync_product.proofs.ComponentLists.{count_of_sized}
 use Rattle.triple_vote.specs.declared.replica_layer.Layer.{Layer}
-use Rattle.triple_vote.specs.Replicas.{copies_of, VotedConfiguration, frame_at, received_at, first_frame, first_tuple, voted_opening}
-use Rattle.triple_vote.specs.Replicas.{voted_tap_by}
+use Rattle.triple_vote.specs.VotedComposition.{copies_of, VotedConfiguration, frame_at, received_at, first_frame, first_tuple, voted_opening}
+use Rattle.triple_vote.specs.VotedComposition.{voted_tap_by}
 use Rattle.triple_vote.specs.proof.VotedStates.{VotedState, voted_begun, voted_advanced}
 use Rattle.triple_vote.specs.proof.ReplicaLayers.{lengths, frame_sizes, tap_sizes}
 use Rattle.triple_vote.specs.proof.ThreeLayers.{there_in, parts_in, frame_of, tuple_of, voted_of, AreThree}
@@ -33,7 +33,7 @@ use Rattle.triple_vote.specs.proof.ThreeLayers.{HaveReplicas, AreOpened, StayPut
 use Rattle.triple_vote.specs.proof.ThreeLayers.{AreSwapped, HasReceivedSizes}
 use Rattle.triple_vote.specs.proof.ProductInvariant.{HasTables, HasReplicas}
 use Rattle.triple_vote.proofs.ReplicaRounds.{replica_at, receiver_at}
-use Rattle.triple_vote.proofs.LayerUpdates.{room_at}
+use Rattle.triple_vote.proofs.ThreeLayerUpdates.{room_at}
 use Rattle.triple_vote.proofs.VotedRounds.{replicas-same, receivers-same, within_three, voted_is, shown_is}
 
 abbrev pub voted_state_of : DesignParts → List Bool → VotedConfiguration → List (List PortValue) → VotedState

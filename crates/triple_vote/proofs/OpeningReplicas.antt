@@ -4,8 +4,8 @@ use Rattle.std.proofs.Common.{length, map, All, replicate, slice_index_or, refl,
 use Rattle.std.specs.Prelude.{pos}
 use Rattle.std.proofs.lemmas.List.{length-map, length-replicate, get_or-replicate}
 use Rattle.std.proofs.lemmas.List.Elements.{All-nil, All-cons}
-use Rattle.pals_base.specs.declared.values.PortValue.{PortValue}
-use Rattle.pals_base.specs.declared.values.PortValue.TheVariants.{Absent}
+use Rattle.pals_base.specs.declared.basic_types.PortValue.{PortValue}
+use Rattle.pals_base.specs.declared.basic_types.PortValue.TheVariants.{Absent}
 use Rattle.pals_base.specs.declared.behaviour.VarDecl.{VarDecl}
 use Rattle.pals_base.specs.SingleStep.{initial}
 use Rattle.pals_model.specs.declared.design.Component.{Component}
@@ -17,7 +17,7 @@ use Rattle.sync_product.specs.proof.ProductSizes.{FrameSize, PartSize, part_size
 use Rattle.sync_product.specs.proof.Rounds.{frames_of}
 use Rattle.sync_product.proofs.OpeningProducts.{opening_messages_fit}
 use Rattle.triple_vote.specs.declared.replica_layer.Layer.{Layer}
-use Rattle.triple_vote.specs.Replicas.{is_replicated}
+use Rattle.triple_vote.specs.VotedComposition.{is_replicated}
 use Rattle.triple_vote.specs.proof.ReplicaLayers.{lengths, opening_part, HasRoom, has_replica, IsOpened}
 use Rattle.triple_vote.specs.proof.ThreeLayers.{there_in, parts_in, AreThree, HaveReplicas, AreOpened, HasReceivedSizes}
 

@@ -7,7 +7,7 @@ use Rattle.std.specs.List.{enumerate_from}
 use Rattle.std.proofs.lemmas.Bool.{eq-eqb}
 use Rattle.std.proofs.lemmas.Option.{slice_get_within, slice_get-map, get_or_from_slice_get}
 use Rattle.std.specs.Option.{option_map}
-use Rattle.pals_base.specs.declared.values.PortValue.{PortValue}
+use Rattle.pals_base.specs.declared.basic_types.PortValue.{PortValue}
 use Rattle.pals_base.specs.declared.frames.Frame.{Frame}
 use Rattle.pals_base.specs.UpwardNumbers.{upwards}
 use Rattle.pals_base.proofs.UpwardNumbers.{map_upwards_same}
@@ -21,7 +21,7 @@ use Rattle.pals_model.specs.Composition.{state, steps_of_round, tuple_of, taps_o
 use Rattle.pals_model.specs.RoundTexts.{text_of, round_line, component_line, tap_line, part_lines, tap_lines}
 use Rattle.pals_model.specs.RoundTexts.{taps_before, composed_lines}
 use Rattle.pals_model.proofs.CompositionLaws.{state_goes_on, part_from_steps}
-use Rattle.triple_vote.specs.Replicas.{is_replicated, copies_of, frame_at, voted_composition, voted_tap}
+use Rattle.triple_vote.specs.VotedComposition.{is_replicated, copies_of, frame_at, voted_composition, voted_tap}
 use Rattle.triple_vote.specs.VotedText.{replica_name, replica_lines, shown_line, voted_row, voted_lines, tripled_lines}
 use Rattle.triple_vote.specs.proof.VoteLaws.{ReportIsThrice, ThriceWithoutReplicas}
 use Rattle.triple_vote.proofs.OutvotedFaults.{replicas_are_states, taps_show_tuples}

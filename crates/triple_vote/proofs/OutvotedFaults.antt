@@ -5,7 +5,7 @@ use Rattle.std.proofs.Common.{Some, slice_get, slice_index_or, sym, ap, ap₂, a
 use Rattle.std.proofs.lemmas.List.{length-map}
 use Rattle.std.proofs.lemmas.Option.{slice_get-get_or}
 use Rattle.std.proofs.Math.ListN.{get_or-map}
-use Rattle.pals_base.specs.declared.values.PortValue.{PortValue}
+use Rattle.pals_base.specs.declared.basic_types.PortValue.{PortValue}
 use Rattle.pals_base.specs.declared.frames.Frame.{Frame}
 use Rattle.pals_base.specs.UpwardNumbers.{upwards}
 use Rattle.pals_model.specs.declared.design.Link.{Link}
@@ -15,8 +15,8 @@ use Rattle.pals_model.specs.ComponentInputs.{values_at}
 use Rattle.pals_model.specs.Composition.{no_frame, comp, state, msg}
 use Rattle.pals_model.proofs.CompositionLaws.{one_frame_each, one_message_each}
 use Rattle.pals_runs.specs.declared.vote_faults.VoteFault.{VoteFault}
-use Rattle.triple_vote.specs.Replicas.{is_replicated, copies_of, receivers_in, VotedConfiguration, for_replicas, for_receivers}
-use Rattle.triple_vote.specs.Replicas.{first_frame, first_tuple, replica_steps, receives_on, voted_composition}
+use Rattle.triple_vote.specs.VotedComposition.{is_replicated, copies_of, receivers_in, VotedConfiguration, for_replicas, for_receivers}
+use Rattle.triple_vote.specs.VotedComposition.{first_frame, first_tuple, replica_steps, receives_on, voted_composition}
 use Rattle.triple_vote.specs.proof.VoteLaws.{ReplicasAreStates, ReceivedAreMessages, TapsShowTuples, unreplicated}
 use Rattle.triple_vote.specs.proof.VoteLaws.{NoReplicasAreComposition}
 use Rattle.triple_vote.proofs.ListTablesAndSearches.{table-is}

@@ -4,7 +4,7 @@ use Rattle.std.proofs.Common.{slice_index_or, refl, ap, ap₂}
 use Rattle.std.specs.Prelude.{position}
 use Rattle.std.proofs.lemmas.Bool.{eqb-true, and_parts}
 use Rattle.std.proofs.Math.ListN.{get_or-map}
-use Rattle.pals_base.specs.declared.values.PortValue.{PortValue}
+use Rattle.pals_base.specs.declared.basic_types.PortValue.{PortValue}
 use Rattle.pals_base.specs.Tuples.{columns}
 use Rattle.pals_base.specs.UpwardNumbers.{upwards}
 use Rattle.pals_model.specs.declared.design.Component.{Component}
@@ -13,7 +13,7 @@ use Rattle.pals_model.specs.declared.design.DesignParts.{DesignParts}
 use Rattle.pals_model.specs.ComponentInputs.{inputs_of, source_of, from_link, from_feed, link_goes_to, feed_goes_to}
 use Rattle.pals_model.specs.ComponentInputs.{brought_tuple, read_link}
 use Rattle.pals_model.proofs.FirstMatches.{found_at}
-use Rattle.triple_vote.specs.Replicas.{VotedConfiguration, received_at, heard_by}
+use Rattle.triple_vote.specs.VotedComposition.{VotedConfiguration, received_at, heard_by}
 
 module _ (design : DesignParts) (values : List PortValue) (v : VotedConfiguration) (messages : List (List PortValue))
     (replica : ℕ) where

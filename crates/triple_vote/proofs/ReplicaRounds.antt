@@ -2,9 +2,9 @@
 use Rattle.std.proofs.Common.{◌≡◌, ◌∙◌, ℕ, zero, suc, ◌<◌, Bool, true, false, if◌then◌else◌, List, [], length, map}
 use Rattle.std.proofs.Common.{Some, slice_get, slice_index_or, find, refl, sym, ap, ap₂, subst, arith}
 use Rattle.std.proofs.lemmas.Option.{slice_get_within}
-use Rattle.pals_base.specs.declared.values.PortValue.{PortValue}
+use Rattle.pals_base.specs.declared.basic_types.PortValue.{PortValue}
 use Rattle.pals_base.specs.declared.frames.Frame.{Frame}
-use Rattle.pals_base.specs.PeriodBound.{sent_steps}
+use Rattle.pals_base.specs.PeriodBoundAndReleases.{sent_steps}
 use Rattle.pals_base.specs.StepSequences.{steps, Stepped}
 use Rattle.pals_base.specs.Tuples.{cut}
 use Rattle.pals_base.specs.UpwardNumbers.{upwards}
@@ -25,10 +25,10 @@ use Rattle.pals_model.proofs.FirstMatches.{at_element}
 use Rattle.pals_model.proofs.ShapeLaws.{component_at, message_has_rate}
 use Rattle.pals_runs.specs.declared.vote_faults.VoteFault.{VoteFault}
 use Rattle.triple_vote.specs.Votes.{votes}
-use Rattle.triple_vote.specs.Replicas.{is_replicated, copies_of, receivers_in, VotedConfiguration, frame_at, received_at}
-use Rattle.triple_vote.specs.Replicas.{for_replicas, for_receivers, first_frame, first_tuple, voted_opening, steps_in}
-use Rattle.triple_vote.specs.Replicas.{replica_steps, tuple_at, is_fault, fault_or, own_message, sent_to, vote_of}
-use Rattle.triple_vote.specs.Replicas.{receives_on, next_voted, voted_composition, voted_tap_by, voted_tap}
+use Rattle.triple_vote.specs.VotedComposition.{is_replicated, copies_of, receivers_in, VotedConfiguration, frame_at, received_at}
+use Rattle.triple_vote.specs.VotedComposition.{for_replicas, for_receivers, first_frame, first_tuple, voted_opening, steps_in}
+use Rattle.triple_vote.specs.VotedComposition.{replica_steps, tuple_at, is_fault, fault_or, own_message, sent_to, vote_of}
+use Rattle.triple_vote.specs.VotedComposition.{receives_on, next_voted, voted_composition, voted_tap_by, voted_tap}
 use Rattle.triple_vote.proofs.TupleVotes.{votes-first_two}
 use Rattle.triple_vote.proofs.ReplicaInputs.{same_inputs}
 

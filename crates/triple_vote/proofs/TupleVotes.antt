@@ -1,10 +1,10 @@
--- The votes of tuples, place by place.
+-- The votes of tuples, place by place; a tuple that two of three agree on wins.
 use Rattle.std.proofs.Common.{◌≡◌, ◌∙◌, inl, inr, ℕ, zero, suc, ◌+◌, ◌<◌, ◌≤◌, List, [], ◌∷◌, length, get_or, slice_set}
 use Rattle.std.proofs.Common.{refl, sym, ap, arith, eq-or-lt_of_le, ap₂}
 use Rattle.std.proofs.lemmas.List.{get_or-set_other, ext_get_or}
 use Rattle.std.proofs.lemmas.Grind.{get_or-set_at}
-use Rattle.pals_base.specs.declared.values.PortValue.{PortValue}
-use Rattle.pals_base.specs.declared.values.PortValue.TheVariants.{Absent}
+use Rattle.pals_base.specs.declared.basic_types.PortValue.{PortValue}
+use Rattle.pals_base.specs.declared.basic_types.PortValue.TheVariants.{Absent}
 use Rattle.triple_vote.specs.Votes.{vote, votes}
 use Rattle.triple_vote.proofs.MajorityVotes.{vote-first_two, vote-last_two, vote-outer_two}
 
@@ -54,13 +54,11 @@ votes-first_two (x ∷ m) [] same = absurd (omega arith)
 votes-first_two (x ∷ m) (z ∷ zs) same =
     ap₂ (λ p (ps : List PortValue). p ∷ ps) (vote-first_two x z) (votes-first_two m zs (omega arith))
 
-
 pub votes-outer_two : (m y : List PortValue) → length y ≡ length m → votes m y m ≡ m
 votes-outer_two [] y same = refl
 votes-outer_two (x ∷ m) [] same = absurd (omega arith)
 votes-outer_two (x ∷ m) (y ∷ ys) same =
     ap₂ (λ p (ps : List PortValue). p ∷ ps) (vote-outer_two x y) (votes-outer_two m ys (omega arith))
-
 
 pub votes-last_two : (m x : List PortValue) → length x ≡ length m → votes x m m ≡ m
 votes-last_two [] [] same = refl

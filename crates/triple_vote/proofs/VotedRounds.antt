@@ -5,9 +5,9 @@ use Rattle.std.proofs.lemmas.Bool.{lt-ltb}
 use Rattle.std.proofs.lemmas.List.{length-map, ext_get_or}
 use Rattle.std.proofs.lemmas.Option.{slice_get_within, slice_get_cases, get_or_from_slice_get}
 use Rattle.list_lemmas.proofs.ElementPositions.{slice_get-map_some, get_or-map_some}
-use Rattle.pals_base.specs.declared.values.PortValue.{PortValue}
+use Rattle.pals_base.specs.declared.basic_types.PortValue.{PortValue}
 use Rattle.pals_base.specs.declared.frames.Frame.{Frame}
-use Rattle.pals_base.specs.PeriodBound.{sent_steps}
+use Rattle.pals_base.specs.PeriodBoundAndReleases.{sent_steps}
 use Rattle.pals_base.specs.StepSequences.{steps, Stepped}
 use Rattle.pals_base.specs.Tuples.{column, columns, cut}
 use Rattle.pals_base.specs.UpwardNumbers.{upwards}
@@ -27,9 +27,9 @@ use Rattle.pals_runs.specs.declared.vote_faults.VoteFault.{VoteFault}
 use Rattle.sync_product.specs.proof.Rounds.{frames_of}
 use Rattle.triple_vote.specs.declared.replica_layer.Layer.{Layer}
 use Rattle.triple_vote.specs.Votes.{votes}
-use Rattle.triple_vote.specs.Replicas.{is_replicated, copies_of, receivers_in, VotedConfiguration, for_replicas, for_receivers}
-use Rattle.triple_vote.specs.Replicas.{steps_in, replica_steps, tuple_at, is_fault, fault_or, own_message, sent_to}
-use Rattle.triple_vote.specs.Replicas.{vote_of, receives_on, next_voted, voted_tap_by}
+use Rattle.triple_vote.specs.VotedComposition.{is_replicated, copies_of, receivers_in, VotedConfiguration, for_replicas, for_receivers}
+use Rattle.triple_vote.specs.VotedComposition.{steps_in, replica_steps, tuple_at, is_fault, fault_or, own_message, sent_to}
+use Rattle.triple_vote.specs.VotedComposition.{vote_of, receives_on, next_voted, voted_tap_by}
 use Rattle.triple_vote.specs.proof.ReplicaLayers.{has_replica, frame_made, rows_made}
 use Rattle.triple_vote.specs.proof.ThreeLayers.{there_in, parts_in, next_in, sent_in, shown_in, frame_of, tuple_of}
 use Rattle.triple_vote.specs.proof.ThreeLayers.{voted_of, received_of, AllReceived, shown_of, AreShown, AreMade}

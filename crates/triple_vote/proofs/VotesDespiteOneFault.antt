@@ -3,13 +3,13 @@ use Rattle.std.proofs.Common.{◌≡◌, ◌∙◌, ℕ, suc, nat_eq, ◌&&◌, 
 use Rattle.std.proofs.Common.{refl, sym, ap, arith}
 use Rattle.std.proofs.lemmas.Bool.{eqb-true, and_parts}
 use Rattle.std.proofs.lemmas.List.Elements.{All-contains}
-use Rattle.pals_base.specs.declared.values.PortValue.{PortValue}
+use Rattle.pals_base.specs.declared.basic_types.PortValue.{PortValue}
 use Rattle.pals_model.specs.declared.design.Link.{Link}
 use Rattle.pals_model.specs.declared.design.DesignParts.{DesignParts}
 use Rattle.pals_model.specs.PortKinds.{rate_of}
 use Rattle.pals_runs.specs.declared.vote_faults.VoteFault.{VoteFault}
 use Rattle.triple_vote.specs.Votes.{votes}
-use Rattle.triple_vote.specs.Replicas.{source_in, is_fault, fault_or, vote_of}
+use Rattle.triple_vote.specs.VotedComposition.{source_in, is_fault, fault_or, vote_of}
 use Rattle.triple_vote.specs.OutvotedFaults.{AreOutvoted}
 use Rattle.triple_vote.specs.proof.VoteLaws.{IsFault, AreFaults, OneNamedIsOutvoted}
 use Rattle.triple_vote.proofs.TupleVotes.{votes-first_two, votes-outer_two, votes-last_two}

@@ -1,5 +1,5 @@
 pub mod Votes
-pub mod Replicas
+pub mod VotedComposition
 pub mod VotedText
 pub mod OutvotedFaults
 pub mod proof

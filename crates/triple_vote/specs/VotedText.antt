@@ -2,7 +2,7 @@
 -- place of the component's line.
 use Rattle.std.specs.Prelude.{ℕ, suc, codes, decimal, Bool, if◌then◌else◌, List, ◌∷◌, ◌++◌, map, flat_map, slice_get}
 use Rattle.std.specs.List.{enumerate_from}
-use Rattle.pals_base.specs.declared.values.PortValue.{PortValue}
+use Rattle.pals_base.specs.declared.basic_types.PortValue.{PortValue}
 use Rattle.pals_base.specs.declared.frames.Frame.{Frame}
 use Rattle.pals_base.specs.UpwardNumbers.{upwards}
 use Rattle.pals_model.specs.declared.design.Component.{Component}
@@ -13,7 +13,7 @@ use Rattle.pals_model.specs.PortKinds.{out_kind}
 use Rattle.pals_model.specs.Composition.{state, steps_of_round, tuple_of}
 use Rattle.pals_model.specs.RoundTexts.{text_of, round_line, component_line, tap_line}
 use Rattle.pals_runs.specs.declared.vote_faults.VoteFault.{VoteFault}
-use Rattle.triple_vote.specs.Replicas.{is_replicated, copies_of, frame_at, voted_composition, voted_tap}
+use Rattle.triple_vote.specs.VotedComposition.{is_replicated, copies_of, frame_at, voted_composition, voted_tap}
 
 -- ---- the lines of a component: PATH, or PATH#1, PATH#2 and PATH#3
 abbrev pub replica_name : List ℕ → Bool → ℕ → List ℕ

@@ -1,4 +1,5 @@
-//! Where the faults of a round stand, so that each message looks only at its own place.
+//! The table of a round's faults: for each link, replica of its source and replica of its target the number of the
+//! first fault.
 ghost use Rattle.std.specs.Prelude.{◌≡◌, ◌<◌, ◌+◌, ◌*◌, ◌^◌, IfOk, length, replicate, Option};
 ghost use Rattle.triple_vote.specs.proof.FaultTables.{place, is_replica, is_placed, with_fault, AreFirst};
 

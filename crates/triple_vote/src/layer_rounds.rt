@@ -1,4 +1,4 @@
-//! The rounds of the replicas of one number.
+//! A round of one layer: the steps of its replicas, their messages, and the tuples of their taps.
 ghost use Rattle.std.specs.Prelude.{◌≡◌, [], OnOk, length, map, slice_index_or};
 ghost use Rattle.pals_model.specs.ComponentInputs.{all_sources};
 ghost use Rattle.sync_product.specs.proof.ProductSizes.{part_size, stage_size, stage_sizes, message_sizes};

@@ -5,12 +5,12 @@
 mod fault_table;
 pub mod laws;
 mod layer_rounds;
-mod layers;
 mod opening;
 mod product;
-mod receiving;
+mod received_messages;
 mod replica_layer;
 mod tap_tuples;
+mod three_layers;
 pub mod votes;
 
 pub use product::VoteProduct;

@@ -1,6 +1,6 @@
-//! What replicas begin with.
+//! The opening frames of replicas, and the absent tuples of root out ports.
 ghost use Rattle.std.specs.Prelude.{◌≡◌, IfOk, map, replicate};
-ghost use Rattle.pals_base.specs.declared.values.PortValue.TheVariants.{Absent};
+ghost use Rattle.pals_base.specs.declared.basic_types.PortValue.TheVariants.{Absent};
 ghost use Rattle.pals_model.specs.PortKinds.{rate_of};
 ghost use Rattle.triple_vote.specs.proof.ReplicaLayers.{opening_part};
 

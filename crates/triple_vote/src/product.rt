@@ -3,15 +3,15 @@ ghost use Rattle.std.specs.Prelude.{◌≡◌, ◌≤◌, ◌<◌, ◌-◌, [], 
 ghost use Rattle.std.specs.Prelude.{slice_index_or};
 ghost use Rattle.std.specs.Arc.{arc_value};
 ghost use Rattle.pals_model.specs.declared.design.Link.{Link};
-ghost use Rattle.triple_vote.specs.Replicas.{copies_of, frame_at, received_at};
+ghost use Rattle.triple_vote.specs.VotedComposition.{copies_of, frame_at, received_at};
 ghost use Rattle.triple_vote.specs.proof.VoteLaws.{IsFault};
 ghost use Rattle.triple_vote.specs.proof.VotedStates.{voted_begun, voted_advanced};
 
 use crate::fault_table::{FaultTable, first_faults};
-use crate::layers::{opening_received, opening_layers, receive_each, run_each, swap_each};
 use crate::opening::opening_shown;
 use crate::replica_layer::Layer;
 use crate::tap_tuples::show_each;
+use crate::three_layers::{opening_layers, opening_received, receive_each, run_each, swap_each};
 use pals_base::{Frame, Items, LinkNo, NoMemory, NodeNo, PortValue, Tuple};
 use pals_model::port_sources::all_sources;
 use pals_model::{Design, PortSource};
@@ -129,7 +129,13 @@ impl VoteProduct {
             faults,
             places: places.as_slice(),
         };
-        receive_each(&self.design, replicated, table, layers, &mut self.received_messages);
+        receive_each(
+            &self.design,
+            replicated,
+            table,
+            layers,
+            &mut self.received_messages,
+        );
         show_each(&self.design, replicated, layers, &mut self.shown);
         swap_each(&mut self.layers);
         Ok(())

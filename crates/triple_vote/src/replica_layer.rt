@@ -1,4 +1,5 @@
-//! The replicas of one number.
+//! A layer: its replicas, one of each component that has one of this number, with their frames, messages and tap
+//! tuples.
 ghost use Rattle.std.specs.Prelude.{◌≡◌, IfOk, OnOk, map};
 ghost use Rattle.pals_model.specs.ComponentInputs.{all_sources};
 ghost use Rattle.sync_product.specs.proof.ProductSizes.{stage_size, stage_sizes};

@@ -1,4 +1,4 @@
-//! What root out ports show.
+//! The tuple that each root out port shows: the vote of three replicas, or that of a source without replicas.
 ghost use Rattle.std.specs.Prelude.{◌≡◌, length};
 ghost use Rattle.pals_model.specs.DesignRules.{IsDesign};
 ghost use Rattle.triple_vote.specs.proof.ReplicaLayers.{lengths, tap_sizes};

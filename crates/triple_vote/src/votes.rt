@@ -1,4 +1,4 @@
-//! Votes.
+//! The vote of three: what two of three agree on, of one value and of each place of a tuple.
 ghost use Rattle.std.specs.Prelude.{◌≡◌, length};
 ghost use Rattle.triple_vote.specs.Votes.{same_port, vote, votes};
 

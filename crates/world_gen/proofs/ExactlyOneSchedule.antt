@@ -5,7 +5,7 @@ use Rattle.std.proofs.Common.{◌∷◌, ◌++◌, length, Option, Some, None, r
 use Rattle.std.specs.Prelude.{flat_map, if◌then◌else◌}
 use Rattle.std.proofs.lemmas.Bool.{cases_eq, cases_order}
 use Rattle.std.proofs.lemmas.Nat.{mul-le}
-use Rattle.pals_base.specs.PeriodBound.{alarm}
+use Rattle.pals_base.specs.PeriodBoundAndReleases.{alarm}
 use Rattle.pals_base.specs.UpwardNumbers.{upwards}
 use Rattle.pals_model.specs.declared.design.DesignParts.{DesignParts}
 use Rattle.pals_runs.specs.declared.events_and_faults.Event.{Event}

@@ -12,7 +12,7 @@ pub mod WholeSchedules
 pub mod ExactlyOneSchedule
 pub mod TabulatedLists
 pub mod RingBehaviourRules
-pub mod RingDesignsAndSums
+pub mod RingDesigns
 pub mod NextSeriesEvents
 pub mod NextMoment
 pub mod DesignSeries

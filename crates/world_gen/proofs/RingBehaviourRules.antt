@@ -8,7 +8,7 @@ use Rattle.pals_base.specs.declared.behaviour.PortDecl.{PortDecl}
 use Rattle.pals_base.specs.declared.behaviour.VarDecl.{VarDecl}
 use Rattle.pals_base.specs.declared.behaviour.StateDecl.{StateDecl}
 use Rattle.pals_base.specs.BehaviourRules.{IsBehaviour, IsAcyclic}
-use Rattle.pals_base.specs.PlainTrees.{Edge}
+use Rattle.pals_base.specs.ExpressionAndActionTrees.{Edge}
 use Rattle.pals_base.specs.SingleStep.{leaving}
 use Rattle.world_gen.specs.Rings.{ring_behaviour, ring_state}
 

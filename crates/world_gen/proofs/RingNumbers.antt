@@ -8,18 +8,18 @@ use Rattle.std.proofs.lemmas.List.Elements.{All-nil, All-cons, All-head, All-tai
 use Rattle.std.proofs.lemmas.List.{get_or_past}
 use Rattle.std.proofs.lemmas.List.Sums.{sum_by-cons}
 use Rattle.std.proofs.lemmas.Bool.{cases_lt, false≢true}
-use Rattle.pals_base.specs.declared.values.Trap.{Trap}
+use Rattle.pals_base.specs.declared.basic_types.Trap.{Trap}
 use Rattle.pals_base.specs.declared.frames.Frame.{Frame}
-use Rattle.pals_base.specs.declared.values.PortValue.{PortValue}
+use Rattle.pals_base.specs.declared.basic_types.PortValue.{PortValue}
 use Rattle.pals_base.specs.ExpressionValues.{eval, on_value}
 use Rattle.pals_base.specs.Arithmetic.{modulus_of}
 use Rattle.pals_base.specs.Actions.{Effect, acts, with_vars}
-use Rattle.pals_base.specs.PlainTrees.{Edge, Emit, Variable, Do, Nothing, Actions}
+use Rattle.pals_base.specs.ExpressionAndActionTrees.{Edge, Emit, Variable, Do, Nothing, Actions}
 use Rattle.pals_base.specs.SingleStep.{Fired, holding, is_present, silence, is_dispatch, is_complete, along, settled}
 use Rattle.pals_base.specs.SingleStep.{dispatched, reaction, unless_halted, fire, initial}
 use Rattle.pals_base.specs.StepSequences.{Stepped, frame_after, steps}
 use Rattle.pals_base.specs.UpwardNumbers.{upwards}
-use Rattle.pals_base.proofs.RemainderSigns.{modulus_of-is}
+use Rattle.pals_base.proofs.RemaindersAndModuli.{modulus_of-is}
 use Rattle.pals_base.proofs.UpwardNumbers.{slice_get-map_upwards, get_or-map_upwards, map_upwards_same}
 use Rattle.pals_model.specs.declared.design.Component.{Component}
 use Rattle.pals_model.specs.declared.design.DesignParts.{DesignParts}
@@ -29,16 +29,16 @@ use Rattle.pals_model.specs.declared.design.Link.{Link}
 use Rattle.pals_runs.specs.declared.phase.Phase.{Phase}
 use Rattle.pals_runs.specs.declared.phase.Phase.TheVariants.{Done}
 use Rattle.bus_machine.specs.Nodes.{NodeState, round_of, sent_rounds}
-use Rattle.bus_machine.specs.States.{BusState, node_at}
+use Rattle.bus_machine.specs.BusStates.{BusState, node_at}
 use Rattle.bus_machine.specs.Plans.{link_at, no_link}
 use Rattle.bus_machine.specs.Runs.{Run}
-use Rattle.bus_machine.specs.MissedStarts.{rounds_sent_on}
+use Rattle.bus_machine.specs.MissedMessages.{rounds_sent_on}
 use Rattle.bus_machine.specs.Agreement.{IsAtRest, PhaseAgrees, Agrees}
 use Rattle.world_gen.specs.Rings.{number_sum, next_number, ring_actions, ring_edge, ring_behaviour, before_in}
 use Rattle.world_gen.specs.Rings.{ring_component, ring_link, ring, ring_number}
 use Rattle.world_gen.specs.proof.RingLaws.{RingNumbersAreSmall, ring_run, number_at, IsRingDone, DoneRingsAddUp}
 use Rattle.world_gen.proofs.TabulatedLists.{numbered_all}
-use Rattle.world_gen.proofs.RingDesignsAndSums.{before_below}
+use Rattle.world_gen.proofs.RingDesigns.{before_below}
 
 -- ---- what is left modulo 1000
 abbrev IsSmall : ℤ → Type 0

@@ -5,8 +5,8 @@ use Rattle.std.specs.Prelude.{if◌then◌else◌, is_some, slice_index_or, slic
 use Rattle.std.proofs.lemmas.Bool.{eqb-true}
 use Rattle.std.proofs.lemmas.Grind.{get_or-set_at}
 use Rattle.std.proofs.lemmas.List.{get_or-set_other}
-use Rattle.pals_base.specs.declared.values.NodeNo.{NodeNo}
-use Rattle.pals_base.specs.PeriodBound.{alarm}
+use Rattle.pals_base.specs.declared.basic_types.NodeNo.{NodeNo}
+use Rattle.pals_base.specs.PeriodBoundAndReleases.{alarm}
 use Rattle.pals_runs.specs.declared.events_and_faults.Event.{Event}
 use Rattle.pals_runs.specs.declared.events_and_faults.Event.TheVariants as event
 use Rattle.pals_runs.specs.declared.phase.Phase.{Phase}
@@ -15,12 +15,12 @@ use Rattle.bus_machine.specs.declared.plan.Plan.{Plan}
 use Rattle.bus_machine.specs.Plans.{plan_of}
 use Rattle.bus_machine.specs.Nodes.{NodeState, round_of}
 use Rattle.bus_machine.specs.NodeEvents.{running_step, may_send}
-use Rattle.bus_machine.specs.States.{node_at, with_node}
+use Rattle.bus_machine.specs.BusStates.{node_at, with_node}
 use Rattle.bus_machine.specs.Runs.{Run}
 use Rattle.bus_machine.specs.proof.AgreementLaws.{IsRunOf}
 use Rattle.run_laws.specs.Worlds.{World, since_at, ready_at, sendings, moved, world_after}
 use Rattle.run_laws.specs.EventFaults.{fault_of}
-use Rattle.bus_machine.proofs.AgreementChanges.{node_set, node_stays}
+use Rattle.bus_machine.proofs.StateChangeAgreement.{node_set, node_stays}
 use Rattle.world_gen.specs.proof.Schedules.{step_time, finish_time, send_time, number_at_moment, step_count}
 use Rattle.run_laws.proofs.FaultlessEventConditions.{FaultlessFinish, finishes_in_time}
 use Rattle.world_gen.proofs.FaultlessEvents.{finish_is_fine}

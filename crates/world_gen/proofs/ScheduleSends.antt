@@ -6,8 +6,8 @@ use Rattle.std.proofs.lemmas.Bool.{eqb-true, eq-eqb, cases_eq, cases_lt, cases_B
 use Rattle.std.proofs.lemmas.List.{get_or-set_other, get_or_append_left}
 use Rattle.std.proofs.lemmas.Nat.{mul-le}
 use Rattle.std.proofs.Math.Seq.{get_or-append_seam}
-use Rattle.pals_base.specs.declared.values.NodeNo.{NodeNo}
-use Rattle.pals_base.specs.PeriodBound.{alarm}
+use Rattle.pals_base.specs.declared.basic_types.NodeNo.{NodeNo}
+use Rattle.pals_base.specs.PeriodBoundAndReleases.{alarm}
 use Rattle.pals_model.specs.declared.flight_copy.FlightCopy.{FlightCopy}
 use Rattle.pals_model.specs.Flights.{is_of}
 use Rattle.pals_runs.specs.declared.events_and_faults.Event.{Event}
@@ -17,14 +17,14 @@ use Rattle.pals_runs.specs.declared.phase.Phase.TheVariants.{Waiting, Running, B
 use Rattle.bus_machine.specs.Plans.{plan_of, component_at, link_at}
 use Rattle.bus_machine.specs.Nodes.{NodeState, finished_steps, at_rest, sent_rounds}
 use Rattle.bus_machine.specs.NodeEvents.{after_send, may_send}
-use Rattle.bus_machine.specs.States.{node_at, flight_at}
+use Rattle.bus_machine.specs.BusStates.{node_at, flight_at}
 use Rattle.bus_machine.specs.Runs.{Run}
-use Rattle.bus_machine.specs.MissedStarts.{rounds_sent_on}
+use Rattle.bus_machine.specs.MissedMessages.{rounds_sent_on}
 use Rattle.bus_machine.specs.Agreement.{PhaseAgrees}
 use Rattle.bus_machine.specs.proof.AgreementLaws.{IsRunOf}
 use Rattle.run_laws.specs.Worlds.{World, since_at, ready_at, sendings, moved, is_held, world_after}
 use Rattle.run_laws.specs.EventFaults.{fault_of}
-use Rattle.bus_machine.proofs.AgreementChanges.{node_set, node_stays}
+use Rattle.bus_machine.proofs.StateChangeAgreement.{node_set, node_stays}
 use Rattle.run_laws.specs.proof.WorldInvariant.{copies, one_if}
 use Rattle.world_gen.specs.proof.Schedules.{step_time, finish_time, send_time, arrive_time, number_at_moment, step_count}
 use Rattle.run_laws.proofs.Lists.{count_more}

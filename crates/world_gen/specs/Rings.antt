@@ -2,8 +2,8 @@
 use Rattle.std.specs.Prelude.{ℕ, suc, ◌-◌, ◌%◌, zero, nat_lt, ℤ, pos, ◌+ℤ◌, true, if◌then◌else◌, codes, List, [], ◌∷◌}
 use Rattle.std.specs.Prelude.{◌++◌, map, fold, Option, Some, None, slice_index_or}
 use Rattle.std.specs.Fmt.{decimal}
-use Rattle.pals_base.specs.declared.values.NodeNo.{NodeNo}
-use Rattle.pals_base.specs.declared.period_bound.Gamma.{Gamma}
+use Rattle.pals_base.specs.declared.basic_types.NodeNo.{NodeNo}
+use Rattle.pals_base.specs.declared.period_bound_and_releases.Gamma.{Gamma}
 use Rattle.pals_base.specs.declared.allowed_adaptors.Adaptor.{Adaptor}
 use Rattle.pals_base.specs.declared.allowed_adaptors.Adaptor.TheVariants.{Repeat, Last}
 use Rattle.pals_base.specs.declared.behaviour.Kind.TheVariants.{Integer}
@@ -13,8 +13,8 @@ use Rattle.pals_base.specs.declared.behaviour.VarDecl.{VarDecl}
 use Rattle.pals_base.specs.declared.behaviour.StateDecl.{StateDecl}
 use Rattle.pals_base.specs.declared.behaviour.BehaviourParts.{BehaviourParts}
 use Rattle.pals_base.specs.UpwardNumbers.{upwards}
-use Rattle.pals_base.specs.PlainTrees.{Expression, Literal, Variable, PortRead, Chain, NoMore, Then, Assign, Emit}
-use Rattle.pals_base.specs.PlainTrees.{Actions, Nothing, Do, Dispatch, Edge}
+use Rattle.pals_base.specs.ExpressionAndActionTrees.{Expression, Literal, Variable, PortRead, Chain, NoMore, Then, Assign, Emit}
+use Rattle.pals_base.specs.ExpressionAndActionTrees.{Actions, Nothing, Do, Dispatch, Edge}
 use Rattle.pals_model.specs.declared.design.Component.{Component}
 use Rattle.pals_model.specs.declared.design.Link.{Link}
 use Rattle.pals_model.specs.declared.design.DesignParts.{DesignParts}

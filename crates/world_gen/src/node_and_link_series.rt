@@ -8,7 +8,7 @@ ghost use Rattle.world_gen.specs.proof.EventSeries.{arrive_series, all_begins, a
 ghost use Rattle.world_gen.specs.proof.EventSeries.{timetable, next_moment, events_of};
 
 use crate::event_series::{EventKind, EventSeries};
-use pals_base::period_bound::step_period;
+use pals_base::period_bound_and_releases::step_period;
 use pals_base::{Items, LinkNo, Nanos, NoMemory, NodeNo};
 use pals_model::Design;
 use pals_runs::Event;
@@ -117,7 +117,11 @@ fn add_finishes(
 }
 
 #[tactic(auto, using(crate::proofs::TabulatedLists::add_numbered))]
-fn add_sends(all_series: &mut Items<EventSeries>, design: &Design, rounds: u32) -> Result<(), NoMemory>
+fn add_sends(
+    all_series: &mut Items<EventSeries>,
+    design: &Design,
+    rounds: u32,
+) -> Result<(), NoMemory>
     ensures { OnOk result (all_series.new ≡ all_series.old ++ all_sends design.now rounds) }
 {
     for node in 0..design.components().len() {

@@ -1,7 +1,7 @@
 //! What each component of a ring does: x := (x + 2 * i + 1) mod 1000; o!(x), in its only state.
 ghost use Rattle.std.specs.Prelude.{◌≡◌, [], ◌∷◌, IfOk};
 ghost use Rattle.pals_base.specs.proof.TreeViews.{tree_of, operands_along, actions_along};
-ghost use Rattle.pals_base.specs.PlainTrees as tree;
+ghost use Rattle.pals_base.specs.ExpressionAndActionTrees as tree;
 ghost use Rattle.world_gen.specs.Rings.{number_port, ring_variable, ring_state, twice_input, number_sum, next_number};
 ghost use Rattle.world_gen.specs.Rings.{ring_actions, ring_edge, ring_behaviour};
 

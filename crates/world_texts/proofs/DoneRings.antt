@@ -18,7 +18,7 @@ use Rattle.pals_runs.specs.declared.phase.Phase.TheVariants.{Waiting, Running, B
 use Rattle.pals_runs.specs.declared.events_and_faults.Event.{Event}
 use Rattle.step_code.specs.declared.instr.CodeParts.{CodeParts}
 use Rattle.bus_machine.specs.Nodes.{NodeState}
-use Rattle.bus_machine.specs.States.{node_at}
+use Rattle.bus_machine.specs.BusStates.{node_at}
 use Rattle.bus_machine.specs.Runs.{Run}
 use Rattle.bus_machine.specs.Agreement.{PhaseAgrees, Agrees}
 use Rattle.pals_bus.specs.BusValues.{BusValue}
@@ -39,7 +39,6 @@ last_frame design env node (suc rounds) some =
     let before : suc rounds - 1 ≡ rounds = omega arith in
     ap (λ (r : ℕ). (part design env node r).frame) before
 
-
 -- a node that is done has finished all rounds
 all_finished : (run : Run) (node : ℕ) (c : Component) (n : NodeState) (p : Phase) → n.phase ≡ p → p ≡ Done
     → PhaseAgrees run node c n p → length n.parts ≡ run.rounds
@@ -48,7 +47,6 @@ all_finished run node c n (Running step) is done agrees = absurd (cc done)
 all_finished run node c n (Between steps) is done agrees = absurd (cc done)
 all_finished run node c n Holding is done agrees = absurd (cc done)
 all_finished run node c n Done is done agrees = agrees.0.finished ∙ agrees.1
-
 
 last_part : (n rounds node : ℕ) (bus : BusValue) → IsDoneRing n rounds bus → Agrees bus.run bus.state
     → 1 ≤ rounds → node < n
@@ -65,13 +63,11 @@ last_part n rounds node bus ring_done agrees some within =
     all_finished run node c here here.phase refl (ring_done.done node within) (agree.nodes node c is_c).phase in
     part_is run bus node (rounds - 1) agree there (omega (arith, all, some))
 
-
 pub part_is_there : (n rounds node : ℕ) (bus : BusValue) (found : Option Part) → IsDoneRing n rounds bus
     → Agrees bus.run bus.state → 1 ≤ rounds → node < n
     → found ≡ slice_get (node_at bus.state node).parts (rounds - 1) → found ≡ None → ⊥
 part_is_there n rounds node bus found ring_done agrees some within is none =
     none-some _ (sym none ∙ is ∙ last_part n rounds node bus ring_done agrees some within)
-
 
 pub last_number : (n rounds node : ℕ) (bus : BusValue) (last : Part) → IsDoneRing n rounds bus
     → Agrees bus.run bus.state → 1 ≤ rounds → node < n
@@ -80,7 +76,6 @@ last_number n rounds node bus last ring_done agrees some within is =
     ap number_in (same_Some last (part (ring n) no_env node (rounds - 1))
     (is ∙ last_part n rounds node bus ring_done agrees some within))
     ∙ ap (λ (f : Frame). slice_index_or f.vars 0 (pos 0)) (last_frame (ring n) no_env node rounds some)
-
 
 pub next_sum_fits : (n rounds node : ℕ) → n ≤ COMPONENTS → node < n
     → FitsSigned w64 (sum_first n rounds node +ℤ ring_number n rounds node)
@@ -91,12 +86,10 @@ next_sum_fits n rounds node few within =
     let more = sum_more n rounds node in
     omega (arith, ints, low, high, more)
 
-
 -- two numbers of 64 bits, and what they stand for
 pub added : (bits : ℕ) (x sum number : ℤ) → to_z w64 bits ≡ sum → x ≡ number → FitsSigned w64 x
     → to_z w64 bits +ℤ to_z w64 (of_z w64 x) ≡ sum +ℤ number
 added bits x sum number so_far is fits = ap₂ (λ a b. a +ℤ b) so_far (to_z-of_z w64 x fits ∙ is)
-
 
 pub all_done : (n rounds : ℕ) (design : DesignParts) (codes : List CodeParts) (env : Env) (events : List Event)
     (old new : WorldValue) → design ≡ ring n

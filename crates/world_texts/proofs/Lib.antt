@@ -1,4 +1,4 @@
-pub mod OnlyMemoryFaults
+pub mod EventsWithinBounds
 pub mod WorldTexts
 pub mod RingSumsAndCodes
 pub mod DoneRings

@@ -24,7 +24,7 @@ use Rattle.run_laws.specs.EventLists.{IsWithin, world_left}
 use Rattle.run_laws.proofs.KeptWorldInvariant.{lists_go_right}
 use Rattle.loose_world.specs.proof.FinishedRows.{finished_lines}
 use Rattle.loose_world.specs.LooseRuns.{InTurn, told_by}
-use Rattle.loose_world.specs.proof.EventEffects.{Undergoes}
+use Rattle.loose_world.specs.proof.BusAfterEvents.{Undergoes}
 use Rattle.loose_world.proofs.EventsAndLines.{turns_next, told_more}
 use Rattle.loose_world.proofs.WorldTexts.{world_is_told}
 use Rattle.timed_world.specs.proof.WorldValues.{WorldValue, world_of, opening_value, Moves}
@@ -32,7 +32,7 @@ use Rattle.timed_world.specs.proof.EventLists.{EndsAt}
 use Rattle.timed_world.proofs.EventLists.{leads_none}
 use Rattle.world_texts.specs.WorldTexts.{IsToldWorld, IsFirstFault}
 use Rattle.world_texts.specs.proof.WorldTexts.{IsOpening, LeadsTelling}
-use Rattle.world_texts.proofs.OnlyMemoryFaults.{leads_next}
+use Rattle.world_texts.proofs.EventsWithinBounds.{leads_next}
 
 -- ---- one event
 -- the bus undergoes it

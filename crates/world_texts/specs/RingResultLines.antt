@@ -6,7 +6,7 @@ use Rattle.pals_model.specs.ComponentInputs.{no_env}
 use Rattle.pals_model.specs.RoundTexts.{text_of}
 use Rattle.pals_runs.specs.declared.phase.Phase.TheVariants.{Done}
 use Rattle.pals_runs.specs.JournalLines.{spaced}
-use Rattle.bus_machine.specs.States.{node_at}
+use Rattle.bus_machine.specs.BusStates.{node_at}
 use Rattle.run_laws.specs.Worlds.{world_run}
 use Rattle.pals_bus.specs.BusValues.{BusValue}
 use Rattle.world_gen.specs.Rings.{ring, ring_sum}

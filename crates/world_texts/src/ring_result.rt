@@ -2,7 +2,7 @@
 ghost use Rattle.std.specs.Prelude.{◌≡◌, ℕ, ◌≤◌, ◌<◌, IfOk, OnOk};
 ghost use Rattle.pals_base.specs.declared.limits.TheConstants.{COMPONENTS, ROUNDS};
 ghost use Rattle.pals_runs.specs.declared.events_and_faults.EventFault.TheVariants as fault;
-ghost use Rattle.pals_bus.specs.proof.OpeningBusAndNodeValues.{AreCodes};
+ghost use Rattle.pals_bus.specs.proof.StepCodesOfNodes.{AreCodes};
 ghost use Rattle.run_laws.specs.EventLists.{IsWithin};
 ghost use Rattle.timed_world.specs.proof.WorldValues.{world_of};
 ghost use Rattle.timed_world.specs.proof.EventLists.{Leads};

@@ -3,7 +3,7 @@ ghost use Rattle.std.specs.Arc.{arc_value};
 ghost use Rattle.std.specs.Prelude.{◌≡◌, ◌≤◌, ◌++◌, length, IfOk};
 ghost use Rattle.pals_base.specs.declared.limits.TheConstants.{ROUNDS, LIST_ITEMS};
 ghost use Rattle.pals_model.specs.RoundTexts.{text_of};
-ghost use Rattle.pals_bus.specs.proof.OpeningBusAndNodeValues.{AreCodes};
+ghost use Rattle.pals_bus.specs.proof.StepCodesOfNodes.{AreCodes};
 ghost use Rattle.run_laws.specs.Worlds.{world_run};
 ghost use Rattle.loose_world.specs.proof.FinishedRows.{finished_lines};
 ghost use Rattle.loose_world.specs.SentLines.{AreOutLinks};

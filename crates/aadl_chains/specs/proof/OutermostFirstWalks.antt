@@ -1,7 +1,7 @@
 -- The walk back from a port, on paths with the outermost subcomponent first, as the code makes it.
 use Rattle.std.specs.Prelude.{ℕ, List, take, reverse, Option, Some, None, option_map}
 use Rattle.aadl_tree.specs.Declarations.{PackageTree}
-use Rattle.aadl_names.specs.declared.port_place.NumberedPort.TheVariants.{Inner}
+use Rattle.aadl_names.specs.declared.numbered_port.NumberedPort.TheVariants.{Inner}
 use Rattle.aadl_uses.specs.proof.IncomingConnections.{connection_into}
 use Rattle.aadl_chains.specs.declared.chain_tracing.ChainStart.{ChainStart}
 use Rattle.aadl_chains.specs.declared.chain_tracing.ChainRoute.{ChainRoute}

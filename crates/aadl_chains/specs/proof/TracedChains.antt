@@ -1,4 +1,5 @@
--- Chains as the walk back finds them: by where they begin, and by the connection that carries them.
+-- Chains as the walk back finds them: by where they begin, by the connection that carries them, and by those that
+-- they pass.
 use Rattle.std.specs.Prelude.{◌≡◌, ◌⊎◌, ℕ, false, List, [], reverse, Option, Some, None}
 use Rattle.aadl_tree.specs.Declarations.{PackageTree}
 use Rattle.aadl_uses.specs.ThreadsBelow.{IsThreadAt}

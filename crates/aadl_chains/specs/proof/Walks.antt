@@ -2,12 +2,12 @@
 -- subcomponents, or the root.
 use Rattle.std.specs.Prelude.{◌≡◌, ℕ, true, List, [], ◌∷◌, Option, Some, None}
 use Rattle.aadl_tree.specs.Declarations.{PackageTree}
-use Rattle.aadl_names.specs.declared.port_place.NumberedPort.{NumberedPort}
-use Rattle.aadl_names.specs.declared.port_place.NumberedPort.TheVariants.{Own, Inner}
-use Rattle.aadl_uses.specs.Uses.{number_at_path, IsInUse}
+use Rattle.aadl_names.specs.declared.numbered_port.NumberedPort.{NumberedPort}
+use Rattle.aadl_names.specs.declared.numbered_port.NumberedPort.TheVariants.{Own, Inner}
+use Rattle.aadl_uses.specs.ContainmentAndUse.{number_at_path, IsInUse}
 use Rattle.aadl_uses.specs.ThreadsBelow.{IsThreadAt}
 use Rattle.aadl_uses.specs.SecondConnections.{target_in}
-use Rattle.aadl_uses.specs.Wiring.{connection_ports_at}
+use Rattle.aadl_uses.specs.PortsOfConnections.{connection_ports_at}
 use Rattle.aadl_uses.specs.proof.IncomingConnections.{connection_into}
 use Rattle.aadl_chains.specs.Chains.{Port, is_in}
 

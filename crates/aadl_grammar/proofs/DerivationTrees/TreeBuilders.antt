@@ -3,7 +3,7 @@
 use Rattle.std.proofs.Common.{◌≡◌, ◌⊎◌, ◌∙◌, sym, ap, ap₂, subst, refl, List, [], ◌∷◌, ◌++◌, inl, inr}
 use Rattle.aadl_tree.specs.Terminals.{PlainTerminal}
 use Rattle.aadl_tree.specs.SpellingParts.{SpellingPart, Spells}
-use Rattle.aadl_tree.proofs.ConcatenatedSpellings.{spells_append, spells_split}
+use Rattle.aadl_tree.proofs.SpellingParts.{spells_append, spells_split}
 use Rattle.aadl_grammar.specs.proof.GrammarSymbols.{Symbol, Row}
 use Rattle.aadl_grammar.specs.proof.ParseTable.{behind, rows}
 use Rattle.aadl_grammar.specs.proof.SymbolTrees.{NoPlace, Content, kind_with, TreeOf, parts, Trees, parts_all}

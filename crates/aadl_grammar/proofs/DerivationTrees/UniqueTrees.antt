@@ -1,4 +1,5 @@
--- A list of terminals spells at most one tree of a symbol. For the claim `a_text_has_one_tree`.
+-- A list of terminals spells at most one tree of a symbol, and one package or behaviour. For the claim
+-- `a_text_has_one_tree`.
 use Rattle.std.proofs.Common.{◌≡◌, Bool, true, false, ◌∙◌, sym, ap, ap₂, subst, refl, List, [], ◌∷◌, ◌++◌, inl, inr}
 use Rattle.std.proofs.Common.{not, ◌==◌, eq-eqb, ℕ}
 use Rattle.aadl_tree.specs.Terminals.{PlainTerminal}
@@ -184,11 +185,9 @@ pub one_package : (ks : List PlainTerminal) (t u : PackageTree (Unit {0})) → S
 one_package ks t u sp sq =
     ap (λ (x : Trees whole_package). x.0) (one ks whole_package package_clear (package_trees t) (package_trees u) sp sq)
 
-
 pub one_behaviour : (ks : List PlainTerminal) (t u : AnnexTree (Unit {0})) → Spells (annex_tree_parts t) ks []
     → Spells (annex_tree_parts u) ks [] → t ≡ u
 one_behaviour ks t u sp sq = ap body_of (one ks annex_body body_clear (body_trees t) (body_trees u) sp sq)
-
 
 pub package_kept : (ks : List PlainTerminal) (t u : PackageTree ℕ) → Spells (package_parts t) ks []
     → Spells (package_parts u) ks [] → kept (package_parts t) ≡ kept (package_parts u)
@@ -198,7 +197,6 @@ package_kept ks t u sp sq =
     (alike_spells ks [] (package_alike nowhere u) sq) in
     alike_kept (package_alike nowhere t) ∙ ap (λ (x : PackageTree (Unit {0})). kept (package_parts x)) same
     ∙ sym (alike_kept (package_alike nowhere u))
-
 
 pub behaviour_kept : (ks : List PlainTerminal) (t u : AnnexTree ℕ) → Spells (annex_tree_parts t) ks []
     → Spells (annex_tree_parts u) ks [] → kept (annex_tree_parts t) ≡ kept (annex_tree_parts u)

@@ -14,8 +14,8 @@ use Rattle.aadl_grammar.proofs.DerivationTrees.ForbiddenFollowerMembership.{Clea
 use Rattle.aadl_grammar.proofs.DerivationTrees.DerivationsAndMachineSteps.{Derives, steps, derived_ends, ends_derived}
 use Rattle.aadl_grammar.proofs.DerivationTrees.ProductiveStacks.{some_text}
 use Rattle.aadl_grammar.proofs.Fates.StackNesting.{Good}
-use Rattle.aadl_grammar.proofs.Fates.MachineWalks.{stack_after_all, walk_front, walk_then, walk_derives, derived_left, walk_depth}
-use Rattle.aadl_grammar.proofs.Fates.MachineWalks.{Within}
+use Rattle.aadl_grammar.proofs.Fates.StackAfterTerminals.{stack_after_all, walk_front, walk_then, walk_derives, derived_left, walk_depth}
+use Rattle.aadl_grammar.proofs.Fates.StackAfterTerminals.{Within}
 use Rattle.aadl_grammar.proofs.Fates.FateRuns.{StopsBy, Stops, Deepens, Finishes, Tells, tells}
 
 -- a language by the stack that its texts are derived from

@@ -1,4 +1,5 @@
--- Where the machine stops, and how.
+-- What the machine has taken, and which stack is left, where it stops with a fault, stops for depth, or finishes;
+-- and that each fate says so.
 use Rattle.std.proofs.Common.{◌≡◌, ℕ, ◌+◌, ◌<◌, ◌≤◌, Bool, true, false, cond, ◌∙◌, ap, refl, List, [], ◌∷◌, ◌++◌}
 use Rattle.std.proofs.Common.{Option, Some, None}
 use Rattle.std.specs.Prelude.{nat_lt}
@@ -8,7 +9,7 @@ use Rattle.aadl_tree.specs.Terminals.{PlacedTerminal, kinds_of}
 use Rattle.aadl_tree.specs.TerminalFaults.{place}
 use Rattle.aadl_grammar.specs.proof.StackMachine.{Stack, stack_after, ends, depth, Fate, finished, syntax_at, deep_at}
 use Rattle.aadl_grammar.specs.proof.StackMachine.{fate_after, fate}
-use Rattle.aadl_grammar.proofs.Fates.MachineWalks.{stack_after_all, walk_more, Within, within_nothing, within_more}
+use Rattle.aadl_grammar.proofs.Fates.StackAfterTerminals.{stack_after_all, walk_more, Within, within_nothing, within_more}
 
 abbrev pub StopsBy : Stack → List PlacedTerminal → Type 0
 StopsBy last [] = ends last ≡ false

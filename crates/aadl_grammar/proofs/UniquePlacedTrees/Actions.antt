@@ -9,7 +9,7 @@ use Rattle.aadl_tree.specs.Actions as a
 use Rattle.aadl_grammar.proofs.HeadsAndTails.{heads, tails}
 use Rattle.aadl_tree.specs.proof.PlaceMaps.{no_place, expression_to, action_to, actions_to, mores_to, elsifs_to}
 use Rattle.aadl_tree.specs.proof.PlaceMaps.{otherwise_to, block_to}
-use Rattle.aadl_grammar.proofs.UniquePlacedTrees.PlaceOrder.{placed, in_turn}
+use Rattle.aadl_grammar.proofs.UniquePlacedTrees.PlacesFromTokens.{placed, in_turn}
 use Rattle.aadl_grammar.proofs.UniquePlacedTrees.Names.{Fixed, identifier_fixed}
 use Rattle.aadl_grammar.proofs.UniquePlacedTrees.Expressions.{expression_fixed}
 use Rattle.aadl_grammar.proofs.UniquePlacedTrees.Values.{reference_fixed}

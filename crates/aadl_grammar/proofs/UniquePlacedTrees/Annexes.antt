@@ -9,7 +9,7 @@ use Rattle.aadl_tree.specs.Annexes as x
 use Rattle.aadl_grammar.proofs.HeadsAndTails.{heads, tails}
 use Rattle.aadl_tree.specs.proof.PlaceMaps.{no_place, identifier_to, block_to, variable_to, state_to, guard_to}
 use Rattle.aadl_tree.specs.proof.PlaceMaps.{transition_to, annex_tree_to, content_to, annex_to}
-use Rattle.aadl_grammar.proofs.UniquePlacedTrees.PlaceOrder.{in_turn}
+use Rattle.aadl_grammar.proofs.UniquePlacedTrees.PlacesFromTokens.{in_turn}
 use Rattle.aadl_grammar.proofs.UniquePlacedTrees.Names.{Fixed, identifier_fixed}
 use Rattle.aadl_grammar.proofs.UniquePlacedTrees.Expressions.{expression_fixed}
 use Rattle.aadl_grammar.proofs.UniquePlacedTrees.Values.{list_fixed, option_fixed, marked_none, identifiers_fixed}

@@ -11,7 +11,7 @@ use Rattle.aadl_tree.specs.Values as v
 use Rattle.aadl_tree.specs.Declarations as d
 use Rattle.aadl_tree.specs.proof.PlaceMaps.{no_place, identifier_to, name_to, reference_to, feature_to, subcomponent_to}
 use Rattle.aadl_tree.specs.proof.PlaceMaps.{end_to, connection_to, implementation_name_to, with_to}
-use Rattle.aadl_grammar.proofs.UniquePlacedTrees.PlaceOrder.{placed, in_turn}
+use Rattle.aadl_grammar.proofs.UniquePlacedTrees.PlacesFromTokens.{placed, in_turn}
 use Rattle.aadl_grammar.proofs.UniquePlacedTrees.Names.{Fixed, identifier_fixed, chain_fixed, name_fixed}
 use Rattle.aadl_grammar.proofs.UniquePlacedTrees.Values.{option_fixed, reference_fixed, properties_fixed}
 

@@ -12,7 +12,7 @@ use Rattle.aadl_grammar.proofs.HeadsAndTails.{heads, tails}
 use Rattle.aadl_tree.specs.proof.PlaceMaps.{no_place, associations_to, annex_to, feature_to, subcomponent_to}
 use Rattle.aadl_tree.specs.proof.PlaceMaps.{connection_to, type_to, implementation_to, declaration_to, with_to}
 use Rattle.aadl_tree.specs.proof.PlaceMaps.{package_to}
-use Rattle.aadl_grammar.proofs.UniquePlacedTrees.PlaceOrder.{in_turn}
+use Rattle.aadl_grammar.proofs.UniquePlacedTrees.PlacesFromTokens.{in_turn}
 use Rattle.aadl_grammar.proofs.UniquePlacedTrees.Names.{Fixed, identifier_fixed, name_fixed}
 use Rattle.aadl_grammar.proofs.UniquePlacedTrees.Values.{list_fixed, associations_fixed}
 use Rattle.aadl_grammar.proofs.UniquePlacedTrees.Annexes.{annex_fixed}

@@ -11,7 +11,7 @@ use Rattle.aadl_tree.specs.Names as n
 use Rattle.aadl_tree.specs.Expressions as e
 use Rattle.aadl_tree.specs.proof.PlaceMaps.{no_place, leading_to, primary_to, factor_to, term_to, factors_to, sum_to}
 use Rattle.aadl_tree.specs.proof.PlaceMaps.{terms_to, relation_to, expression_to, relations_to}
-use Rattle.aadl_grammar.proofs.UniquePlacedTrees.PlaceOrder.{placed, in_turn}
+use Rattle.aadl_grammar.proofs.UniquePlacedTrees.PlacesFromTokens.{placed, in_turn}
 use Rattle.aadl_grammar.proofs.UniquePlacedTrees.Names.{Fixed, identifier_fixed}
 
 abbrev U : Type 0

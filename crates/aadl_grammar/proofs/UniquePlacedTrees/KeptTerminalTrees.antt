@@ -6,7 +6,7 @@ use Rattle.std.proofs.lemmas.List.{append-nil}
 use Rattle.aadl_tree.specs.Terminals.{PlainTerminal, PlacedTerminal, kinds_of}
 use Rattle.aadl_tree.specs.SpellingParts.{SpellingPart, token, may, extra_kinds, HaveKinds, Written, Spells, kept}
 use Rattle.aadl_tree.specs.Declarations.{PackageTree, package_parts}
-use Rattle.aadl_tree.proofs.ConcatenatedSpellings.{written_spells, kept_spells}
+use Rattle.aadl_tree.proofs.SpellingParts.{written_spells, kept_spells}
 use Rattle.aadl_grammar.proofs.HeadsAndTails.{heads, tails}
 use Rattle.aadl_grammar.proofs.PlaceIndependence.AlikeParts.{alike_spells, alike_kept}
 use Rattle.aadl_tree.specs.proof.PlaceMaps.{package_to, no_place}

@@ -6,7 +6,7 @@ use Rattle.aadl_tree.specs.SpellingParts.{SpellingPart, behind}
 use Rattle.aadl_tree.specs.Names as n
 use Rattle.aadl_grammar.proofs.HeadsAndTails.{heads, tails}
 use Rattle.aadl_tree.specs.proof.PlaceMaps.{identifier_to, name_to, no_place}
-use Rattle.aadl_grammar.proofs.UniquePlacedTrees.PlaceOrder.{placed, Both, in_turn}
+use Rattle.aadl_grammar.proofs.UniquePlacedTrees.PlacesFromTokens.{placed, Both, in_turn}
 
 abbrev pub Fixed : (T U : Type 0) → (T → U) → (T → List (SpellingPart ℕ)) → Type 0
 Fixed T U to parts =

@@ -11,7 +11,7 @@ use Rattle.aadl_tree.specs.Values as v
 use Rattle.aadl_grammar.proofs.HeadsAndTails.{heads, tails}
 use Rattle.aadl_tree.specs.proof.PlaceMaps.{no_place, identifier_to, path_to, identifiers_to, reference_to, quantity_to}
 use Rattle.aadl_tree.specs.proof.PlaceMaps.{value_to, values_to, association_to, associations_to}
-use Rattle.aadl_grammar.proofs.UniquePlacedTrees.PlaceOrder.{placed, in_turn}
+use Rattle.aadl_grammar.proofs.UniquePlacedTrees.PlacesFromTokens.{placed, in_turn}
 use Rattle.aadl_grammar.proofs.UniquePlacedTrees.Names.{Fixed, identifier_fixed, chain_fixed, name_fixed}
 
 -- lists, and what may be left out

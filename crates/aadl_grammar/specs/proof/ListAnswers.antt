@@ -11,7 +11,7 @@ use Rattle.aadl_grammar.specs.proof.GrammarSymbols.{a_word, the, Symbol}
 use Rattle.aadl_grammar.specs.proof.ParseTable as table
 use Rattle.aadl_grammar.specs.proof.ParseTable.{on, rows, section_rows, can_omit}
 use Rattle.aadl_grammar.specs.proof.StackMachine.{Stack, closes, depth, fate}
-use Rattle.aadl_grammar.specs.declared.reader.Reader.{Reader}
+use Rattle.aadl_grammar.specs.declared.parse_input.Reader.{Reader}
 use Rattle.aadl_grammar.specs.declared.parse_fault.ParseFault.{ParseFault}
 use Rattle.aadl_grammar.specs.proof.ParserAnswers.{here, AtMark, StartsWord, Misses, Reads, RunsTo, Parses, AnyRoom}
 use Rattle.aadl_grammar.specs.proof.ParserAnswers.{Room}

@@ -9,10 +9,10 @@ use Rattle.aadl_tree.specs.declared.nesting_limit.TheConstants.{GREATEST_NESTING
 use Rattle.aadl_grammar.specs.proof.GrammarSymbols.{Class, the, Symbol, only, Row}
 use Rattle.aadl_grammar.specs.proof.StackMachine.{Stack, fits, takes, move, depth, Fate, syntax_at, deep_at, fate}
 use Rattle.aadl_grammar.specs.declared.terminal.Terminal.{Terminal}
-use Rattle.aadl_grammar.specs.declared.reader.Reader.{Reader}
+use Rattle.aadl_grammar.specs.declared.parse_input.Reader.{Reader}
 use Rattle.aadl_grammar.specs.declared.parse_fault.ParseFault.{ParseFault}
 use Rattle.aadl_grammar.specs.declared.parse_fault.ParseFault.TheVariants.{Memory, Syntax, TooDeep}
-use Rattle.aadl_grammar.specs.proof.TerminalSpots.{spot_of, spots_of, is_word_at}
+use Rattle.aadl_grammar.specs.proof.TerminalViews.{spot_of, spots_of, is_word_at}
 use Rattle.aadl_grammar.specs.declared.terminal.TerminalClass.TheVariants as t
 
 -- the terminals from this number on

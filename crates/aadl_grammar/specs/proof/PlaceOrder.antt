@@ -7,7 +7,6 @@ abbrev pub Behind : ℕ → List PlacedTerminal → Type 0
 Behind n [] = Unit {0}
 Behind n (s ∷ ss) = (n < s.at) × Behind n ss
 
-
 -- each stands behind those before it
 abbrev pub Rising : List PlacedTerminal → Type 0
 Rising [] = Unit {0}

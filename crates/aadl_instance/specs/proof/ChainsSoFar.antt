@@ -6,13 +6,13 @@ use Rattle.pals_base.specs.declared.limits.TheConstants.{COMPONENTS, PORTS}
 use Rattle.aadl_tree.specs.Declarations.{PackageTree}
 use Rattle.aadl_names.specs.ReferenceResolution.{ports_of, ports_at}
 use Rattle.aadl_uses.specs.proof.PackageContainment.{containment}
-use Rattle.aadl_uses.specs.Uses.{component_at}
+use Rattle.aadl_uses.specs.ContainmentAndUse.{component_at}
 use Rattle.aadl_uses.specs.ThreadsBelow.{Lists, IsThreadAt, PathBefore}
 use Rattle.aadl_uses.specs.proof.ContainmentOrders.{IsOrder}
 use Rattle.aadl_uses.specs.ThreadLocations.{ThreadWith}
 use Rattle.aadl_chains.specs.proof.PortsJoinedInside.{is_thread_at}
 use Rattle.aadl_chains.specs.Chains.{Port}
-use Rattle.aadl_chains.specs.proof.DeclaredEnds.{ArePermitted}
+use Rattle.aadl_chains.specs.proof.PermittedConnections.{ArePermitted}
 use Rattle.aadl_chains.specs.proof.Walks.{OneEach}
 use Rattle.aadl_chains.specs.LinksFeedsAndTaps.{CarriedChain, IsLink, IsFeed, IsTap, TargetBefore, PortBefore}
 use Rattle.aadl_instance.specs.declared.chain.Chain.{Chain}
@@ -21,7 +21,7 @@ use Rattle.aadl_instance.specs.declared.chain.ChainEnd.{ChainEnd}
 use Rattle.aadl_chains.specs.proof.TracedChains.{begin_port}
 use Rattle.aadl_chains.specs.declared.chain_tracing.ChainStart.{ChainStart}
 use Rattle.aadl_chains.specs.declared.chain_tracing.ChainRoute.{ChainRoute}
-use Rattle.aadl_instance.specs.Instances.{end_in, chain_in}
+use Rattle.aadl_instance.specs.InstancesByNumbers.{end_in, chain_in}
 use Rattle.aadl_chains.specs.declared.chain_tracing.ChainStart.TheVariants as begins
 
 -- paths, the innermost subcomponent first

@@ -5,7 +5,7 @@ use Rattle.aadl_names.specs.declared.fault.PackageFault.{PackageFault}
 use Rattle.aadl_names.specs.FirstFaults.{IsFirstByLine}
 use Rattle.aadl_names.specs.PackageFaults.{package_faults}
 use Rattle.aadl_uses.specs.proof.PackageContainment.{containment}
-use Rattle.aadl_uses.specs.Uses.{IsInUse}
+use Rattle.aadl_uses.specs.ContainmentAndUse.{IsInUse}
 use Rattle.aadl_uses.specs.Recursion.{IsRecursive}
 use Rattle.aadl_uses.specs.proof.ContainmentOrders.{IsOrder}
 use Rattle.aadl_instance.specs.declared.checked_package.Checked.{Checked}

@@ -1,4 +1,5 @@
--- Paths by the bytes of their names.
+-- The weights of the names on a path: the bytes of each and one for its dot, and whether the greatest weight is
+-- above the limit of paths.
 use Rattle.std.specs.Prelude.{ℕ, ◌+◌, nat_lt, Bool, false, List, map, length, Option, Some, None}
 use Rattle.pals_base.specs.declared.limits.TheConstants.{PATH_BYTES}
 use Rattle.aadl_tree.specs.Declarations.{Subcomponent, Declaration, PackageTree}

@@ -3,7 +3,7 @@ use Rattle.std.specs.Prelude.{◌≡◌, ℕ, ◌+◌, ◌<◌, List, [], Option
 use Rattle.aadl_tree.specs.declared.declarations.Direction.{Direction}
 use Rattle.aadl_tree.specs.Declarations.{Feature, PackageTree}
 use Rattle.aadl_names.specs.ReferenceResolution.{features_of, type_numbered}
-use Rattle.aadl_instance.specs.Instances.{number_among}
+use Rattle.aadl_instance.specs.InstancesByNumbers.{number_among}
 use Rattle.aadl_instance.specs.declared.port_numbers.SeenPorts.{SeenPorts}
 use Rattle.aadl_tree.specs.declared.declarations.Direction.TheVariants as directions
 

@@ -3,7 +3,7 @@ use Rattle.std.specs.Prelude.{ℕ, ◌+◌, Bool, true, false, nat_lt, List, [],
 use Rattle.aadl_tree.specs.Names.{same_name}
 use Rattle.aadl_names.specs.declared.fault.PackageFault.{PackageFault}
 use Rattle.aadl_names.specs.declared.fault.PackageFault.TheVariants.{Twice}
-use Rattle.aadl_names.specs.declared.spelled_name.SpelledName.{SpelledName}
+use Rattle.aadl_names.specs.declared.declared_name.SpelledName.{SpelledName}
 use Rattle.aadl_names.specs.declared.numbered_place.NumberedPlace.{NumberedPlace}
 
 -- the one that stands before the other; where both stand at one place, the first

@@ -1,4 +1,4 @@
--- The first finding so far, and what more findings make of it.
+-- The first fault so far, and what more faults make of it.
 use Rattle.std.specs.Prelude.{ℕ, Bool, true, ◌&&◌, ◌||◌, nat_eq, nat_lt, List, [], ◌∷◌, Option, Some, None}
 use Rattle.std.specs.Prelude.{if◌then◌else◌}
 use Rattle.aadl_names.specs.declared.fault.PackageFault.{PackageFault}

@@ -1,4 +1,4 @@
--- What names stand for in a table of folded names.
+-- What names stand for in a table of folded names, which are compared without regard to case.
 use Rattle.std.specs.Prelude.{ℕ, List, Option}
 use Rattle.std.specs.Map.{lookup}
 use Rattle.std.specs.Str.{bytes_eq, str_to_ascii_lowercase}

@@ -6,11 +6,11 @@ use Rattle.aadl_lex.proofs.TokenSpellings.{words_of}
 use Rattle.aadl_tree.specs.Terminals.{placed_terminals}
 use Rattle.aadl_grammar.specs.proof.StackMachine.{depth}
 use Rattle.aadl_grammar.specs.proof.ParserAnswers.{here}
-use Rattle.aadl_grammar.specs.proof.TerminalSpots.{spots_of}
-use Rattle.aadl_grammar.proofs.TerminalSpots.{spots_past, some_left}
+use Rattle.aadl_grammar.specs.proof.TerminalViews.{spots_of}
+use Rattle.aadl_grammar.proofs.TerminalViews.{spots_past, some_left}
 use Rattle.aadl_parse.specs.ParseResults.{IsFaultOfText, of_parse}
 use Rattle.aadl_parse.specs.proof.DeclarationAndPackageParts.{package_of}
-use Rattle.aadl_parse.proofs.PackageFates.{at_fault, left_fault, at_tree, only_one, residual}
+use Rattle.aadl_parse.proofs.ParseResults.{at_fault, left_fault, at_tree, only_one, residual}
 use Rattle.aadl_parse.proofs.parse.Goals as goal
 
 pub resolve-requires : goal.resolve-requires

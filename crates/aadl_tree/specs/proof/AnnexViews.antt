@@ -24,16 +24,13 @@ variable_view place x =
       properties = associations_view place x.properties.items;
     }
 
-
 abbrev pub state_view : {P : Type 0} → (ℕ → P) → source_state.StateDeclaration → StateDeclaration P
 state_view place x = record { names = identifiers_view place x.names; initial = x.initial; complete = x.complete }
-
 
 abbrev pub guard_view : {P : Type 0} → (ℕ → P) → source_guard.Guard → Guard P
 guard_view place guards.Dispatch = dispatch
 guard_view place guards.Otherwise = otherwise
 guard_view place (guards.When e) = when (expression_view place e)
-
 
 abbrev pub transition_view : {P : Type 0} → (ℕ → P) → source_transition.Transition → Transition P
 transition_view place x =
@@ -45,7 +42,6 @@ transition_view place x =
       effect = option_map (block_view place) x.effect;
     }
 
-
 abbrev pub annex_tree_view : {P : Type 0} → (ℕ → P) → source_tree.AnnexTree → AnnexTree P
 annex_tree_view place x =
     record {
@@ -54,11 +50,9 @@ annex_tree_view place x =
       transitions = option_map (λ xs. map (transition_view place) xs.items) x.transitions;
     }
 
-
 abbrev pub content_view : {P : Type 0} → (ℕ → P) → source_content.AnnexContent → AnnexContent P
 content_view place (contents.Unread bytes) = foreign bytes.items
 content_view place (contents.Behaviour x) = behaviour (annex_tree_view place x)
-
 
 abbrev pub annex_view : {P : Type 0} → (ℕ → P) → source_annex.Annex → Annex P
 annex_view place x =

@@ -1,10 +1,11 @@
--- Where a behaviour stops being one or nests too deep; and that the grammar gives a tree for some text.
+-- Where a behaviour stops being one or nests too deep.
 use Rattle.std.specs.Prelude.{ℕ, true, List, [], ◌∷◌}
 use Rattle.aadl_lex.specs.declared.token.Token.{Token}
 use Rattle.aadl_tree.specs.Terminals.{spots_from}
 use Rattle.aadl_tree.specs.LanguagesAndNesting.{IsBehaviour}
 use Rattle.aadl_tree.specs.TerminalFaults.{FailsAt, DeepAt}
 use Rattle.aadl_tree.specs.TextTreesAndFaults.{outer_nesting}
+
 -- where the last token ends; 0 where there is none
 abbrev pub end_of : List Token → ℕ
 end_of [] = 0

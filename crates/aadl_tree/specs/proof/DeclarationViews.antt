@@ -1,4 +1,4 @@
--- The plain trees that declarations stand for.
+-- The plain trees that declarations stand for: types, implementations, and what they declare.
 use Rattle.std.specs.Prelude.{ℕ, map, option_map}
 use Rattle.aadl_tree.specs.Declarations.{With, Feature, Subcomponent, ConnectionEnd, Connection, TypeDeclaration}
 use Rattle.aadl_tree.specs.Declarations.{ImplementationName, Implementation, Declaration, type, implementation}
@@ -15,6 +15,7 @@ use Rattle.aadl_tree.specs.declared.declarations.Implementation as source_implem
 use Rattle.aadl_tree.specs.declared.declarations.Declaration as source_declaration
 use Rattle.aadl_tree.specs.declared.declarations.Declaration.TheVariants as declarations
 use Rattle.aadl_tree.specs.proof.AnnexViews.{annex_view}
+
 abbrev pub with_view : {P : Type 0} → (ℕ → P) → source_with.With → With P
 with_view place x = record { first = name_view place x.first; rest = map (name_view place) x.rest.items }
 

@@ -10,12 +10,10 @@ use Rattle.aadl_tree.specs.declared.mark.Mark.TheVariants as k
 abbrev pub annex_text : List ℕ
 annex_text = codes "on behavior_specification {**ON x**}"
 
-
 abbrev pub annex_tokens : List Token
 annex_tokens =
     token class.Word 0 2 ∷ token class.Word 3 22 ∷ token class.AnnexOpen 26 3 ∷ token class.Word 29 2
     ∷ token class.Word 32 1 ∷ token class.AnnexClose 33 3 ∷ []
-
 
 -- if (true) x := 1 end
 abbrev pub choice_kinds : List PlainTerminal

@@ -3,7 +3,7 @@ ghost use Rattle.std.specs.Prelude.{◌≡◌, ◌↔◌, IsTrue, map, option_ma
 
 use super::actions::same_block;
 use super::expressions::same_expression;
-use super::lists::{same_items, same_option};
+use super::lists_and_options::{same_items, same_option};
 use super::same_meaning::Same;
 use super::values::same_associations;
 use crate::actions::Block;

@@ -1,6 +1,6 @@
 //! Whether two declarations mean the same.
 
-use super::lists::{same_items, same_option};
+use super::lists_and_options::{same_items, same_option};
 use super::same_meaning::Same;
 use super::values::same_associations;
 use crate::declarations::{

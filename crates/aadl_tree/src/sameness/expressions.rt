@@ -4,7 +4,7 @@ ghost use Rattle.aadl_tree.specs.proof.ExpressionViews.{primary_view, factor_vie
 ghost use Rattle.aadl_tree.specs.proof.ExpressionViews.{sum_view, relation_view, relations_view, expression_view};
 ghost use Rattle.aadl_tree.specs.proof.PlaceMaps.{no_place};
 
-use super::lists::same_option;
+use super::lists_and_options::same_option;
 use super::same_meaning::Same;
 use crate::expressions::{
     Expression, Factor, LeadingSign, LogicOperator, MultiplyOperator, Primary, Relation, Sign, Sum,

@@ -3,7 +3,7 @@ ghost use Rattle.std.specs.Prelude.{◌≡◌, ◌↔◌, IsTrue};
 ghost use Rattle.aadl_tree.specs.proof.ValueViews.{value_view, values_view, association_view, associations_view};
 ghost use Rattle.aadl_tree.specs.proof.PlaceMaps.{no_place};
 
-use super::lists::{same_items, same_option};
+use super::lists_and_options::{same_items, same_option};
 use super::same_meaning::Same;
 use crate::values::{Association, Number, Quantity, UnsignedNumber, Value};
 

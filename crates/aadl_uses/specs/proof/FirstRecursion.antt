@@ -3,7 +3,7 @@ use Rattle.std.specs.Prelude.{◌≡◌, ℕ, ◌≤◌, Bool, true, nat_lt, Lis
 use Rattle.aadl_tree.specs.Declarations.{Subcomponent, PackageTree}
 use Rattle.aadl_names.specs.declared.fault.PackageFault.{PackageFault}
 use Rattle.aadl_names.specs.FirstFaults.{place_of, IsFirst}
-use Rattle.aadl_uses.specs.Uses.{sub_at}
+use Rattle.aadl_uses.specs.ContainmentAndUse.{sub_at}
 use Rattle.aadl_uses.specs.Recursion.{IsRecursive}
 use Rattle.aadl_uses.specs.proof.PackageContainment.{containment}
 use Rattle.aadl_uses.specs.proof.ContainmentGraphs.{LeadsBack}

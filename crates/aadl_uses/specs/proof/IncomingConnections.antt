@@ -2,11 +2,11 @@
 use Rattle.std.specs.Prelude.{ℕ, List, Option, Some, None, slice_get}
 use Rattle.std.specs.Option.{option_and_then, option_map_or}
 use Rattle.aadl_tree.specs.Declarations.{Declaration, PackageTree}
-use Rattle.aadl_names.specs.declared.port_place.NumberedPort.{NumberedPort}
+use Rattle.aadl_names.specs.declared.numbered_port.NumberedPort.{NumberedPort}
 use Rattle.aadl_names.specs.ReferenceResolution.{implementation_in}
 use Rattle.aadl_uses.specs.declared.connections_by_target.ConnectionPorts.{ConnectionPorts}
 use Rattle.aadl_uses.specs.proof.FirstConnections.{first_into}
-use Rattle.aadl_uses.specs.Wiring.{wires_of, connection_ports_at}
+use Rattle.aadl_uses.specs.PortsOfConnections.{wires_of, connection_ports_at}
 
 abbrev pub wires_in : PackageTree ℕ → Declaration ℕ → List ConnectionPorts
 wires_in tree d = wires_of tree (implementation_in (Some d))

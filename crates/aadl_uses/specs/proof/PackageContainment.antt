@@ -1,9 +1,9 @@
--- The containment of a package as a graph: the numbers of the declarations that subcomponents name. And what it
--- means to find the first fault of a kind.
+-- The containment of a package as a graph: the numbers of the declarations that subcomponents name.
 use Rattle.std.specs.Prelude.{ℕ, List, map, Option, Some}
 use Rattle.aadl_tree.specs.Declarations.{Implementation, Declaration, PackageTree}
 use Rattle.aadl_names.specs.ReferenceResolution.{implementation_in, subcomponents_of, referred}
 use Rattle.aadl_uses.specs.proof.ContainmentGraphs.{Graph}
+
 -- ---- the numbers that subcomponents name
 abbrev pub targets_of : PackageTree ℕ → Option (Implementation ℕ) → List (Option ℕ)
 targets_of tree x = map (λ sub. referred tree sub.classifier) (subcomponents_of x)

@@ -1,11 +1,12 @@
--- The names of replicas and their lines, and one fault more in the table of rounds, as they are gathered for votes.
+-- The names of replicas and their lines, as they are gathered for votes.
 use Rattle.std.specs.Prelude.{ℕ, Bool, if◌then◌else◌, List, map, flat_map}
 use Rattle.std.specs.List.{enumerate_from}
 use Rattle.pals_base.specs.declared.frames.Frame.{Frame}
 use Rattle.pals_base.specs.UpwardNumbers.{upwards}
 use Rattle.pals_model.specs.declared.design.Component.{Component}
-use Rattle.triple_vote.specs.Replicas.{is_replicated}
+use Rattle.triple_vote.specs.VotedComposition.{is_replicated}
 use Rattle.triple_vote.specs.VotedText.{replica_name, replica_lines}
+
 -- ---- the names of replicas: PATH, or PATH#1, PATH#2 and PATH#3
 abbrev pub names_of : List ℕ → Bool → List (List ℕ)
 names_of path replicated = map (replica_name path replicated) (upwards 0 (if replicated then 3 else 1))

@@ -1,4 +1,4 @@
--- What a walk over a part of a text leaves: its tree with resolved names, its type, and what was found.
+-- What resolving a part of a text leaves: its tree with resolved names, its type, and what was found.
 use Rattle.std.specs.Prelude.{◌≡◌, List, ◌++◌, Option}
 use Rattle.pals_base.specs.declared.behaviour.Kind.{Kind}
 use Rattle.pals_base.specs.declared.behaviour.Operand.{Operand}
@@ -7,7 +7,7 @@ use Rattle.pals_base.specs.declared.behaviour.Branch.{Branch}
 use Rattle.pals_base.specs.proof.TreeViews.{tree_of, operands_along, action_of, actions_along, branches_along}
 use Rattle.annex_resolve.specs.declared.expressions.Typed.{Typed}
 use Rattle.annex_resolve.specs.declared.violation.Violation.{Violation}
-use Rattle.pals_base.specs.PlainTrees as plain
+use Rattle.pals_base.specs.ExpressionAndActionTrees as plain
 
 -- an expression
 pub record Resolves (tree : plain.Expression) (kind : Option Kind) (findings : List Violation) (typed : Typed)

@@ -1,4 +1,4 @@
-//! The operators of a text, as those of behaviours.
+//! The operators of behaviours that the operators of a text mean.
 ghost use Rattle.std.specs.Prelude.{◌≡◌};
 ghost use Rattle.annex_resolve.specs.ExpressionTypesAndFindings.{is_equality};
 ghost use Rattle.annex_resolve.specs.ResolvedTrees.{multiply_op, sign_op, relation_op, logic_op};

@@ -7,14 +7,14 @@ use Rattle.pals_model.specs.declared.design.Tap.{Tap}
 use Rattle.pals_model.specs.declared.design.DesignParts.{DesignParts}
 use Rattle.pals_model.specs.Composition.{state, msg, part}
 use Rattle.pals_model.specs.PortKinds.{out_kind}
-use Rattle.pals_model.specs.proof.FittingValues.{FrameFits, TupleFits, link_kind, EnvFits}
+use Rattle.pals_model.specs.proof.ValuesFitKinds.{FrameFits, TupleFits, link_kind, EnvFits}
 use Rattle.pals_model.specs.proof.CompositionLaws.Kinds.{PartFits}
 use Rattle.pals_runs.specs.declared.commands.Command.{Command}
 use Rattle.scenario_json.specs.declared.scenario.Scenario.{Scenario}
 use Rattle.analysis_texts.specs.ReplicasAndRoundFaults.{replicated_in, faults_of}
-use Rattle.triple_vote.specs.Replicas.{voted_composition, voted_tap}
+use Rattle.triple_vote.specs.VotedComposition.{voted_composition, voted_tap}
 use Rattle.plant_fuse.specs.FusedComposition.{Inputs, IsFused}
-use Rattle.bus_machine.specs.States.{BusState}
+use Rattle.bus_machine.specs.BusStates.{BusState}
 use Rattle.bus_machine.specs.Agreement.{Agrees}
 use Rattle.kind_laws.specs.proof.VotedKinds.{FaultsFit, VotedFits}
 use Rattle.kind_laws.specs.proof.FusedKinds.{FusedFits}

@@ -7,7 +7,7 @@ use Rattle.aadl_tree.specs.Declarations.{PackageTree}
 use Rattle.scenario_json.specs.declared.scenario.Scenario.{Scenario}
 use Rattle.design_codes.specs.OverlongCodes.{length_of, AreShort}
 use Rattle.bundle_designs.specs.ParsedBundles.{IsParsed}
-use Rattle.bundle_designs.specs.BundleMeanings.{IsAccepted}
+use Rattle.bundle_designs.specs.AcceptedAndRefusedPackages.{IsAccepted}
 use Rattle.pals_top.specs.ExecutionCommands.{Execution}
 use Rattle.pals_top.specs.BundleScenarios.{HasScenario}
 use Rattle.pals_top.specs.ExecutionAnswers.{command_of, Makes}

@@ -5,7 +5,7 @@ use Rattle.aadl_tree.specs.proof.GivenTrees.{IsGiven}
 use Rattle.aadl_names.specs.declared.fault.PackageFault.{PackageFault}
 use Rattle.aadl_names.specs.declared.fault.PackageFault.TheVariants.{Memory}
 use Rattle.aadl_instance.specs.Faults.{IsFault}
-use Rattle.aadl_instance.specs.FlattenedDesign.{InstanceParts, IsFlat}
+use Rattle.aadl_instance.specs.InstancesByPaths.{InstanceParts, IsFlat}
 use Rattle.model_violations.specs.Violations.{shown_by, AreViolations}
 use Rattle.pals_model.specs.declared.design.DesignParts.{DesignParts}
 use Rattle.pals_model.specs.DesignRules.{IsDesign}
@@ -14,8 +14,8 @@ use Rattle.pals_runs.specs.declared.commands.Command.{Command}
 use Rattle.step_compiler.specs.proof.LayoutLaws.{HasLayout}
 use Rattle.scenario_laws.specs.proof.EventsAndTraces.{EventsAreFew, TracesAreFew}
 use Rattle.scenario_laws.specs.proof.LooseEvents.{EventsAreLoose}
-use Rattle.aadl_grammar.specs.proof.TextOutcomes.{HasTree, HasLexFault, Stops, NestsTooDeep}
-use Rattle.design_laws.specs.proof.PackageOutcomes.{HasFirstFault, HasInstance, HasList}
+use Rattle.aadl_grammar.specs.proof.TokensTreesAndFaults.{HasTree, HasLexFault, Stops, NestsTooDeep}
+use Rattle.design_laws.specs.proof.FirstFaultOrInstance.{HasFirstFault, HasInstance, HasList}
 use Rattle.scenario_laws.specs.proof.ScenarioOrFault.{HasScenario, HasFault}
 use Rattle.scenario_laws.specs.proof.FusiblePairs.{PairsCanBeFused}
 use Rattle.scenario_laws.specs.proof.ScenarioSuitability.{ScenariosSuit}

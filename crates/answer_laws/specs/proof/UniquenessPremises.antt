@@ -12,7 +12,7 @@ use Rattle.loose_world.specs.proof.UniqueEnds.{OneEnd}
 use Rattle.round_budget.specs.proof.BudgetLaws.{TextIsOne, VerdictIsOne}
 use Rattle.plant_fuse.specs.proof.FusedLaws.{ReportIsOne}
 use Rattle.scenario_laws.specs.proof.FusiblePairs.{PairsCanBeFused}
-use Rattle.bundle_designs.specs.BundleMeanings.{IsAccepted}
+use Rattle.bundle_designs.specs.AcceptedAndRefusedPackages.{IsAccepted}
 
 -- a package has one design at most below a root
 abbrev pub OneDesign : Type 0

@@ -1,4 +1,4 @@
-use Rattle.behaviour_parse.proofs.ParseOutcomes.{end_last}
+use Rattle.behaviour_parse.proofs.ParseResults.{end_last}
 use Rattle.std.proofs.Common.{arith}
 use Rattle.behaviour_parse.proofs.end_of.Goals as goal
 

@@ -4,7 +4,7 @@ use Rattle.aadl_tree.specs.LanguagesAndNesting.{IsBehaviour}
 use Rattle.aadl_tree.specs.proof.BehaviourFaultPlaces.{end_of}
 use Rattle.aadl_grammar.proofs.Fates.ExclusiveFates.{fails_once, fails_not_deep, deep_once}
 use Rattle.aadl_grammar.proofs.Fates.FateMeanings.{fails_no_text, deep_not_shallow}
-use Rattle.behaviour_parse.proofs.ParseOutcomes.{only_one, is_behaviour}
+use Rattle.behaviour_parse.proofs.ParseResults.{only_one, is_behaviour}
 use Rattle.behaviour_parse.proofs.one_answer.Goals as goal
 
 pub returns-clause-tree : goal.returns-clause-tree

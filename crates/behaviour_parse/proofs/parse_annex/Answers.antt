@@ -1,11 +1,11 @@
 use Rattle.std.proofs.Common.{◌∙◌, ap, refl, arith, [], length}
 use Rattle.aadl_lex.proofs.TokenSpellings.{words_among}
 use Rattle.aadl_grammar.specs.proof.StackMachine.{depth}
-use Rattle.aadl_grammar.specs.proof.TerminalSpots.{spots_of}
-use Rattle.aadl_grammar.proofs.TerminalSpots.{spots_past, some_left}
-use Rattle.behaviour_parse.specs.proof.ParseOutcomes.{IsFaultOfBehaviour}
+use Rattle.aadl_grammar.specs.proof.TerminalViews.{spots_of}
+use Rattle.aadl_grammar.proofs.TerminalViews.{spots_past, some_left}
+use Rattle.behaviour_parse.specs.proof.ParseResults.{IsFaultOfBehaviour}
 use Rattle.aadl_grammar.specs.proof.ParserAnswers.{here}
-use Rattle.behaviour_parse.proofs.ParseOutcomes.{at_fault, left_fault, at_tree, residual}
+use Rattle.behaviour_parse.proofs.ParseResults.{at_fault, left_fault, at_tree, residual}
 use Rattle.behaviour_parse.proofs.parse_annex.Goals as goal
 
 pub resolve-requires : goal.resolve-requires

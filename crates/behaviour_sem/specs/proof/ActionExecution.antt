@@ -2,15 +2,15 @@
 use Rattle.std.specs.Prelude.{ℤ, List, [], ◌∷◌, ◌++◌, length, Bool, Result}
 use Rattle.std.specs.declared.alloc.Global.{Global}
 use Rattle.std.specs.declared.vec.Vec.{Vec}
-use Rattle.pals_base.specs.declared.values.Trap.{Trap}
+use Rattle.pals_base.specs.declared.basic_types.Trap.{Trap}
 use Rattle.pals_base.specs.declared.frames.Frame.{Frame}
-use Rattle.pals_base.specs.declared.values.PortValue.{PortValue}
-use Rattle.pals_base.specs.PlainTrees.{Actions, Branches}
+use Rattle.pals_base.specs.declared.basic_types.PortValue.{PortValue}
+use Rattle.pals_base.specs.ExpressionAndActionTrees.{Actions, Branches}
 use Rattle.pals_base.specs.Actions.{Effect, acts, act_first, with_vars, without_loop}
 use Rattle.behaviour_sem.specs.declared.step_inputs.StepInputs.{StepInputs}
 use Rattle.behaviour_sem.specs.declared.early_end.EarlyEnd.{EarlyEnd}
-use Rattle.behaviour_sem.specs.proof.StepOutcomes.{IsStepResult, IsBranchResult}
-use Rattle.behaviour_sem.specs.proof.ReadableFrames.{seen, fresh}
+use Rattle.behaviour_sem.specs.proof.StepResults.{IsStepResult, IsBranchResult}
+use Rattle.behaviour_sem.specs.proof.EvaluationFrames.{seen, fresh}
 
 -- what actions change: the variables, and the outputs so far
 abbrev pub Values : Type 0

@@ -1,15 +1,15 @@
 -- Claims that a part of a step leads from one state and its outputs so far to another.
 use Rattle.std.specs.Prelude.{ℕ, List, Bool, length, None, Result}
-use Rattle.pals_base.specs.declared.values.Trap.{Trap}
-use Rattle.pals_base.specs.declared.values.PortValue.{PortValue}
+use Rattle.pals_base.specs.declared.basic_types.Trap.{Trap}
+use Rattle.pals_base.specs.declared.basic_types.PortValue.{PortValue}
 use Rattle.pals_base.specs.declared.behaviour.BehaviourParts.{BehaviourParts}
 use Rattle.pals_base.specs.ExpressionValues.{on_value}
 use Rattle.pals_base.specs.SingleStep.{Fired, along, dispatched, settled}
 use Rattle.behaviour_sem.specs.declared.step_inputs.StepInputs.{StepInputs}
 use Rattle.behaviour_sem.specs.declared.early_end.EarlyEnd.{EarlyEnd}
 use Rattle.behaviour_sem.specs.declared.transitions.StepState.{StepState}
-use Rattle.behaviour_sem.specs.proof.StepOutcomes.{IsStepResult}
-use Rattle.behaviour_sem.specs.proof.ReadableFrames.{fresh}
+use Rattle.behaviour_sem.specs.proof.StepResults.{IsStepResult}
+use Rattle.behaviour_sem.specs.proof.EvaluationFrames.{fresh}
 
 -- where a step stands, and the outputs so far
 abbrev pub StateAndOutputs : Type 0

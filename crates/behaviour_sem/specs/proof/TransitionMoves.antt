@@ -1,10 +1,10 @@
 -- Whether a transition may be taken, and the move along the first one that may.
 use Rattle.std.specs.Prelude.{ℕ, nat_eq, filter, find, Bool, false, if◌then◌else◌, List, Option, Result, Ok}
-use Rattle.pals_base.specs.declared.values.Trap.{Trap}
+use Rattle.pals_base.specs.declared.basic_types.Trap.{Trap}
 use Rattle.pals_base.specs.declared.frames.Frame.{Frame}
 use Rattle.pals_base.specs.SingleStep.{Fired, opens, first_open, along, is_dispatch}
 use Rattle.pals_base.specs.ExpressionValues.{on_value}
-use Rattle.pals_base.specs.PlainTrees.{Edge}
+use Rattle.pals_base.specs.ExpressionAndActionTrees.{Edge}
 
 -- whether it leaves this state and its trigger lets it go
 abbrev pub goes : ℕ → Frame → List Bool → Edge → Result Bool Trap

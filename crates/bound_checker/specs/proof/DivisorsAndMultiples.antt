@@ -1,4 +1,4 @@
--- Common divisors and multiples.
+-- Greatest common divisors and least common multiples of two numbers.
 use Rattle.std.specs.Prelude.{ℕ, ◌*◌}
 use Rattle.std.specs.Int.{◌∣◌}
 

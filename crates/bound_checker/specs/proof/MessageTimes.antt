@@ -1,8 +1,8 @@
 -- When the messages of a round are sent and arrive, and when rounds start. Times are nanoseconds of the world,
 -- readings those of a node's clock.
 use Rattle.std.specs.Prelude.{ℕ, ◌+◌, ◌-◌, ◌*◌, ◌<◌, ◌≤◌, max}
-use Rattle.pals_base.specs.declared.period_bound.Gamma.{Gamma}
-use Rattle.pals_base.specs.PeriodBound.{step_period, sent_steps, release, alarm}
+use Rattle.pals_base.specs.declared.period_bound_and_releases.Gamma.{Gamma}
+use Rattle.pals_base.specs.PeriodBoundAndReleases.{step_period, sent_steps, release, alarm}
 
 -- a clock reads less than eps before or after the time
 pub record IsNear (g : Gamma) (time reading : ℕ) : Type 0 where

@@ -1,6 +1,6 @@
 -- What the calls of this crate ask of bounds and rates, so that no number leaves 64 bits.
 use Rattle.std.specs.Prelude.{ℕ, ◌≤◌}
-use Rattle.pals_base.specs.declared.period_bound.Gamma.{Gamma}
+use Rattle.pals_base.specs.declared.period_bound_and_releases.Gamma.{Gamma}
 use Rattle.pals_base.specs.declared.limits.TheConstants.{HOUR, RATE}
 
 -- no bound that a period is computed from is above one hour

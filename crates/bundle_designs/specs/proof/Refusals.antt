@@ -4,7 +4,7 @@ use Rattle.aadl_tree.specs.Declarations.{PackageTree}
 use Rattle.bundle_designs.specs.declared.refusal.Refusal.{Refusal}
 use Rattle.bundle_designs.specs.declared.refusal.Refusal.TheVariants.{Text, Design, Memory}
 use Rattle.bundle_designs.specs.RefusedTexts.{IsTextRefused}
-use Rattle.bundle_designs.specs.BundleMeanings.{IsRefusedIn, IsPackageRefused}
+use Rattle.bundle_designs.specs.AcceptedAndRefusedPackages.{IsRefusedIn, IsPackageRefused}
 
 -- of the text of a bundle
 abbrev pub IsTextRefusal : List ℕ → Refusal → Type 0

@@ -3,7 +3,7 @@
 use Rattle.std.specs.Prelude.{◌≤◌, List}
 use Rattle.pals_model.specs.DesignRules.{IsDesign}
 use Rattle.pals_runs.specs.declared.journal.JournalEntry.{JournalEntry}
-use Rattle.bus_machine.specs.States.{BusState, opening}
+use Rattle.bus_machine.specs.BusStates.{BusState, opening}
 use Rattle.bus_machine.specs.Runs.{Run}
 use Rattle.bus_machine.specs.Machine.{BusEvent, IsStep}
 use Rattle.bus_machine.specs.Replay.{Replays}

@@ -3,7 +3,7 @@ use Rattle.std.specs.Prelude.{◌≡◌, ℕ, Bool, []}
 use Rattle.pals_model.specs.declared.design.DesignParts.{DesignParts}
 use Rattle.pals_model.specs.DesignRules.{IsDesign}
 use Rattle.aadl_tree.specs.Declarations.{PackageTree}
-use Rattle.aadl_instance.specs.Instances.{IsInstance}
+use Rattle.aadl_instance.specs.InstancesByNumbers.{IsInstance}
 use Rattle.model_violations.specs.UsedDeclarations.{IsUse}
 use Rattle.model_violations.specs.Violations.{ShownInstance, findings}
 use Rattle.design_laws.specs.InstanceDesigns.{IsDesignOf}

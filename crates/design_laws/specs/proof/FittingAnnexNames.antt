@@ -14,7 +14,7 @@ use Rattle.annex_resolve.specs.declared.scope.DeclaredName.{DeclaredName}
 use Rattle.annex_resolve.specs.declared.scope.Meaning.{Meaning}
 use Rattle.annex_resolve.specs.declared.scope.Meaning.TheVariants.{InPort, OutPort, Variable, LoopVariable}
 use Rattle.annex_resolve.specs.declared.states.StateAt.{StateAt}
-use Rattle.annex_resolve.specs.NamesAndFindings.{entry_named}
+use Rattle.annex_resolve.specs.NameMeanings.{entry_named}
 use Rattle.annex_resolve.specs.BehavioursAndFindings.{state_number, states_of, transitions_of, behaviour_of}
 
 -- ---- what a name stands for is there, and has the name's type

@@ -1,5 +1,5 @@
 use Rattle.std.proofs.Common.{◌∙◌, ◌*◌, sym, ap, take, drop, slice_index_or}
-use Rattle.pals_base.specs.declared.values.PortValue.TheVariants.{Absent}
+use Rattle.pals_base.specs.declared.basic_types.PortValue.TheVariants.{Absent}
 use Rattle.pals_base.specs.Adaptors.{adapt, joined}
 use Rattle.input_adaptors.proofs.TupleLengthsAndGroups.{joined-place}
 use Rattle.input_adaptors.proofs.adapted_place.Goals as goal

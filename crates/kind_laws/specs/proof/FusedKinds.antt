@@ -5,7 +5,7 @@ use Rattle.pals_model.specs.declared.design.DesignParts.{DesignParts}
 use Rattle.pals_model.specs.declared.environment.Env.{Env}
 use Rattle.pals_model.specs.PortKinds.{out_kind}
 use Rattle.pals_model.specs.DesignRules.{IsDesign}
-use Rattle.pals_model.specs.proof.FittingValues.{PortFits, PortsFit, FrameFits, EnvFits}
+use Rattle.pals_model.specs.proof.ValuesFitKinds.{PortFits, PortsFit, FrameFits, EnvFits}
 use Rattle.pals_model.specs.proof.CompositionLaws.Kinds.{PartFits}
 use Rattle.pals_runs.specs.declared.plant_pairs.Pair.{Pair}
 use Rattle.plant_fuse.specs.FusedComposition.{ArePairs, Inputs, inputs_to, left_by, frame_before, IsFused}

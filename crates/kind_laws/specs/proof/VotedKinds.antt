@@ -7,9 +7,9 @@ use Rattle.pals_model.specs.declared.design.DesignParts.{DesignParts}
 use Rattle.pals_model.specs.declared.environment.Env.{Env}
 use Rattle.pals_model.specs.PortKinds.{out_kind}
 use Rattle.pals_model.specs.DesignRules.{IsDesign}
-use Rattle.pals_model.specs.proof.FittingValues.{FrameFits, TupleFits, link_kind, EnvFits}
+use Rattle.pals_model.specs.proof.ValuesFitKinds.{FrameFits, TupleFits, link_kind, EnvFits}
 use Rattle.pals_runs.specs.declared.vote_faults.VoteFault.{VoteFault}
-use Rattle.triple_vote.specs.Replicas.{VotedConfiguration, voted_composition, voted_tap}
+use Rattle.triple_vote.specs.VotedComposition.{VotedConfiguration, voted_composition, voted_tap}
 
 -- ---- faults
 -- what a fault sends in place of its replica's own message fits the kind of the link

@@ -1,4 +1,4 @@
--- What a flight holds.
+-- What a flight holds: copies that are on their way, and room for more.
 use Rattle.std.specs.Prelude.{ℕ, nat_le, Bool, false, List, map, filter}
 use Rattle.std.specs.Option.{option_map_or}
 use Rattle.pals_model.specs.declared.flight_copy.FlightCopy.{FlightCopy}

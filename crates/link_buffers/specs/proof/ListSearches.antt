@@ -11,7 +11,6 @@ pub record IsFirst {X : Type 0} (passes : X → Bool) (list : List X) (first : X
   pub here : passes first ≡ true
   pub none_before : All (λ x. passes x ≡ false) before
 
-
 -- the least number of a list, if it has any
 abbrev pub least : List ℕ → Option ℕ
 least numbers = reduce min numbers

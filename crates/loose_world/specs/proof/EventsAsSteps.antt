@@ -3,13 +3,13 @@ use Rattle.std.specs.Prelude.{ℕ, false, List}
 use Rattle.step_code.specs.declared.instr.CodeParts.{CodeParts}
 use Rattle.pals_runs.specs.declared.events_and_faults.Event.{Event}
 use Rattle.pals_runs.specs.declared.journal.JournalEntry.{JournalEntry}
-use Rattle.bus_machine.specs.States.{BusState, opening}
+use Rattle.bus_machine.specs.BusStates.{BusState, opening}
 use Rattle.bus_machine.specs.Runs.{Run}
 use Rattle.pals_bus.specs.BusValues.{BusValue}
 use Rattle.pals_bus.specs.proof.OpeningNodes.{opening_bus}
 use Rattle.loose_world.specs.declared.loose_run.LooseEnd.{LooseEnd}
 use Rattle.loose_world.specs.LooseRuns.{RunsLoosely}
-use Rattle.loose_world.specs.MachineSteps.{AllStep, StepsToFault, StepsToStop}
+use Rattle.loose_world.specs.LooseEventsAsSteps.{AllStep, StepsToFault, StepsToStop}
 use Rattle.loose_world.specs.declared.loose_run.LooseEnd.TheVariants as end
 
 -- how a list of loose events ends, at a state and with a journal

@@ -3,7 +3,7 @@ use Rattle.std.specs.Prelude.{ℕ, List, map, flat_map, fold, max, length, Optio
 use Rattle.pals_base.specs.UpwardNumbers.{upwards}
 use Rattle.pals_model.specs.declared.part.Part.{Part}
 use Rattle.pals_model.specs.RoundTexts.{row_lines}
-use Rattle.bus_machine.specs.States.{node_at, finished_by_all}
+use Rattle.bus_machine.specs.BusStates.{node_at, finished_by_all}
 use Rattle.pals_bus.specs.BusValues.{BusValue}
 
 -- what a node left in a round, where it has finished that

@@ -8,7 +8,7 @@ use Rattle.pals_bus.specs.BusValues.{BusValue}
 use Rattle.pals_bus.specs.proof.OpeningNodes.{opening_bus}
 use Rattle.loose_world.specs.declared.loose_run.LooseEnd.{LooseEnd}
 use Rattle.loose_world.specs.LooseRuns.{RunsLoosely}
-use Rattle.loose_world.specs.proof.EventEffects.{IsReplayed}
+use Rattle.loose_world.specs.proof.BusAfterEvents.{IsReplayed}
 
 -- however a list of loose events ends, the journal leads to where the bus stands: behind all events, where each
 -- happens without a stop; behind the event that gives a stop, up to which the journal goes; and before the event that

@@ -4,7 +4,7 @@ use Rattle.pals_model.specs.declared.flight_copy.FlightCopy.{FlightCopy}
 use Rattle.pals_model.specs.OutgoingLinks.{links_from}
 use Rattle.pals_model.specs.Composition.{msg}
 use Rattle.pals_model.specs.Flights.{oldest}
-use Rattle.bus_machine.specs.States.{node_at, flight_at}
+use Rattle.bus_machine.specs.BusStates.{node_at, flight_at}
 use Rattle.pals_bus.specs.BusValues.{BusValue}
 
 -- a round of a node has just been sent: on each link from the node a copy is in flight, the oldest with this round's

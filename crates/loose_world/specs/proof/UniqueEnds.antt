@@ -2,7 +2,7 @@
 use Rattle.std.specs.Prelude.{◌≡◌, ⊤, List}
 use Rattle.pals_runs.specs.declared.events_and_faults.Event.{Event}
 use Rattle.pals_runs.specs.declared.journal.JournalEntry.{JournalEntry}
-use Rattle.bus_machine.specs.States.{BusState}
+use Rattle.bus_machine.specs.BusStates.{BusState}
 use Rattle.bus_machine.specs.Runs.{Run}
 use Rattle.loose_world.specs.declared.loose_run.LooseEnd.{LooseEnd}
 use Rattle.loose_world.specs.proof.EventsAsSteps.{StepsTo}

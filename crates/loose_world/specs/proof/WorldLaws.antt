@@ -1,11 +1,11 @@
 -- What a list of events leaves, with its readings or without: laws at every run of a design.
 use Rattle.std.specs.Prelude.{◌≡◌, ℕ, ◌<◌, false, List, [], ◌++◌, length}
 use Rattle.step_code.specs.declared.instr.CodeParts.{CodeParts}
-use Rattle.pals_base.specs.declared.values.NodeNo.{NodeNo}
+use Rattle.pals_base.specs.declared.basic_types.NodeNo.{NodeNo}
 use Rattle.pals_model.specs.RoundTexts.{text_of, report}
 use Rattle.pals_runs.specs.declared.events_and_faults.Event.{Event}
 use Rattle.pals_runs.specs.declared.journal.Stop.{Stop}
-use Rattle.bus_machine.specs.States.{BusState, node_at, finished_by_all}
+use Rattle.bus_machine.specs.BusStates.{BusState, node_at, finished_by_all}
 use Rattle.bus_machine.specs.Runs.{Run}
 use Rattle.bus_machine.specs.Nodes.{sent_rounds}
 use Rattle.bus_machine.specs.Machine.{BusEvent, IsStep}
@@ -18,8 +18,8 @@ use Rattle.loose_world.specs.proof.FinishedRows.{finished_lines, common_lines}
 use Rattle.loose_world.specs.declared.loose_run.LooseEnd.TheVariants.{All, Stopped}
 use Rattle.loose_world.specs.LooseRuns.{Tells}
 use Rattle.loose_world.specs.proof.StepAndSendCounts.{IsCounted}
-use Rattle.loose_world.specs.proof.EventEffects.{event_of, Undergoes, IsLeftBy, IsReplayed}
-use Rattle.loose_world.specs.proof.SendersAndSentCopies.{senders}
+use Rattle.loose_world.specs.proof.BusAfterEvents.{event_of, Undergoes, IsLeftBy, IsReplayed}
+use Rattle.loose_world.specs.proof.EventSenders.{senders}
 use Rattle.loose_world.specs.proof.SentCopies.{HasSent}
 use Rattle.pals_runs.specs.declared.events_and_faults.Event.TheVariants as event
 

@@ -1,4 +1,4 @@
--- The behaviours that are kept for the threads to come.
+-- The behaviours that are kept by the numbers of implementations: each is the behaviour of its implementation.
 use Rattle.std.specs.Prelude.{◌≡◌, ℕ, List, Option, Some, nat_eq}
 use Rattle.std.specs.Map.{lookup}
 use Rattle.std.specs.Option.{option_and_then}

@@ -2,7 +2,7 @@
 use Rattle.std.specs.Prelude.{◌≡◌, ℕ, Some}
 use Rattle.aadl_tree.specs.Declarations.{Implementation, PackageTree}
 use Rattle.aadl_uses.specs.declared.thread_locations.ThreadAt.{ThreadAt}
-use Rattle.model_violations.specs.ChainTargets.{component_of}
+use Rattle.model_violations.specs.ChainEnds.{component_of}
 use Rattle.model_violations.specs.ThreadBehaviours.{IsSmall}
 
 -- the component of a thread has no more ports and variables than a design may have

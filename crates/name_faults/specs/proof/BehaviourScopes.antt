@@ -4,7 +4,7 @@ use Rattle.aadl_tree.specs.Names.{same_name}
 use Rattle.std.specs.List.{list_any}
 use Rattle.aadl_names.specs.declared.name_roles.Role.{Role}
 use Rattle.aadl_names.specs.declared.name_roles.Role.TheVariants.{Turns}
-use Rattle.aadl_names.specs.NameUsesInAnnexes.{NameRoles, either}
+use Rattle.aadl_names.specs.NameUseFaults.{NameRoles, either}
 use Rattle.aadl_names.specs.proof.NameTables.{value_of}
 use Rattle.name_faults.specs.proof.ConditionalValues.{is_marked}
 

@@ -1,4 +1,4 @@
--- What is known of the ports of types.
+-- Which tables have the names of the ports of a type, and of the ports of all types.
 use Rattle.std.specs.Prelude.{◌≡◌, ℕ, List, Option, Some, None, slice_index_or}
 use Rattle.aadl_tree.specs.Declarations.{Feature, PackageTree}
 use Rattle.aadl_names.specs.declared.name_roles.Role.{Role}

@@ -1,7 +1,7 @@
 use Rattle.std.proofs.Common.{◌≡◌, ap, sym, ◌∙◌, arith}
 use Rattle.std.proofs.lemmas.Bool.{eqb-true}
 use Rattle.std.proofs.lemmas.Grind.{common_steps}
-use Rattle.pals_base.specs.PlainTrees.{If, For}
+use Rattle.pals_base.specs.ExpressionAndActionTrees.{If, For}
 use Rattle.pals_base.specs.proof.TreeViews.{action_of, actions_along, branches_along}
 use Rattle.pals_base.proofs.TreeViews.{action_of-If, action_of-For}
 use Rattle.pals_base.proofs.SameTreeLengths.{same_acts-length, same_branches-length}
@@ -54,10 +54,10 @@ behaviour::Act::same-returns-then-high-other_high t c =
     c.same_acts-then-high-other_high.ensures in
     (λ yes. let e = bodies.0 yes in cc, λ same. bodies.1 (cc))
 
-pub same::actions::same_acts-returns-then-left-right : goal.same::actions::same_acts-returns-then-left-right
-same::actions::same_acts-returns-then-left-right t c =
+pub equality::actions::same_acts-returns-then-left-right : goal.same::actions::same_acts-returns-then-left-right
+equality::actions::same_acts-returns-then-left-right t c =
     (grind (arith, common_steps), λ same. let e = same_acts-length _ _ same in absurd (grind (arith, common_steps)))
 
-pub same::actions::same_branches-returns-then-left-right : goal.same::actions::same_branches-returns-then-left-right
-same::actions::same_branches-returns-then-left-right t c =
+pub equality::actions::same_branches-returns-then-left-right : goal.same::actions::same_branches-returns-then-left-right
+equality::actions::same_branches-returns-then-left-right t c =
     (grind (arith, common_steps), λ same. let e = same_branches-length _ _ same in absurd (grind (arith, common_steps)))

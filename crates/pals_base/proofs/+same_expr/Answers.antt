@@ -1,6 +1,6 @@
 use Rattle.std.proofs.Common.{◌≡◌, ap, ◌∙◌, arith}
 use Rattle.std.proofs.lemmas.Grind.{common_steps}
-use Rattle.pals_base.specs.PlainTrees.{Chain}
+use Rattle.pals_base.specs.ExpressionAndActionTrees.{Chain}
 use Rattle.pals_base.specs.proof.TreeViews.{tree_of, operands_along}
 use Rattle.pals_base.proofs.TreeViews.{tree_of-Chain}
 use Rattle.pals_base.proofs.SameTreeLengths.{same_operands-length}
@@ -16,6 +16,6 @@ behaviour::Expr::same-returns-then-same t c =
     let rests = rw (c.deref-then-same.ensures.value, c.deref-then-same-2.ensures.value) at c.same_operands.ensures in
     (λ yes. let e = rests.0 yes in cc, λ same. rests.1 (cc))
 
-pub same::expressions::same_operands-returns-then-left-right : goal.same::expressions::same_operands-returns-then-left-right
-same::expressions::same_operands-returns-then-left-right t c =
+pub equality::expressions::same_operands-returns-then-left-right : goal.same::expressions::same_operands-returns-then-left-right
+equality::expressions::same_operands-returns-then-left-right t c =
     (grind (arith, common_steps), λ same. let e = same_operands-length _ _ same in absurd (grind (arith, common_steps)))

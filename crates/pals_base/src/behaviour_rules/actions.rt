@@ -4,10 +4,10 @@ ghost use Rattle.pals_base.specs.proof.TreeViews.{action_of, actions_along, bran
 ghost use Rattle.pals_base.specs.TypingRules.{suits_variable, suits_port, turns, is_short, is_sound, are_sound};
 ghost use Rattle.pals_base.specs.TypingRules.{branches_are_sound};
 
+use crate::basic_types::NoMemory;
 use crate::behaviour::{Act, BehaviourParts, Branch};
 use crate::expression_kinds::Kinds;
 use crate::limits::{NESTED_TURNS, TURNS};
-use crate::values::NoMemory;
 use std::alloc::AllocError;
 
 // Whether a value of these types may be put into a variable that is declared.

@@ -6,8 +6,8 @@ ghost use Rattle.pals_base.specs.UpwardNumbers.{upwards};
 ghost use Rattle.pals_base.specs.proof.SettledStates.{settles, marked, settles_next};
 ghost use Rattle.pals_base.specs.BehaviourRules.{dispatch_count, ends_unguarded, has_ways};
 
+use crate::basic_types::NoMemory;
 use crate::behaviour::{BehaviourParts, Guard, StateDecl, Transition};
-use crate::values::NoMemory;
 use std::alloc::Global;
 
 // Whether a step ends in a state. A number of no state is such an end.

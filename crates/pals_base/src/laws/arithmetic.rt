@@ -3,11 +3,11 @@ ghost use Rattle.std.specs.Prelude.{◌≡◌, ◌≢◌, ◌-◌, ◌^◌, ℤ,
 ghost use Rattle.pals_base.specs.declared.frames.Frame.{Frame};
 ghost use Rattle.pals_base.specs.declared.behaviour.Op.TheVariants.{Sub};
 ghost use Rattle.pals_base.specs.Arithmetic.{quotient_of, remainder_of, modulus_of, negation_of, magnitude_of};
-ghost use Rattle.pals_base.specs.proof.Remainders.{IsRemainder, IsModulus};
-ghost use Rattle.pals_base.specs.PlainTrees.{Literal, Chain, NoMore, Then};
+ghost use Rattle.pals_base.specs.proof.RemaindersAndModuli.{IsRemainder, IsModulus};
+ghost use Rattle.pals_base.specs.ExpressionAndActionTrees.{Literal, Chain, NoMore, Then};
 ghost use Rattle.pals_base.specs.ExpressionValues.{eval};
 
-use crate::values::Trap;
+use crate::basic_types::Trap;
 
 /// By a divisor that is not 0 there is a remainder. With the quotient, cut towards zero, it gives
 /// the dividend; it is below the divisor in magnitude, and has the dividend's sign.

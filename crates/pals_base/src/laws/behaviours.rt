@@ -1,7 +1,7 @@
 //! Laws of what each behaviour keeps.
 ghost use Rattle.std.specs.Prelude.{◌≡◌, ◌<◌, ℕ, List, length};
 ghost use Rattle.pals_base.specs.declared.frames.Frame.{Frame};
-ghost use Rattle.pals_base.specs.declared.values.PortValue.{PortValue};
+ghost use Rattle.pals_base.specs.declared.basic_types.PortValue.{PortValue};
 ghost use Rattle.pals_base.specs.declared.behaviour.BehaviourParts.{BehaviourParts};
 ghost use Rattle.pals_base.specs.SingleStep.{fire, initial, HasShape};
 ghost use Rattle.pals_base.specs.BehaviourRules.{IsBehaviour, IsWay};

@@ -1,13 +1,13 @@
 //! Laws of several steps of a behaviour.
 ghost use Rattle.std.specs.Prelude.{◌≡◌, ◌<◌, ℕ, List, [], ◌∷◌, ◌++◌, length, take, replicate, fold, Some};
-ghost use Rattle.pals_base.specs.declared.values.Trap.{Trap};
+ghost use Rattle.pals_base.specs.declared.basic_types.Trap.{Trap};
 ghost use Rattle.pals_base.specs.declared.frames.Frame.{Frame};
-ghost use Rattle.pals_base.specs.declared.values.PortValue.{PortValue};
+ghost use Rattle.pals_base.specs.declared.basic_types.PortValue.{PortValue};
 ghost use Rattle.pals_base.specs.declared.behaviour.BehaviourParts.{BehaviourParts};
 ghost use Rattle.pals_base.specs.SingleStep.{fire, holding, silence};
 ghost use Rattle.pals_base.specs.StepSequences.{frame_after, outputs};
 ghost use Rattle.pals_base.specs.Tuples.{columns, so_far, with_places};
-ghost use Rattle.pals_base.specs.declared.values.PortValue.TheVariants.{Absent};
+ghost use Rattle.pals_base.specs.declared.basic_types.PortValue.TheVariants.{Absent};
 
 /// Steps go one after another: no step looks ahead, and later steps go on from the frame that the
 /// earlier ones leave.

@@ -1,6 +1,6 @@
 //! Laws of tuples.
 ghost use Rattle.std.specs.Prelude.{◌≡◌, ◌<◌, ◌≤◌, ℕ, List, length, slice_get, All};
-ghost use Rattle.pals_base.specs.declared.values.PortValue.{PortValue};
+ghost use Rattle.pals_base.specs.declared.basic_types.PortValue.{PortValue};
 ghost use Rattle.pals_base.specs.Tuples.{column, columns, cut};
 
 /// To cut a tuple keeps its length, does no more a second time, and does nothing past its end.

@@ -1,10 +1,10 @@
 //! Copies of values, names and frames.
 
 use super::TryClone;
+use crate::basic_types::{NoMemory, PortValue};
 use crate::frames::Frame;
 use crate::items::Items;
 use crate::text::Text;
-use crate::values::{NoMemory, PortValue};
 use std::alloc::Global;
 
 impl TryClone for u64 {

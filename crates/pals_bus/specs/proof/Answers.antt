@@ -1,17 +1,17 @@
 -- What a bus answers, and why.
 use Rattle.std.specs.Prelude.{◌≡◌, ◌≢◌, ◌⊎◌, ℕ, false, Option, Some, None}
-use Rattle.pals_base.specs.declared.values.NodeNo.{NodeNo}
-use Rattle.pals_base.specs.declared.values.LinkNo.{LinkNo}
+use Rattle.pals_base.specs.declared.basic_types.NodeNo.{NodeNo}
+use Rattle.pals_base.specs.declared.basic_types.LinkNo.{LinkNo}
 use Rattle.pals_model.specs.ComponentInputs.{values_at}
 use Rattle.pals_runs.specs.declared.journal.Stop.{Stop}
 use Rattle.bus_machine.specs.LinkEvents.{is_in_flight}
-use Rattle.bus_machine.specs.States.{node_at, flight_at}
+use Rattle.bus_machine.specs.BusStates.{node_at, flight_at}
 use Rattle.bus_machine.specs.Machine.{Start, Step, Finish, Send}
-use Rattle.bus_machine.specs.EarliestReadings.{release_reading}
-use Rattle.pals_node.specs.declared.answers.StartEnd.{StartEnd}
-use Rattle.pals_node.specs.declared.answers.StepEnd.{StepEnd}
-use Rattle.pals_node.specs.declared.answers.FinishEnd.{FinishEnd}
-use Rattle.pals_node.specs.declared.answers.SendEnd.{SendEnd}
+use Rattle.bus_machine.specs.AlarmsAndReleases.{release_reading}
+use Rattle.pals_node.specs.declared.refusals.StartEnd.{StartEnd}
+use Rattle.pals_node.specs.declared.refusals.StepEnd.{StepEnd}
+use Rattle.pals_node.specs.declared.refusals.FinishEnd.{FinishEnd}
+use Rattle.pals_node.specs.declared.refusals.SendEnd.{SendEnd}
 use Rattle.pals_node.specs.declared.job.Finished.{Finished}
 use Rattle.pals_node.specs.proof.NodeValues.{JobValue}
 use Rattle.pals_node.specs.proof.Answers.{is_early, Starts, StartEnds, Steps, StepEnds, FinishesWith, NoneRuns}
@@ -20,7 +20,7 @@ use Rattle.pals_bus.specs.declared.bus_error.BusError.{BusError}
 use Rattle.pals_bus.specs.declared.bus_error.MessageError.{MessageError}
 use Rattle.pals_bus.specs.BusValues.{BusValue, Happens}
 use Rattle.pals_bus.specs.proof.NodeLists.{node_value}
-use Rattle.pals_node.specs.declared.answers.StartEnd.TheVariants as start
+use Rattle.pals_node.specs.declared.refusals.StartEnd.TheVariants as start
 use Rattle.pals_bus.specs.declared.bus_error.BusError.TheVariants as fault
 use Rattle.pals_bus.specs.declared.bus_error.MessageError.TheVariants as message
 

@@ -12,15 +12,15 @@ use Rattle.link_buffers.specs.proof.Flights.{FlightState}
 use Rattle.step_code.specs.proof.CodeMeaning.{Means}
 use Rattle.bus_machine.specs.Plans.{component_at, plan_of}
 use Rattle.bus_machine.specs.NodeEvents.{running_step}
-use Rattle.bus_machine.specs.States.{BusState}
+use Rattle.bus_machine.specs.BusStates.{BusState}
 use Rattle.bus_machine.specs.Runs.{Run}
 use Rattle.bus_machine.specs.Replay.{Replays}
 use Rattle.pals_node.specs.proof.NodeValues.{NodeValue}
 use Rattle.pals_bus.specs.declared.bus_fields.BusFields.{BusFields}
 use Rattle.pals_bus.specs.BusValues.{BusValue}
-use Rattle.pals_bus.specs.proof.OpeningBusAndNodeValues.{codes_in}
+use Rattle.pals_bus.specs.proof.StepCodesOfNodes.{codes_in}
 use Rattle.pals_bus.specs.proof.OutOfRangeDefaults.{no_node_value, no_flight}
-use Rattle.pals_bus.specs.proof.LinksFrom.{AreOutgoing}
+use Rattle.pals_bus.specs.proof.LinksFromNodes.{AreOutgoing}
 use Rattle.pals_bus.specs.proof.DueQueues.{AreQueues}
 
 -- ---- what contracts see of a bus's fields

@@ -1,13 +1,13 @@
 -- The messages that are due to a node.
 use Rattle.std.specs.Prelude.{◌≡◌, ◌⊎◌, ℕ, ◌<◌, ◌≤◌, true, false, if◌then◌else◌, List, count_by, AllPairs, Some, None}
 use Rattle.std.specs.Prelude.{slice_get}
-use Rattle.pals_base.specs.declared.values.LinkNo.{LinkNo}
+use Rattle.pals_base.specs.declared.basic_types.LinkNo.{LinkNo}
 use Rattle.pals_model.specs.declared.design.Link.{Link}
 use Rattle.pals_model.specs.declared.flight_copy.FlightCopy.{FlightCopy}
 use Rattle.link_buffers.specs.proof.Flights.{is_due}
 use Rattle.link_buffers.specs.declared.due_queue.DueEntry.{DueEntry}
 use Rattle.link_buffers.specs.proof.DueQueues.{is_entry, is_due_at}
-use Rattle.bus_machine.specs.States.{flight_at}
+use Rattle.bus_machine.specs.BusStates.{flight_at}
 use Rattle.bus_machine.specs.Machine.{Arrive}
 use Rattle.std.specs.declared.alloc.AllocError.{AllocError}
 use Rattle.pals_bus.specs.declared.bus_error.BusError.{BusError}

@@ -4,7 +4,7 @@ use Rattle.std.specs.Prelude.{length, map, drop, filter, count_by, All, AllPairs
 use Rattle.std.specs.Prelude.{slice_get, slice_index_or}
 use Rattle.std.specs.Option.{option_map_or}
 use Rattle.pals_base.specs.declared.limits.TheConstants.{PORTS}
-use Rattle.pals_base.specs.declared.values.LinkNo.{LinkNo}
+use Rattle.pals_base.specs.declared.basic_types.LinkNo.{LinkNo}
 use Rattle.pals_model.specs.declared.design.Link.{Link}
 use Rattle.pals_model.specs.declared.flight_copy.FlightCopy.{FlightCopy}
 use Rattle.link_buffers.specs.declared.due_queue.DueEntry.{DueEntry}
@@ -13,7 +13,7 @@ use Rattle.link_buffers.specs.proof.Flights.{FlightState}
 use Rattle.bus_machine.specs.Plans.{no_link, link_at}
 use Rattle.pals_node.specs.proof.NodeValues.{NodeValue}
 use Rattle.pals_bus.specs.proof.OutOfRangeDefaults.{no_node_value, no_flight, no_queue}
-use Rattle.bus_machine.specs.States.{flight_at}
+use Rattle.bus_machine.specs.BusStates.{flight_at}
 use Rattle.pals_bus.specs.BusValues.{BusValue}
 
 -- a copy with this round and this due reading

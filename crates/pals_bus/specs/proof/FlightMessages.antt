@@ -1,8 +1,8 @@
 -- Messages put into flight, and taken out of it.
 use Rattle.std.specs.Prelude.{ℕ, List, length, Option, slice_index_or, slice_set}
 use Rattle.std.specs.Arc.{arc_value}
-use Rattle.pals_base.specs.declared.values.LinkNo.{LinkNo}
-use Rattle.pals_base.specs.declared.values.PortValue.{PortValue}
+use Rattle.pals_base.specs.declared.basic_types.LinkNo.{LinkNo}
+use Rattle.pals_base.specs.declared.basic_types.PortValue.{PortValue}
 use Rattle.pals_model.specs.declared.flight_copy.FlightCopy.{FlightCopy}
 use Rattle.pals_model.specs.Flights.{without_oldest}
 use Rattle.link_buffers.specs.proof.Flights.{FlightState}

@@ -1,20 +1,20 @@
 -- Stops of a loose world, and why an event of it is refused.
 use Rattle.std.specs.Prelude.{◌≡◌, ◌⊎◌, ℕ, Some, None}
-use Rattle.pals_base.specs.declared.values.NodeNo.{NodeNo}
-use Rattle.pals_base.specs.declared.values.LinkNo.{LinkNo}
+use Rattle.pals_base.specs.declared.basic_types.NodeNo.{NodeNo}
+use Rattle.pals_base.specs.declared.basic_types.LinkNo.{LinkNo}
 use Rattle.pals_runs.specs.declared.events_and_faults.Event.{Event}
 use Rattle.pals_runs.specs.declared.journal.Stop.{Stop}
-use Rattle.pals_node.specs.declared.answers.StartEnd.{StartEnd}
-use Rattle.pals_node.specs.declared.answers.StepEnd.{StepEnd}
-use Rattle.pals_node.specs.declared.answers.FinishEnd.{FinishEnd}
-use Rattle.pals_node.specs.declared.answers.SendEnd.{SendEnd}
+use Rattle.pals_node.specs.declared.refusals.StartEnd.{StartEnd}
+use Rattle.pals_node.specs.declared.refusals.StepEnd.{StepEnd}
+use Rattle.pals_node.specs.declared.refusals.FinishEnd.{FinishEnd}
+use Rattle.pals_node.specs.declared.refusals.SendEnd.{SendEnd}
 use Rattle.pals_bus.specs.declared.bus_error.BusError.{BusError}
 use Rattle.pals_bus.specs.declared.bus_error.MessageError.{MessageError}
 use Rattle.pals_bus.specs.declared.loose_faults.LooseFault.{LooseFault}
 use Rattle.pals_bus.specs.BusValues.{BusValue}
 use Rattle.pals_bus.specs.LooseEvents.{HappensLoose, IsRefused, loose_event, event_message, event_node}
-use Rattle.pals_node.specs.declared.answers.StartEnd.TheVariants as start
-use Rattle.pals_node.specs.declared.answers.StepEnd.TheVariants as step
+use Rattle.pals_node.specs.declared.refusals.StartEnd.TheVariants as start
+use Rattle.pals_node.specs.declared.refusals.StepEnd.TheVariants as step
 use Rattle.pals_bus.specs.declared.bus_error.BusError.TheVariants as bus_fault
 use Rattle.pals_bus.specs.declared.bus_error.MessageError.TheVariants as message
 use Rattle.pals_bus.specs.declared.loose_faults.LooseFault.TheVariants as fault

@@ -1,7 +1,7 @@
 -- Nodes that meet: each goes on once no other waits for a lesser reading.
 use Rattle.std.specs.Prelude.{◌≡◌, ◌≢◌, ◌⊎◌, ℕ, ◌<◌, ◌≤◌, true, length, Option, Some, None, option_map}
 use Rattle.bus_machine.specs.Plans.{plan_of}
-use Rattle.bus_machine.specs.States.{node_at}
+use Rattle.bus_machine.specs.BusStates.{node_at}
 use Rattle.bus_machine.specs.ActionsAndTargets.{target, action_of}
 use Rattle.pals_bus.specs.declared.meeting.Meet.{Meet}
 use Rattle.pals_bus.specs.BusValues.{BusValue}

@@ -1,11 +1,11 @@
--- The nodes of a run, in order.
+-- The nodes of a run, in order, and a node of a bus as contracts see it.
 use Rattle.std.specs.Prelude.{ℕ, List, Option, option_map, slice_index_or}
 use Rattle.bus_machine.specs.ActionsAndTargets.{target, action_of}
 use Rattle.pals_node.specs.proof.NodeValues.{NodeValue, program_of}
 use Rattle.pals_bus.specs.proof.OutOfRangeDefaults.{no_node_value}
-use Rattle.bus_machine.specs.States.{node_at}
+use Rattle.bus_machine.specs.BusStates.{node_at}
 use Rattle.pals_bus.specs.BusValues.{BusValue}
-use Rattle.pals_bus.specs.proof.OpeningBusAndNodeValues.{code_at}
+use Rattle.pals_bus.specs.proof.StepCodesOfNodes.{code_at}
 
 abbrev pub node_of : List NodeValue → ℕ → NodeValue
 node_of nodes node = slice_index_or nodes node no_node_value

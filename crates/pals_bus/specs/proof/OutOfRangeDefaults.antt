@@ -1,13 +1,13 @@
 -- What stands for a plan, node, flight, queue or link number past the end of a list.
 use Rattle.std.specs.Prelude.{[]}
-use Rattle.pals_base.specs.declared.values.LinkNo.{LinkNo}
+use Rattle.pals_base.specs.declared.basic_types.LinkNo.{LinkNo}
 use Rattle.link_buffers.specs.proof.Flights.{FlightState, flight_of}
 use Rattle.link_buffers.specs.proof.DueQueues.{QueueState, queue_of}
 use Rattle.bus_machine.specs.declared.plan.Plan.{Plan}
 use Rattle.bus_machine.specs.Plans.{no_behaviour}
-use Rattle.bus_machine.specs.States.{no_node}
+use Rattle.bus_machine.specs.BusStates.{no_node}
 use Rattle.pals_node.specs.proof.NodeValues.{NodeValue}
-use Rattle.pals_bus.specs.proof.OpeningBusAndNodeValues.{no_code}
+use Rattle.pals_bus.specs.proof.StepCodesOfNodes.{no_code}
 
 abbrev pub no_plan : Plan
 no_plan = record {

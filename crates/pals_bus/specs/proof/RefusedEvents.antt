@@ -1,4 +1,4 @@
--- When a bus refuses an event, and for which fault.
+-- When a bus refuses an event, and by which cause.
 use Rattle.pals_bus.specs.declared.bus_error.BusError.{BusError}
 use Rattle.pals_bus.specs.declared.bus_error.BusError.TheVariants.{Stopped, Refused}
 

@@ -1,6 +1,6 @@
 -- What two bundles have in common whose listings are one.
 use Rattle.std.specs.Prelude.{◌≡◌, ℕ, List}
-use Rattle.code_listing.specs.proof.ToldDesigns.{told_design}
+use Rattle.code_listing.specs.proof.ListingInjectivity.{told_design}
 use Rattle.pals_code.specs.BundleAnswers.{IsListed}
 
 -- their designs and codes are told alike

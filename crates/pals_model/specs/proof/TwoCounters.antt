@@ -1,15 +1,15 @@
 -- Two counters, each of which counts on from the other's last value.
 use Rattle.std.specs.Prelude.{◌≡◌, ℕ, pos, true, codes, List, [], ◌∷◌, ◌++◌, None}
-use Rattle.pals_base.specs.declared.values.NodeNo.{NodeNo}
-use Rattle.pals_base.specs.declared.period_bound.Gamma.{Gamma}
+use Rattle.pals_base.specs.declared.basic_types.NodeNo.{NodeNo}
+use Rattle.pals_base.specs.declared.period_bound_and_releases.Gamma.{Gamma}
 use Rattle.pals_base.specs.declared.behaviour.Kind.TheVariants.{Integer}
 use Rattle.pals_base.specs.declared.behaviour.Op.TheVariants.{Add}
 use Rattle.pals_base.specs.declared.behaviour.PortDecl.{PortDecl}
 use Rattle.pals_base.specs.declared.behaviour.VarDecl.{VarDecl}
 use Rattle.pals_base.specs.declared.behaviour.StateDecl.{StateDecl}
 use Rattle.pals_base.specs.declared.behaviour.BehaviourParts.{BehaviourParts}
-use Rattle.pals_base.specs.PlainTrees.{Literal, Variable, PortRead, Chain, NoMore, Then, Assign, Emit, Actions, Nothing}
-use Rattle.pals_base.specs.PlainTrees.{Do, Dispatch, Edge}
+use Rattle.pals_base.specs.ExpressionAndActionTrees.{Literal, Variable, PortRead, Chain, NoMore, Then, Assign, Emit, Actions, Nothing}
+use Rattle.pals_base.specs.ExpressionAndActionTrees.{Do, Dispatch, Edge}
 use Rattle.pals_model.specs.declared.design.Component.{Component}
 use Rattle.pals_model.specs.declared.design.Link.{Link}
 use Rattle.pals_model.specs.declared.design.DesignParts.{DesignParts}

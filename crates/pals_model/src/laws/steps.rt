@@ -1,6 +1,6 @@
 //! Laws of a round that is under way.
-ghost use Rattle.pals_model.specs.proof.CompositionLaws.Steps.{RoundBegins, RoundGoesOn, RoundEnds, PlacesStay};
-ghost use Rattle.pals_model.specs.proof.CompositionLaws.Steps.{TrapIsSilent};
+ghost use Rattle.pals_model.specs.proof.CompositionLaws.PartialRounds.{RoundBegins, RoundGoesOn, RoundEnds, PlacesStay};
+ghost use Rattle.pals_model.specs.proof.CompositionLaws.PartialRounds.{TrapIsSilent};
 
 /// A component's round goes one step at a time. It begins with the state and with every place
 /// absent, each step fills its own place, and after the last one its own steps are made.

@@ -1,20 +1,20 @@
 -- What a node answers, and why.
 use Rattle.std.specs.Prelude.{◌≡◌, ◌≢◌, ℕ, nat_lt, Bool, true, false, List, Option, Some, None}
 use Rattle.std.specs.Option.{option_map_or}
-use Rattle.pals_base.specs.declared.values.PortValue.{PortValue}
+use Rattle.pals_base.specs.declared.basic_types.PortValue.{PortValue}
 use Rattle.pals_runs.specs.declared.phase.Phase.{Phase}
 use Rattle.pals_runs.specs.declared.phase.Phase.TheVariants.{Waiting, Running, Between, Holding, Done}
 use Rattle.bus_machine.specs.NodeEvents.{missing, started, stepped, finished, may_send, sent_from, messages_from}
-use Rattle.bus_machine.specs.EarliestReadings.{start_alarm, step_alarm, release_reading}
-use Rattle.pals_node.specs.declared.answers.StartEnd.{StartEnd}
-use Rattle.pals_node.specs.declared.answers.StepEnd.{StepEnd}
-use Rattle.pals_node.specs.declared.answers.SendEnd.{SendEnd}
+use Rattle.bus_machine.specs.AlarmsAndReleases.{start_alarm, step_alarm, release_reading}
+use Rattle.pals_node.specs.declared.refusals.StartEnd.{StartEnd}
+use Rattle.pals_node.specs.declared.refusals.StepEnd.{StepEnd}
+use Rattle.pals_node.specs.declared.refusals.SendEnd.{SendEnd}
 use Rattle.pals_node.specs.declared.job.Finished.{Finished}
 use Rattle.pals_node.specs.declared.job.Finished.TheVariants.{Used, Redone}
 use Rattle.pals_node.specs.proof.NodeValues.{NodeValue, JobValue, with_state, job_at}
-use Rattle.pals_node.specs.declared.answers.StartEnd.TheVariants as start
-use Rattle.pals_node.specs.declared.answers.StepEnd.TheVariants as step
-use Rattle.pals_node.specs.declared.answers.SendEnd.TheVariants as send
+use Rattle.pals_node.specs.declared.refusals.StartEnd.TheVariants as start
+use Rattle.pals_node.specs.declared.refusals.StepEnd.TheVariants as step
+use Rattle.pals_node.specs.declared.refusals.SendEnd.TheVariants as send
 
 -- a reading is given, and below the alarm
 abbrev pub is_early : Option ℕ → ℕ → Bool

@@ -6,11 +6,11 @@ use Rattle.step_code.specs.declared.instr.CodeParts.{CodeParts}
 use Rattle.bus_machine.specs.contracts.plan.Plan.{the_row as plans}
 use Rattle.bus_machine.specs.declared.plan.Plan.{Plan}
 use Rattle.pals_base.specs.contracts.frames.Frame.{the_row as frames}
-use Rattle.pals_base.specs.contracts.values.PortValue.{the_row as ports}
+use Rattle.pals_base.specs.contracts.basic_types.PortValue.{the_row as ports}
 use Rattle.pals_model.specs.contracts.part.Part.{the_row as parts}
 use Rattle.pals_runs.specs.contracts.phase.Phase.{the_row as phases}
 use Rattle.pals_base.specs.declared.frames.Frame.{Frame}
-use Rattle.pals_base.specs.declared.values.PortValue.{PortValue}
+use Rattle.pals_base.specs.declared.basic_types.PortValue.{PortValue}
 use Rattle.pals_model.specs.declared.part.Part.{Part}
 use Rattle.pals_runs.specs.declared.phase.Phase.{Phase}
 use Rattle.bus_machine.specs.Nodes.{NodeState}

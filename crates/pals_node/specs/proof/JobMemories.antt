@@ -1,6 +1,6 @@
 -- The memory of a job.
 use Rattle.std.specs.Prelude.{◌≡◌, List, length, Option, Some, None}
-use Rattle.pals_base.specs.declared.values.PortValue.{PortValue}
+use Rattle.pals_base.specs.declared.basic_types.PortValue.{PortValue}
 use Rattle.pals_base.specs.declared.frames.Frame.{Frame}
 use Rattle.step_code.specs.declared.instr.CodeParts.{CodeParts}
 use Rattle.step_vm.specs.proof.RoomCapacity.{IsRoomOf}

@@ -1,6 +1,6 @@
 -- What contracts see of plans, jobs and nodes.
 use Rattle.std.specs.Prelude.{◌≡◌, ℕ, List}
-use Rattle.pals_base.specs.declared.values.PortValue.{PortValue}
+use Rattle.pals_base.specs.declared.basic_types.PortValue.{PortValue}
 use Rattle.pals_base.specs.declared.frames.Frame.{Frame}
 use Rattle.pals_base.specs.SingleStep.{Fired}
 use Rattle.pals_model.specs.declared.design.DesignParts.{DesignParts}

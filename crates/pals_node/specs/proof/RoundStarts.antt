@@ -1,13 +1,13 @@
 -- The start of a round: what it reserves, and what the node then is.
 use Rattle.std.specs.Prelude.{◌≡◌, ℕ, ◌+◌, false, List, [], Option, Some, None, length, map, replicate, slice_index_or}
-use Rattle.pals_base.specs.declared.values.PortValue.{PortValue}
+use Rattle.pals_base.specs.declared.basic_types.PortValue.{PortValue}
 use Rattle.bus_machine.specs.Nodes.{vectors_of}
 use Rattle.pals_base.specs.declared.frames.Frame.{Frame}
 use Rattle.pals_runs.specs.declared.phase.Phase.TheVariants.{Running}
 use Rattle.pals_node.specs.declared.node_fields.NodeFields.{NodeFields}
 use Rattle.pals_node.specs.declared.node_fields.RoundRoom.{RoundRoom}
 use Rattle.pals_node.specs.proof.NodeValues.{Program, JobValue, job_value}
-use Rattle.pals_base.specs.declared.values.PortValue.TheVariants.{Absent}
+use Rattle.pals_base.specs.declared.basic_types.PortValue.TheVariants.{Absent}
 use Rattle.pals_base.specs.SingleStep.{initial}
 use Rattle.pals_model.specs.declared.part.Part.{Part}
 use Rattle.bus_machine.specs.declared.plan.Plan.{Plan}

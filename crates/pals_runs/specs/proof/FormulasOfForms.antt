@@ -1,4 +1,4 @@
--- The plain tree that a formula of the source stands for.
+-- The formula, as a plain tree, that a form stands for.
 use Rattle.pals_runs.specs.declared.forms.Form.{Form, Var as source_var, Halted as source_halted, Not', And', Or'}
 use Rattle.pals_runs.specs.declared.forms.Form.{Previous', Once', Historically', Since'}
 use Rattle.pals_runs.specs.Formula.{Formula, Var, Halted, Not, And, Or, Previous, Once, Historically, Since}

@@ -14,7 +14,6 @@ status_at end.All = DONE
 status_at (end.Stopped why) = STOPPED
 status_at (end.Refused index fault) = SCENARIO_REFUSED
 
-
 abbrev pub text_at : LooseEnd → BusValue → List ℕ → List ℕ
 text_at end.All after sent = text_of (finished_lines after) ++ sent
 text_at (end.Stopped why) after sent =

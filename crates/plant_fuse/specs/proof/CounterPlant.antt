@@ -1,14 +1,14 @@
 -- The two counters, the first as the plant of the second.
 use Rattle.std.specs.Prelude.{◌≡◌, ℕ, ℤ, pos, List, [], ◌∷◌, map, take}
-use Rattle.pals_base.specs.declared.values.PortValue.{PortValue}
-use Rattle.pals_base.specs.declared.values.PortValue.TheVariants.{Absent, Present}
+use Rattle.pals_base.specs.declared.basic_types.PortValue.{PortValue}
+use Rattle.pals_base.specs.declared.basic_types.PortValue.TheVariants.{Absent, Present}
 use Rattle.pals_base.specs.declared.frames.Frame.{Frame}
 use Rattle.pals_model.specs.Composition.{Configuration}
 use Rattle.pals_model.specs.proof.TwoCounters.{two_counters}
 use Rattle.pals_model.specs.ComponentInputs.{no_env}
 use Rattle.pals_runs.specs.declared.plant_pairs.Pair.{Pair}
 use Rattle.plant_fuse.specs.FusedComposition.{ArePairs, Inputs, IsFused}
-use Rattle.plant_fuse.specs.proof.FusedRounds.{fused}
+use Rattle.plant_fuse.specs.proof.SolutionConfiguration.{fused}
 
 abbrev pub one_pair : List Pair
 one_pair = record { plant = record { 0 = 0 }; controller = record { 0 = 1 } } ∷ []

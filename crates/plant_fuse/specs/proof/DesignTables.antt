@@ -1,10 +1,10 @@
--- What is found once for a design and its pairs.
+-- What the tables of a design and its pairs hold: the pairs, the partner of each component, and the wiring.
 use Rattle.std.specs.Prelude.{◌≡◌, List}
 use Rattle.pals_model.specs.declared.design.DesignParts.{DesignParts}
 use Rattle.pals_runs.specs.declared.plant_pairs.Pair.{Pair}
 use Rattle.sync_product.specs.proof.ComponentWiring.{IsWiring}
 use Rattle.plant_fuse.specs.declared.design_tables.Tables.{Tables}
-use Rattle.plant_fuse.specs.proof.Partners.{all_partners}
+use Rattle.plant_fuse.specs.proof.PartnersAndPairLinks.{all_partners}
 
 pub record AreTables (design : DesignParts) (pairs : List Pair) (tables : Tables) : Type 0 where
   pub pairs_are : tables.pairs ≡ pairs

@@ -1,7 +1,8 @@
--- Laws of fused composition.
+-- The claims on fused composition: its equations have exactly one solution, which is made round by round, and it has
+-- one report.
 use Rattle.std.specs.Prelude.{◌≡◌, ℕ, suc, ◌*◌, ◌<◌, [], List, Some, slice_get, slice_index_or}
-use Rattle.pals_base.specs.declared.values.PortValue.{PortValue}
-use Rattle.pals_base.specs.declared.values.PortValue.TheVariants.{Absent}
+use Rattle.pals_base.specs.declared.basic_types.PortValue.{PortValue}
+use Rattle.pals_base.specs.declared.basic_types.PortValue.TheVariants.{Absent}
 use Rattle.pals_model.specs.declared.design.Component.{Component}
 use Rattle.pals_model.specs.declared.design.DesignParts.{DesignParts}
 use Rattle.pals_model.specs.declared.environment.Env.{Env}
@@ -12,7 +13,7 @@ use Rattle.plant_fuse.specs.proof.RoundEquations.{IsFusedRound, after_round, las
 use Rattle.pals_runs.specs.declared.plant_pairs.Pair.{Pair}
 use Rattle.pals_model.specs.RoundTexts.{report}
 use Rattle.plant_fuse.specs.FusedComposition.{ArePairs, Inputs, left_by, frame_before, IsFused}
-use Rattle.plant_fuse.specs.proof.FusedRounds.{made_at, first_rounds, fused}
+use Rattle.plant_fuse.specs.proof.SolutionConfiguration.{made_at, first_rounds, fused}
 use Rattle.plant_fuse.specs.proof.FuseState.{FuseState, AreStates}
 use Rattle.plant_fuse.specs.FusedReport.{fused_parts, IsFusedReport}
 

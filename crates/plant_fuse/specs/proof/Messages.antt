@@ -1,11 +1,11 @@
--- What the components send to one another.
+-- The message of each link after a round: whole inside a pair, and else cut to the steps that are sent.
 use Rattle.std.specs.Prelude.{ℕ, Bool, if◌then◌else◌, List, [], length, Option, Some, None, slice_get}
-use Rattle.pals_base.specs.declared.values.PortValue.{PortValue}
+use Rattle.pals_base.specs.declared.basic_types.PortValue.{PortValue}
 use Rattle.pals_base.specs.Tuples.{column, cut}
 use Rattle.pals_model.specs.declared.design.Link.{Link}
 use Rattle.pals_runs.specs.declared.plant_pairs.Pair.{Pair}
 use Rattle.sync_product.specs.declared.component_stage.Stage.{Stage}
-use Rattle.plant_fuse.specs.proof.Partners.{partner_of, is_inside}
+use Rattle.plant_fuse.specs.proof.PartnersAndPairLinks.{partner_of, is_inside}
 
 -- how many places of a tuple are sent: all of them inside a pair
 abbrev pub sent_count : Bool → Stage → ℕ

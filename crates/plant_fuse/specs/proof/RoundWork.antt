@@ -1,6 +1,6 @@
 -- The work of all components within one round, in pairs or alone, and what it leaves.
 use Rattle.std.specs.Prelude.{◌≡◌, ◌≢◌, ℕ, List, map, Some, None, slice_get, slice_index_or}
-use Rattle.pals_base.specs.declared.values.PortValue.{PortValue}
+use Rattle.pals_base.specs.declared.basic_types.PortValue.{PortValue}
 use Rattle.pals_base.specs.declared.frames.Frame.{Frame}
 use Rattle.pals_base.specs.Tuples.{column}
 use Rattle.pals_model.specs.declared.design.Component.{Component}
@@ -14,7 +14,7 @@ use Rattle.sync_product.specs.declared.component_stage.Stage.{Stage}
 use Rattle.sync_product.specs.proof.ComponentWiring.{tap_ports, IsWired}
 use Rattle.sync_product.specs.proof.Rounds.{IsStepped, frames_of}
 use Rattle.plant_fuse.specs.declared.pair_steps.PairedComponent.{PairedComponent}
-use Rattle.plant_fuse.specs.proof.Partners.{partner_of}
+use Rattle.plant_fuse.specs.proof.PartnersAndPairLinks.{partner_of}
 use Rattle.plant_fuse.specs.proof.PairSteps.{PairMember, Work, AreMade}
 
 -- ---- a component, and its seat in a pair

@@ -3,7 +3,7 @@ use Rattle.std.specs.Prelude.{◌≡◌, ◌↔◌, ℕ, ◌+◌, ◌*◌, ◌<�
 use Rattle.std.specs.List.{Contains}
 use Rattle.std.specs.List.Sorted.{IsStrictlyIncreasing}
 use Rattle.pals_base.specs.declared.behaviour.BehaviourParts.{BehaviourParts}
-use Rattle.pals_base.specs.PeriodBound.{alarm}
+use Rattle.pals_base.specs.PeriodBoundAndReleases.{alarm}
 use Rattle.pals_base.specs.UpwardNumbers.{upwards}
 use Rattle.step_code.specs.declared.instr.CodeParts.{CodeParts}
 use Rattle.pals_model.specs.declared.design.DesignParts.{DesignParts}
@@ -12,8 +12,8 @@ use Rattle.pals_model.specs.DesignRules.{IsDesign}
 use Rattle.step_compiler.specs.LaidOutCode.{AreLaidOut}
 use Rattle.round_budget.specs.BudgetText.{Processor, some_is_over, budget_text}
 use Rattle.round_budget.specs.Budgets.{Release, Served, releases, precedes, budget, by_most, total, timetable}
-use Rattle.round_budget.specs.Responses.{response, AreAtMost, by_exec}
-use Rattle.round_budget.specs.proof.RoundTimetableLine.{line_in_round}
+use Rattle.round_budget.specs.ResponseTimes.{response, AreAtMost, by_exec}
+use Rattle.round_budget.specs.proof.LinesFromOwnAlarm.{line_in_round}
 
 -- the members of a processor: components of the design, rising
 pub record AreMembers (design : DesignParts) (members : List ℕ) : Type 0 where

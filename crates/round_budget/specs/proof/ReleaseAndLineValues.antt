@@ -1,9 +1,9 @@
--- The releases and timetable lines of the code as values of the definitions, and which releases it can serve.
+-- The releases and timetable lines of the code as values of the definitions.
 use Rattle.std.specs.Prelude.{◌≡◌, ℕ, ◌*◌, List, map}
 use Rattle.step_code.specs.declared.instr.CodeParts.{CodeParts}
 use Rattle.round_budget.specs.Budgets.{serve, by_most, line_from}
 use Rattle.round_budget.specs.declared.releases.Release.{Release}
-use Rattle.round_budget.specs.declared.serving.TimetableLine.{TimetableLine}
+use Rattle.round_budget.specs.declared.served_steps.TimetableLine.{TimetableLine}
 use Rattle.round_budget.specs.Budgets as budgets
 
 -- a release of the first round

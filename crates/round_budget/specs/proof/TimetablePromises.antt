@@ -1,10 +1,10 @@
--- What a timetable promises.
+-- The claims that a timetable is that of each round, and why there is none.
 use Rattle.std.specs.Prelude.{◌≡◌, ℕ, true, false, List, map, flat_map}
 use Rattle.pals_base.specs.UpwardNumbers.{upwards}
 use Rattle.step_code.specs.declared.instr.CodeParts.{CodeParts}
 use Rattle.pals_model.specs.declared.design.DesignParts.{DesignParts}
 use Rattle.round_budget.specs.Budgets.{budget, by_most, total, fits, timetable}
-use Rattle.round_budget.specs.proof.RoundTimetableLine.{line_in_round}
+use Rattle.round_budget.specs.proof.LinesFromOwnAlarm.{line_in_round}
 use Rattle.round_budget.specs.declared.timetables.BudgetEnd.{BudgetEnd}
 use Rattle.round_budget.specs.declared.timetables.BudgetEnd.TheVariants.{Over, Memory}
 

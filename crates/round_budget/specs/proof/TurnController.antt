@@ -1,8 +1,8 @@
 -- A turn controller: a main component moves a left, a right and a tail surface, which step once, twice and
 -- four times a round.
 use Rattle.std.specs.Prelude.{ℕ, pos, true, false, codes, List, [], ◌∷◌, Option, Some, None}
-use Rattle.pals_base.specs.declared.values.NodeNo.{NodeNo}
-use Rattle.pals_base.specs.declared.period_bound.Gamma.{Gamma}
+use Rattle.pals_base.specs.declared.basic_types.NodeNo.{NodeNo}
+use Rattle.pals_base.specs.declared.period_bound_and_releases.Gamma.{Gamma}
 use Rattle.pals_base.specs.declared.allowed_adaptors.Adaptor.{Adaptor}
 use Rattle.pals_base.specs.declared.allowed_adaptors.Adaptor.TheVariants.{Repeat, Last, Average}
 use Rattle.pals_base.specs.declared.behaviour.Kind.TheVariants.{Integer}
@@ -12,8 +12,8 @@ use Rattle.pals_base.specs.declared.behaviour.PortDecl.{PortDecl}
 use Rattle.pals_base.specs.declared.behaviour.VarDecl.{VarDecl}
 use Rattle.pals_base.specs.declared.behaviour.StateDecl.{StateDecl}
 use Rattle.pals_base.specs.declared.behaviour.BehaviourParts.{BehaviourParts}
-use Rattle.pals_base.specs.PlainTrees.{Expression, Literal, Variable, PortRead, Chain, NoMore, Then, Assign, Emit}
-use Rattle.pals_base.specs.PlainTrees.{Actions, Nothing, Do, Dispatch, Always, When, Trigger, Edge}
+use Rattle.pals_base.specs.ExpressionAndActionTrees.{Expression, Literal, Variable, PortRead, Chain, NoMore, Then, Assign, Emit}
+use Rattle.pals_base.specs.ExpressionAndActionTrees.{Actions, Nothing, Do, Dispatch, Always, When, Trigger, Edge}
 use Rattle.pals_model.specs.declared.design.Component.{Component}
 use Rattle.pals_model.specs.declared.design.Link.{Link}
 use Rattle.pals_model.specs.declared.design.DesignParts.{DesignParts}

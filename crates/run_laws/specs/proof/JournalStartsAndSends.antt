@@ -1,6 +1,6 @@
 -- That the journal shows the rounds that a node has started and sent.
 use Rattle.std.specs.Prelude.{◌≡◌, ℕ, length}
-use Rattle.bus_machine.specs.States.{node_at}
+use Rattle.bus_machine.specs.BusStates.{node_at}
 use Rattle.bus_machine.specs.Nodes.{sent_rounds}
 use Rattle.run_laws.specs.JournalReadings.{starts, sends}
 use Rattle.run_laws.specs.proof.RunQuantifiers.{InRuns}

@@ -5,7 +5,7 @@ use Rattle.pals_clock.specs.ClockStates.{ClockState, left_after}
 use Rattle.bus_machine.specs.declared.plan.Plan.{Plan}
 use Rattle.bus_machine.specs.Plans.{plan_of}
 use Rattle.bus_machine.specs.Nodes.{NodeState}
-use Rattle.bus_machine.specs.States.{node_at}
+use Rattle.bus_machine.specs.BusStates.{node_at}
 use Rattle.bus_machine.specs.ActionsAndTargets.{targets}
 use Rattle.run_laws.specs.JournalReadings.{acts}
 use Rattle.run_laws.specs.NodeActions.{Follows}

@@ -1,4 +1,4 @@
--- The law that each run keeps the clauses.
+-- The law that each run keeps the clauses of KeepsClauses.
 use Rattle.run_laws.specs.proof.RunQuantifiers.{InRuns}
 use Rattle.run_laws.specs.RunGuarantees.{KeepsClauses}
 

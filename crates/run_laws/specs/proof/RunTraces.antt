@@ -1,12 +1,12 @@
--- What the verdict says of the trace of a run: the report of the rounds that all nodes have finished, and then the
--- journal.
+-- Runs of nodes that keep to their clocks are histories, and their traces are sound: what the verdict says of the
+-- trace of a run.
 use Rattle.std.specs.Prelude.{◌≡◌, ℕ, ◌≤◌, All}
 use Rattle.pals_base.specs.declared.limits.TheConstants.{ROUNDS, READING}
 use Rattle.pals_clock.specs.declared.clock.Clocks.{Clocks}
 use Rattle.pals_clock.specs.declared.clock.Clocks.TheVariants.{Meet, Lists}
 use Rattle.pals_model.specs.RoundTexts.{text_of}
 use Rattle.pals_runs.specs.declared.verdicts.Verdict.TheVariants.{Sound}
-use Rattle.bus_machine.specs.States.{finished_by_all}
+use Rattle.bus_machine.specs.BusStates.{finished_by_all}
 use Rattle.run_laws.specs.TextLines.{lines_of}
 use Rattle.run_laws.specs.TraceVerdicts.{verdict}
 use Rattle.run_laws.specs.proof.RunQuantifiers.{InRuns}
@@ -31,7 +31,6 @@ TracesAreTexts = InRuns (λ run clocks journal s. run.rounds ≤ ROUNDS → AreR
 -- what nodes do that keep to their clocks is a history
 abbrev pub RunsAreHistories : Type 0
 RunsAreHistories = InRuns (λ run clocks journal s. History run journal s)
-
 
 -- the trace of each run of nodes that keep to their clocks is one, where the run is over
 abbrev pub RunsAreTraces : Type 0

@@ -8,7 +8,7 @@ use Rattle.pals_model.specs.Delays.{delay_of}
 use Rattle.pals_runs.specs.declared.journal.JournalEntry.{JournalEntry}
 use Rattle.bus_machine.specs.proof.AgreementLaws.{IsRunOf}
 use Rattle.bus_machine.specs.Plans.{plan_of, link_at}
-use Rattle.bus_machine.specs.States.{BusState}
+use Rattle.bus_machine.specs.BusStates.{BusState}
 use Rattle.bus_machine.specs.Runs.{Run}
 use Rattle.bus_machine.specs.ActionsAndTargets.{target}
 use Rattle.run_laws.specs.proof.RunQuantifiers.{InRuns}

@@ -3,9 +3,9 @@
 use Rattle.std.specs.Prelude.{◌≡◌, ℕ, suc, ◌+◌, ◌-◌, ◌*◌, ◌<◌, ◌≤◌, max, nat_eq, nat_lt, ◌&&◌, Bool, true, false, cond}
 use Rattle.std.specs.Prelude.{List, length, Option, Some, None, is_some, slice_index_or}
 use Rattle.std.specs.List.{count_by}
-use Rattle.pals_base.specs.declared.period_bound.Gamma.{Gamma}
-use Rattle.pals_base.specs.declared.values.PortValue.{PortValue}
-use Rattle.pals_base.specs.PeriodBound.{backoff, alarm}
+use Rattle.pals_base.specs.declared.period_bound_and_releases.Gamma.{Gamma}
+use Rattle.pals_base.specs.declared.basic_types.PortValue.{PortValue}
+use Rattle.pals_base.specs.PeriodBoundAndReleases.{backoff, alarm}
 use Rattle.pals_model.specs.declared.flight_copy.FlightCopy.{FlightCopy}
 use Rattle.pals_model.specs.Flights.{is_of}
 use Rattle.pals_runs.specs.declared.phase.Phase.TheVariants.{Running}
@@ -15,10 +15,10 @@ use Rattle.bus_machine.specs.Plans.{plan_of, link_at}
 use Rattle.bus_machine.specs.Nodes.{NodeState, round_of, finished_steps, sent_rounds}
 use Rattle.bus_machine.specs.NodeEvents.{may_send, slot_at}
 use Rattle.bus_machine.specs.LinkEvents.{is_in_flight}
-use Rattle.bus_machine.specs.EarliestReadings.{step_alarm}
-use Rattle.bus_machine.specs.States.{node_at, flight_at}
+use Rattle.bus_machine.specs.AlarmsAndReleases.{step_alarm}
+use Rattle.bus_machine.specs.BusStates.{node_at, flight_at}
 use Rattle.bus_machine.specs.Runs.{Run}
-use Rattle.bus_machine.specs.MissedStarts.{rounds_sent_on}
+use Rattle.bus_machine.specs.MissedMessages.{rounds_sent_on}
 use Rattle.bus_machine.specs.Agreement.{Agrees}
 use Rattle.run_laws.specs.Worlds.{World, reading_at, since_at, ready_at, sendings}
 use Rattle.run_laws.specs.Deadlines.{node_deadline, message_deadline}

@@ -1,4 +1,5 @@
--- What the last line of watched properties names.
+-- The claim that the last line names the least round at which a property is false and the first that is false there,
+-- or that all hold.
 use Rattle.std.specs.Prelude.{◌≡◌, ℕ, ◌<◌, true, false, List, Some, None, slice_get}
 use Rattle.pals_model.specs.declared.design.DesignParts.{DesignParts}
 use Rattle.pals_model.specs.declared.environment.Env.{Env}

@@ -1,7 +1,7 @@
 -- Forms in an order in which parts stand before wholes.
 use Rattle.std.specs.Prelude.{◌≡◌, ℕ, ◌+◌, ◌<◌, ◌≤◌, true, List, [], ◌∷◌, ◌++◌, length, Some, slice_get, slice_index_or}
 use Rattle.pals_runs.specs.Formula.{Formula, Var, Halted, Not, And, Or, Previous, Once, Historically, Since}
-use Rattle.pals_runs.specs.proof.FormulaComponents.{reads, names}
+use Rattle.pals_runs.specs.proof.ComponentsInFormulas.{reads, names}
 use Rattle.run_monitor.specs.declared.flat_form.FlatForm.{FlatForm}
 use Rattle.run_monitor.specs.declared.flat_form.FlatForm.TheVariants as flat
 

@@ -1,4 +1,4 @@
--- The bits of forms.
+-- The bit of each form: what it says of the frames of a round, and of a further round from the bits that were kept.
 use Rattle.std.specs.Prelude.{◌≡◌, ℕ, nat_eq, Bool, false, not, ◌&&◌, ◌||◌, is_some, if◌then◌else◌, List, map, Some}
 use Rattle.std.specs.Prelude.{slice_get, slice_index_or}
 use Rattle.pals_base.specs.declared.frames.Frame.{Frame}

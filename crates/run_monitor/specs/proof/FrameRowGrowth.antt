@@ -12,18 +12,15 @@ use Rattle.run_monitor.specs.WatchText.{watched_lines, watched_rows}
 abbrev pub HistoryHasRounds : Type 0
 HistoryHasRounds = (design : DesignParts) (env : Env) (rounds : ℕ) → length (frame_rows design env rounds) ≡ rounds
 
-
 -- each round adds its frames
 abbrev pub HistoryGoesOn : Type 0
 HistoryGoesOn = (design : DesignParts) (env : Env) (rounds : ℕ) →
     frame_rows design env (suc rounds) ≡ frame_rows design env rounds ++ (comp design env (suc rounds)).frames ∷ []
 
-
 -- what is said of a round is what was said when it was the last one
 abbrev pub SaidAtOnce : Type 0
 SaidAtOnce = (f : Formula) (design : DesignParts) (env : Env) (round rounds : ℕ) → round < rounds →
     holds f (frame_rows design env rounds) round ≡ holds f (frame_rows design env (suc round)) round
-
 
 -- so each round adds its lines
 abbrev pub RowsGoOn : Type 0

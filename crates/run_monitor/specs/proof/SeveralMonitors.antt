@@ -10,7 +10,7 @@ use Rattle.run_monitor.specs.declared.false_property.FalseProperty.{FalsePropert
 use Rattle.run_monitor.specs.contracts.false_property.FalseProperty.{the_row as violations}
 use Rattle.run_monitor.specs.FalseProperties.{formula_values, first_false}
 use Rattle.run_monitor.specs.FormulaSemantics.{frame_rows}
-use Rattle.run_monitor.specs.proof.MonitorState.{MonitorState, state_code, whole, said, StandsFor, GoesOn}
+use Rattle.run_monitor.specs.proof.MonitorStates.{MonitorState, state_code, whole, said, StandsFor, GoesOn}
 
 pub record MonitorsState : Type 0 where
   pub monitors : List MonitorState

@@ -1,7 +1,6 @@
--- How the nodes of a run ended: the first one whose clock ended, and the report that private functions make of it.
--- The theorem cites none of it.
+-- How the nodes of a run ended: the first one whose clock ended. The theorem cites none of it.
 use Rattle.std.specs.Prelude.{◌≡◌, ◌⊎◌, ℕ, ◌<◌, List, Option, Some, None, slice_get}
-use Rattle.pals_base.specs.declared.values.NodeNo.{NodeNo}
+use Rattle.pals_base.specs.declared.basic_types.NodeNo.{NodeNo}
 use Rattle.node_threads.specs.declared.node_end.NodeEnd.{NodeEnd}
 use Rattle.node_threads.specs.declared.node_end.NodeEnd.TheVariants.{Finished, ClockEnded}
 

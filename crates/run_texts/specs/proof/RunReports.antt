@@ -1,6 +1,6 @@
 -- The report of a run: its journal, and how its nodes ended.
 use Rattle.std.specs.Prelude.{◌≡◌, ◌≢◌, ℕ, Bool, if◌then◌else◌, List, [], ◌++◌, length, map, Some, None}
-use Rattle.pals_base.specs.declared.values.NodeNo.{NodeNo}
+use Rattle.pals_base.specs.declared.basic_types.NodeNo.{NodeNo}
 use Rattle.pals_model.specs.RoundTexts.{line_end, text_of}
 use Rattle.pals_report.specs.ClockEndsAndVerdicts.{clock_end_line}
 use Rattle.pals_runs.specs.JournalLines.{entry_line}
@@ -13,7 +13,6 @@ use Rattle.run_texts.specs.proof.NodeEnds.{AreFirst}
 
 abbrev pub journal_lines : BusValue → List ℕ
 journal_lines b = text_of (map (entry_line b.run.design) b.journal)
-
 
 abbrev pub TellsEnd : BusValue → List NodeEnd → Bool → RunReport → Type 0
 TellsEnd b ends trace (told.Completed text) =

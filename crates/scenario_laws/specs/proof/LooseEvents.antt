@@ -13,12 +13,10 @@ use Rattle.loose_world.specs.LooseRuns.{IsLooseIn}
 abbrev pub loose_world_command : List ℕ → Command
 loose_world_command root = World root true
 
-
 -- events of a loose world of a design, and no more than a list may have
 pub record AreLooseEvents (design : DesignParts) (events : List Event) : Type 0 where
   pub each : All (IsLooseIn design) events
   pub few : length events ≤ LIST_ITEMS
-
 
 abbrev pub EventsAreLoose : Type 0
 EventsAreLoose =

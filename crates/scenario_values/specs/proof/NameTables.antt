@@ -6,7 +6,7 @@ use Rattle.std.specs.declared.alloc.Global.{Global}
 use Rattle.std.specs.BTreeMap.{BTreeMap, get_by_text}
 use Rattle.pals_model.specs.declared.design.DesignParts.{DesignParts}
 use Rattle.pals_model.specs.ComponentInputs.{feed_names, root_inputs}
-use Rattle.pals_model.specs.NamesInTexts.{node_named, link_named}
+use Rattle.pals_model.specs.ComponentAndLinkNames.{node_named, link_named}
 use Rattle.pals_model.specs.DesignRules.{IsDesign}
 
 -- a table gives for each name its first number in a list of names that are numbered from a number on

@@ -1,4 +1,5 @@
--- What holds of jumps and loops at a place where rules 1, 4 and 6 of the verifier find nothing.
+-- Definitions for proofs: what holds of a jump, a loop, a store or any other instruction at a place where the
+-- verifier's rules BadJump, BackJump and BadSlot find nothing.
 use Rattle.std.specs.Prelude.{◌≡◌, ℕ, ◌+◌, ◌<◌, ◌≤◌, true, List, length, Some, slice_get}
 use Rattle.step_code.specs.declared.instr.Instr.{Instr}
 use Rattle.step_code.specs.declared.instr.Instr.TheVariants.{Store, Jump, JumpZero, LoopStart, LoopNext, End}

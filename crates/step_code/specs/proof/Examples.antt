@@ -1,4 +1,4 @@
--- Examples of step code with loops.
+-- Three examples of step code: a counter, a surface that moves towards its input, and a loop in a loop.
 use Rattle.std.specs.Prelude.{pos, [], ◌∷◌, Some, None}
 use Rattle.pals_base.specs.declared.frames.Frame.{Frame}
 use Rattle.step_code.specs.declared.instr.Instr.TheVariants.{Push, Load, Store, Port, Add, Sub, Lt, Gt, Jump, JumpZero}

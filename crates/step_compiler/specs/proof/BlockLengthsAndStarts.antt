@@ -1,9 +1,10 @@
--- The lengths and starts of blocks in the order in which they are compiled, stopped at the greatest number.
+-- The lengths of blocks, and where each starts, in the order in which they are compiled.
 use Rattle.std.specs.Prelude.{ℕ, ◌+◌, nat_eq, if◌then◌else◌, List, [], ◌∷◌, filter, slice_index_or}
 use Rattle.pals_base.specs.declared.behaviour.BehaviourParts.{BehaviourParts}
-use Rattle.pals_base.specs.PlainTrees.{Edge}
+use Rattle.pals_base.specs.ExpressionAndActionTrees.{Edge}
 use Rattle.step_code.specs.CappedWeights.{capped}
 use Rattle.step_compiler.specs.BlockInstructions.{block_length}
+
 abbrev pub order_length : BehaviourParts → List ℕ → ℕ
 order_length b [] = 0
 order_length b (s ∷ order) = block_length b s + order_length b order

@@ -3,7 +3,7 @@ use Rattle.std.specs.Prelude.{â„•, zero, suc, nat_eq, Bool, true, false, not, â—
 use Rattle.std.specs.Prelude.{length, map, find, fold, replicate, slice_index_or, slice_set, Option, Some, None}
 use Rattle.std.specs.List.{list_any}
 use Rattle.pals_base.specs.declared.behaviour.BehaviourParts.{BehaviourParts}
-use Rattle.pals_base.specs.PlainTrees.{Edge}
+use Rattle.pals_base.specs.ExpressionAndActionTrees.{Edge}
 use Rattle.pals_base.specs.UpwardNumbers.{upwards}
 use Rattle.step_compiler.specs.LaidOutCode.{states_of, complete_states}
 

@@ -1,8 +1,8 @@
 -- What the machine answers and leaves, against what the definitions say.
 use Rattle.std.specs.Prelude.{◌≡◌, ℕ, ℤ, List, [], ◌∷◌, Some, length, take, replicate, ◌+◌, Result}
 use Rattle.pals_base.specs.declared.frames.Frame.{Frame}
-use Rattle.pals_base.specs.declared.values.PortValue.{PortValue}
-use Rattle.pals_base.specs.declared.values.PortValue.TheVariants.{Absent}
+use Rattle.pals_base.specs.declared.basic_types.PortValue.{PortValue}
+use Rattle.pals_base.specs.declared.basic_types.PortValue.TheVariants.{Absent}
 use Rattle.step_code.specs.InstructionEffects.{Next, Goes, Ends, Traps, step, on_result, on_two}
 use Rattle.step_vm.specs.declared.instruction_effects.Continuation.{Continuation}
 use Rattle.step_vm.specs.declared.steps.RunResult.{RunResult}
@@ -11,7 +11,7 @@ use Rattle.step_code.specs.InstructionsPerStep.{step_inputs}
 use Rattle.step_code.specs.declared.instr.Instr.{Instr}
 use Rattle.step_code.specs.declared.instr.CodeParts.{CodeParts}
 use Rattle.step_code.specs.PathWeights.{weight_of}
-use Rattle.pals_base.specs.declared.values.Trap.{Trap}
+use Rattle.pals_base.specs.declared.basic_types.Trap.{Trap}
 use Rattle.pals_base.specs.declared.behaviour.Op.{Op}
 use Rattle.step_vm.specs.declared.instruction_effects.CodeInputs.{CodeInputs}
 use Rattle.step_vm.specs.declared.instruction_effects.Continuation.TheVariants as onward

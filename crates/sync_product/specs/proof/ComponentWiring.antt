@@ -1,4 +1,4 @@
--- How the components of a design are wired.
+-- How the components of a design are wired, and the out ports of components that root out ports show.
 use Rattle.std.specs.Prelude.{◌≡◌, ℕ, Some, slice_get, nat_eq, List, map, filter}
 use Rattle.pals_model.specs.declared.design.DesignParts.{DesignParts}
 use Rattle.pals_model.specs.ComponentInputs.{sources_of, all_sources}
@@ -21,7 +21,6 @@ pub record IsWiring (design : DesignParts) (wiring : Wiring) : Type 0 where
 -- the out ports of a component that root out ports show, in their order
 abbrev pub tap_ports : List Tap → ℕ → List ℕ
 tap_ports taps node = map (λ (tap : Tap). tap.out_port) (filter (λ (tap : Tap). nat_eq tap.source.0 node) taps)
-
 
 abbrev pub all_taps : DesignParts → List (List ℕ)
 all_taps design = map (λ numbered. tap_ports design.taps numbered.0) (enumerate_from 0 design.components)

@@ -1,6 +1,6 @@
 -- The two counters, with their numbers exchanged.
 use Rattle.std.specs.Prelude.{ℕ, ◌-◌, List, [], ◌∷◌, None, codes, reverse}
-use Rattle.pals_base.specs.declared.values.PortValue.{PortValue}
+use Rattle.pals_base.specs.declared.basic_types.PortValue.{PortValue}
 use Rattle.pals_model.specs.declared.design.Feed.{Feed}
 use Rattle.pals_model.specs.declared.design.DesignParts.{DesignParts}
 use Rattle.pals_model.specs.declared.environment.Env.{Env}

@@ -1,6 +1,6 @@
 -- What holds of each product between rounds: the sizes of its parts and messages, its wiring, and its stages.
 use Rattle.std.specs.Prelude.{◌≡◌, List, length, map}
-use Rattle.pals_base.specs.declared.values.PortValue.{PortValue}
+use Rattle.pals_base.specs.declared.basic_types.PortValue.{PortValue}
 use Rattle.pals_model.specs.declared.design.DesignParts.{DesignParts}
 use Rattle.pals_model.specs.declared.part.Part.{Part}
 use Rattle.sync_product.specs.declared.component_stage.Stage.{Stage}

@@ -1,9 +1,9 @@
 -- The sizes of a product's frames, tuples and stages, which stay the same from round to round.
 use Rattle.std.specs.Prelude.{ℕ, List, length, map, replicate}
 use Rattle.std.specs.List.{enumerate_from}
-use Rattle.pals_base.specs.declared.values.PortValue.{PortValue}
+use Rattle.pals_base.specs.declared.basic_types.PortValue.{PortValue}
 use Rattle.pals_base.specs.declared.frames.Frame.{Frame}
-use Rattle.pals_base.specs.PeriodBound.{sent_steps}
+use Rattle.pals_base.specs.PeriodBoundAndReleases.{sent_steps}
 use Rattle.pals_model.specs.declared.design.Component.{Component}
 use Rattle.pals_model.specs.declared.design.Link.{Link}
 use Rattle.pals_model.specs.declared.design.DesignParts.{DesignParts}
@@ -11,6 +11,7 @@ use Rattle.pals_model.specs.declared.part.Part.{Part}
 use Rattle.pals_model.specs.PortKinds.{rate_of}
 use Rattle.sync_product.specs.declared.component_stage.Stage.{Stage}
 use Rattle.sync_product.specs.proof.ComponentWiring.{tap_ports}
+
 -- ---- frames: their variables and held inputs
 pub record FrameSize : Type 0 where
   pub vars : ℕ

@@ -3,12 +3,12 @@ use Rattle.std.specs.Prelude.{ℕ, zero, suc, List, map, length, replicate, refl
 use Rattle.std.specs.List.{enumerate_from}
 use Rattle.std.specs.Coded.{Coded, code_by, coded×, coded_list}
 use Rattle.pals_base.specs.contracts.frames.Frame.{the_row as frames}
-use Rattle.pals_base.specs.contracts.values.PortValue.{the_row as ports}
+use Rattle.pals_base.specs.contracts.basic_types.PortValue.{the_row as ports}
 use Rattle.pals_model.specs.contracts.design.DesignParts.{the_row as design_parts}
 use Rattle.pals_model.specs.contracts.part.Part.{the_row as parts}
 use Rattle.pals_base.specs.declared.frames.Frame.{Frame}
-use Rattle.pals_base.specs.declared.values.PortValue.{PortValue}
-use Rattle.pals_base.specs.declared.values.PortValue.TheVariants.{Absent}
+use Rattle.pals_base.specs.declared.basic_types.PortValue.{PortValue}
+use Rattle.pals_base.specs.declared.basic_types.PortValue.TheVariants.{Absent}
 use Rattle.pals_base.specs.SingleStep.{initial}
 use Rattle.pals_base.specs.StepSequences.{Stepped}
 use Rattle.pals_base.specs.UpwardNumbers.{upwards}

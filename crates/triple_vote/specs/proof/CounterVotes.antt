@@ -1,14 +1,14 @@
 -- The two counters over three rounds, the first of them three times, with one replica at fault, and with two.
 use Rattle.std.specs.Prelude.{◌≡◌, ℕ, zero, suc, ℤ, pos, true, false, List, [], ◌∷◌, ◌++◌, codes, map, flat_map}
 use Rattle.std.specs.Prelude.{slice_index_or}
-use Rattle.pals_base.specs.declared.values.PortValue.TheVariants.{Present}
+use Rattle.pals_base.specs.declared.basic_types.PortValue.TheVariants.{Present}
 use Rattle.pals_base.specs.declared.frames.Frame.{Frame}
 use Rattle.pals_base.specs.UpwardNumbers.{upwards}
 use Rattle.pals_model.specs.proof.TwoCounters.{two_counters}
 use Rattle.pals_model.specs.ComponentInputs.{no_env}
 use Rattle.pals_runs.specs.declared.vote_faults.VoteFault.{VoteFault}
 use Rattle.pals_model.specs.RoundTexts.{line_end}
-use Rattle.triple_vote.specs.Replicas.{VotedConfiguration, voted_composition}
+use Rattle.triple_vote.specs.VotedComposition.{VotedConfiguration, voted_composition}
 use Rattle.triple_vote.specs.VotedText.{voted_report}
 use Rattle.triple_vote.specs.OutvotedFaults.{AreOutvoted}
 use Rattle.triple_vote.specs.proof.VoteLaws.{AreFaults, NameOneEach}

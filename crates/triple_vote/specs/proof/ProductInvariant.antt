@@ -1,6 +1,6 @@
 -- What a product of three layers keeps: its tables, and its replicas.
 use Rattle.std.specs.Prelude.{◌≡◌, Bool, List, length, map}
-use Rattle.pals_base.specs.declared.values.PortValue.{PortValue}
+use Rattle.pals_base.specs.declared.basic_types.PortValue.{PortValue}
 use Rattle.pals_model.specs.declared.design.DesignParts.{DesignParts}
 use Rattle.pals_model.specs.declared.port_sources.PortSource.{PortSource}
 use Rattle.pals_model.specs.ComponentInputs.{all_sources}
@@ -16,7 +16,6 @@ pub record HasTables (design : DesignParts) (replicated : List Bool) (sources : 
   pub replicated_fit : length replicated ≡ length design.components
   pub sources_are : sources ≡ all_sources design
   pub stages_fit : map stage_size stages ≡ stage_sizes design
-
 
 pub record HasReplicas (design : DesignParts) (replicated : List Bool) (layers : List Layer)
     (received_messages : List (List (List PortValue))) (shown : List (List PortValue)) : Type 0 where

@@ -1,7 +1,7 @@
 -- The three layers together, which stand for all replicas, and what is voted of them.
 use Rattle.std.specs.Prelude.{◌≡◌, ℕ, suc, ◌<◌, nat_lt, Bool, true, if◌then◌else◌, List, [], length, map, All, find}
 use Rattle.std.specs.Prelude.{Some, slice_get, slice_index_or}
-use Rattle.pals_base.specs.declared.values.PortValue.{PortValue}
+use Rattle.pals_base.specs.declared.basic_types.PortValue.{PortValue}
 use Rattle.pals_base.specs.declared.frames.Frame.{Frame}
 use Rattle.pals_model.specs.declared.design.Link.{Link}
 use Rattle.pals_model.specs.declared.design.Tap.{Tap}
@@ -12,8 +12,8 @@ use Rattle.pals_runs.specs.declared.vote_faults.VoteFault.{VoteFault}
 use Rattle.sync_product.specs.proof.ProductSizes.{message_sizes}
 use Rattle.sync_product.specs.proof.Rounds.{frames_of}
 use Rattle.triple_vote.specs.declared.replica_layer.Layer.{Layer}
-use Rattle.triple_vote.specs.Replicas.{is_replicated, copies_of, VotedConfiguration, for_replicas, for_receivers, is_fault, fault_or}
-use Rattle.triple_vote.specs.Replicas.{vote_of}
+use Rattle.triple_vote.specs.VotedComposition.{is_replicated, copies_of, VotedConfiguration, for_replicas, for_receivers, is_fault, fault_or}
+use Rattle.triple_vote.specs.VotedComposition.{vote_of}
 use Rattle.triple_vote.specs.proof.ReplicaLayers.{lengths, HasRoom, has_replica, IsMade}
 
 -- ---- by the number of the replica

@@ -1,8 +1,8 @@
--- Laws of votes.
+-- The claims on votes: what two agree on wins, and where no two replicas are at fault all is as in the composition.
 use Rattle.std.specs.Prelude.{◌≡◌, ◌≢◌, ℕ, suc, ◌<◌, Bool, false, List, [], ◌∷◌, length, map, All, Contains, Some}
 use Rattle.std.specs.Prelude.{slice_get}
-use Rattle.pals_base.specs.declared.values.PortValue.{PortValue}
-use Rattle.pals_base.specs.declared.values.PortValue.TheVariants.{Absent}
+use Rattle.pals_base.specs.declared.basic_types.PortValue.{PortValue}
+use Rattle.pals_base.specs.declared.basic_types.PortValue.TheVariants.{Absent}
 use Rattle.pals_base.specs.declared.frames.Frame.{Frame}
 use Rattle.pals_model.specs.declared.design.Link.{Link}
 use Rattle.pals_model.specs.declared.design.Tap.{Tap}
@@ -14,8 +14,8 @@ use Rattle.pals_model.specs.DesignRules.{IsDesign}
 use Rattle.pals_runs.specs.declared.vote_faults.VoteFault.{VoteFault}
 use Rattle.pals_model.specs.RoundTexts.{report}
 use Rattle.triple_vote.specs.Votes.{vote}
-use Rattle.triple_vote.specs.Replicas.{source_in, is_replicated, copies_of, VotedConfiguration, frame_at, received_at}
-use Rattle.triple_vote.specs.Replicas.{voted_composition, voted_tap}
+use Rattle.triple_vote.specs.VotedComposition.{source_in, is_replicated, copies_of, VotedConfiguration, frame_at, received_at}
+use Rattle.triple_vote.specs.VotedComposition.{voted_composition, voted_tap}
 use Rattle.triple_vote.specs.VotedText.{voted_report, tripled_report}
 use Rattle.triple_vote.specs.OutvotedFaults.{AreOutvoted}
 use Rattle.triple_vote.specs.proof.VotedStates.{voted_state_after}

@@ -2,18 +2,18 @@
 use Rattle.std.specs.Prelude.{ℕ, zero, suc, Bool, List, map, replicate, refl}
 use Rattle.std.specs.Coded.{Coded, code_by, coded×, coded_bool, coded_list}
 use Rattle.pals_base.specs.contracts.frames.Frame.{the_row as frames}
-use Rattle.pals_base.specs.contracts.values.PortValue.{the_row as ports}
+use Rattle.pals_base.specs.contracts.basic_types.PortValue.{the_row as ports}
 use Rattle.pals_model.specs.contracts.design.DesignParts.{the_row as design_parts}
 use Rattle.pals_base.specs.declared.frames.Frame.{Frame}
-use Rattle.pals_base.specs.declared.values.PortValue.{PortValue}
-use Rattle.pals_base.specs.declared.values.PortValue.TheVariants.{Absent}
+use Rattle.pals_base.specs.declared.basic_types.PortValue.{PortValue}
+use Rattle.pals_base.specs.declared.basic_types.PortValue.TheVariants.{Absent}
 use Rattle.pals_model.specs.declared.design.Tap.{Tap}
 use Rattle.pals_model.specs.declared.design.DesignParts.{DesignParts}
 use Rattle.pals_model.specs.declared.environment.Env.{Env}
 use Rattle.pals_model.specs.ComponentInputs.{values_at}
 use Rattle.pals_model.specs.PortKinds.{rate_of}
 use Rattle.pals_runs.specs.declared.vote_faults.VoteFault.{VoteFault}
-use Rattle.triple_vote.specs.Replicas.{VotedConfiguration, voted_opening, next_voted, voted_tap_by}
+use Rattle.triple_vote.specs.VotedComposition.{VotedConfiguration, voted_opening, next_voted, voted_tap_by}
 
 -- a design, which of its components have replicas, what stands after some rounds, and what the root out ports showed
 -- in the last

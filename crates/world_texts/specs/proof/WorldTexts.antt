@@ -6,7 +6,7 @@ use Rattle.bus_machine.specs.Runs.{Run}
 use Rattle.pals_bus.specs.proof.OpeningNodes.{opening_bus}
 use Rattle.run_laws.specs.Worlds.{opening_world}
 use Rattle.loose_world.specs.LooseRuns.{InTurn}
-use Rattle.loose_world.specs.proof.EventEffects.{Undergoes}
+use Rattle.loose_world.specs.proof.BusAfterEvents.{Undergoes}
 use Rattle.timed_world.specs.declared.event_list.WorldEnd.{WorldEnd}
 use Rattle.timed_world.specs.proof.WorldValues.{WorldValue, world_of}
 use Rattle.timed_world.specs.proof.EventLists.{Leads, EndsAt}

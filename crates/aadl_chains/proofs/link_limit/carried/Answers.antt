@@ -1,7 +1,7 @@
 use Rattle.std.proofs.Common.{◌≡◌, subst, sym, Some, ◌∙◌, ap}
 use Rattle.list_lemmas.proofs.Booleans.{opposed}
 use Rattle.aadl_tree.specs.proof.PackageViews.{placed}
-use Rattle.aadl_names.specs.declared.port_place.NumberedPort.TheVariants.{Inner}
+use Rattle.aadl_names.specs.declared.numbered_port.NumberedPort.TheVariants.{Inner}
 use Rattle.aadl_chains.specs.proof.PortsJoinedInside.{ReachesIn}
 use Rattle.aadl_chains.proofs.FirstIncomingConnections.{own_no_inner, none_no_inner}
 use Rattle.aadl_chains.proofs.LinkLimits.{carried-number, carried-none, carried-not}

@@ -2,12 +2,12 @@ use Rattle.std.proofs.Common.{ℕ, ◌+◌, ◌∙◌, arith, get_or, subst, sym
 use Rattle.aadl_tree.specs.proof.PackageViews.{placed}
 use Rattle.aadl_uses.specs.proof.PackageContainment.{containment, targets_in}
 use Rattle.aadl_uses.proofs.PackageContainment.{below-same}
-use Rattle.aadl_uses.proofs.KnownPrefixes.{FrontOf, no_front, front_known, front_more, front_past, front_all}
+use Rattle.aadl_uses.proofs.ContainmentOrderValues.{FrontOf, no_front, front_known, front_more, front_past, front_all}
 use Rattle.std.proofs.lemmas.List.{length-map}
 use Rattle.list_lemmas.proofs.ElementPositions.{Contains-from_slice_get}
 use Rattle.aadl_chains.specs.proof.LimitedCounts.{IsNumber}
 use Rattle.aadl_chains.specs.proof.EnteredThreadPorts.{EndsLink}
-use Rattle.aadl_chains.proofs.PortCountTables.{known_below}
+use Rattle.aadl_chains.proofs.EnteredPortCountTables.{known_below}
 use Rattle.aadl_chains.proofs.link_limit.link_counts.Goals.{in-Some, in_default}
 use Rattle.aadl_chains.proofs.link_limit.link_counts.Goals as goal
 

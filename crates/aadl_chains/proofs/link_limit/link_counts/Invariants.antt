@@ -1,6 +1,6 @@
 use Rattle.aadl_tree.specs.proof.PackageViews.{placed}
 use Rattle.aadl_uses.specs.proof.PackageContainment.{containment}
-use Rattle.aadl_uses.proofs.KnownPrefixes.{FrontOf}
+use Rattle.aadl_uses.proofs.ContainmentOrderValues.{FrontOf}
 use Rattle.aadl_chains.specs.proof.LimitedCounts.{IsNumber}
 use Rattle.aadl_chains.specs.proof.EnteredThreadPorts.{EndsLink}
 use Rattle.aadl_chains.proofs.link_limit.link_counts.Given as goal

@@ -2,7 +2,7 @@ use Rattle.std.proofs.Common.{◌≡◌, ◌∙◌, ap, arith, get_or, length, s
 use Rattle.std.proofs.lemmas.Option.{slice_get-get_or}
 use Rattle.aadl_tree.specs.proof.PackageViews.{placed}
 use Rattle.aadl_uses.specs.declared.connections_by_target.ConnectionPorts.{ConnectionPorts}
-use Rattle.aadl_uses.specs.Wiring.{connection_ports_at}
+use Rattle.aadl_uses.specs.PortsOfConnections.{connection_ports_at}
 use Rattle.aadl_chains.proofs.JoinedOutsideByConnection.{none_yet, one_more, all_led}
 use Rattle.aadl_chains.proofs.outer_joins.lead_each.Goals as goal
 

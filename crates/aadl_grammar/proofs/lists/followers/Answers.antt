@@ -1,5 +1,5 @@
 use Rattle.aadl_grammar.proofs.ParserFaults.{exits, no_reads}
-use Rattle.aadl_grammar.proofs.ListSteps.{item_runs, grown}
+use Rattle.aadl_grammar.proofs.ListLoop.{item_runs, grown}
 use Rattle.aadl_grammar.proofs.lists.followers.Goals as goal
 
 pub returns-in_err-next : goal.returns-in_err-next

@@ -3,9 +3,9 @@ use Rattle.aadl_tree.specs.Declarations.{section_parts}
 use Rattle.aadl_grammar.specs.proof.ParserAnswers.{here}
 use Rattle.aadl_grammar.proofs.ParserFaults.{along, exits, no_reads}
 use Rattle.aadl_grammar.proofs.ListAnswers.{list_from}
-use Rattle.aadl_grammar.proofs.ListSections.{section_left_out, section_empty, section_first, before_semicolon}
-use Rattle.aadl_grammar.proofs.ListSections.{before_list, before_item, no_section, empty_section_read}
-use Rattle.aadl_grammar.proofs.ListSections.{filled_section_read}
+use Rattle.aadl_grammar.proofs.DeclarationSections.{section_left_out, section_empty, section_first, before_semicolon}
+use Rattle.aadl_grammar.proofs.DeclarationSections.{before_list, before_item, no_section, empty_section_read}
+use Rattle.aadl_grammar.proofs.DeclarationSections.{filled_section_read}
 use Rattle.aadl_grammar.proofs.lists.section.Goals as goal
 
 pub returns-in_default : goal.returns-in_default

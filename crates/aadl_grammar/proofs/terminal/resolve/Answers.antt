@@ -1,6 +1,6 @@
 use Rattle.std.proofs.Common.{arith, rules}
 use Rattle.std.proofs.lemmas.Grind.{common_steps}
-use Rattle.aadl_grammar.proofs.TerminalSpots.{words_push}
+use Rattle.aadl_grammar.proofs.TerminalViews.{words_push}
 use Rattle.aadl_grammar.proofs.terminal.resolve.Goals as goal
 
 pub loop-token-preserved : goal.loop-token-preserved

@@ -1,6 +1,6 @@
 use Rattle.std.proofs.Common.{◌≡◌, ◌++◌, drop}
 use Rattle.aadl_tree.specs.Terminals.{spots_from}
-use Rattle.aadl_grammar.specs.proof.TerminalSpots.{spots_of, AreWords}
+use Rattle.aadl_grammar.specs.proof.TerminalViews.{spots_of, AreWords}
 use Rattle.aadl_grammar.proofs.terminal.resolve.Given as goal
 
 abbrev pub invariant-loop-token : goal.invariant-loop-token

@@ -1,7 +1,7 @@
 use Rattle.std.proofs.Common.{◌∙◌, subst, sym}
 use Rattle.aadl_tree.specs.proof.PackageViews.{placed}
-use Rattle.aadl_uses.specs.declared.package_wires.PackageConnections.{PackageConnections}
-use Rattle.aadl_instance.specs.Instances.{IsInstance}
+use Rattle.aadl_uses.specs.declared.package_connections.PackageConnections.{PackageConnections}
+use Rattle.aadl_instance.specs.InstancesByNumbers.{IsInstance}
 use Rattle.aadl_instance.specs.proof.ChainsSoFar.{paths_of}
 use Rattle.aadl_instance.proofs.InstanceThreadsAndChains.{all_listed, all_stand, settled, instance_is, threads_same}
 use Rattle.aadl_instance.proofs.flattening.instance_of.Goals as goal

@@ -7,7 +7,7 @@ use Rattle.aadl_tree.specs.proof.DeclarationViews.{declaration_view}
 use Rattle.aadl_uses.specs.proof.PackageContainment.{targets_in}
 use Rattle.aadl_uses.specs.proof.ThreadCounts.{thread_marks}
 use Rattle.aadl_uses.specs.proof.ContainmentGraphs.{Graph}
-use Rattle.aadl_uses.specs.proof.PathWeights.{IsHeaviest}
+use Rattle.aadl_uses.specs.proof.HeaviestPaths.{IsHeaviest}
 use Rattle.aadl_instance.specs.proof.PathLengths.{weights_in, name_weights, is_over}
 use Rattle.aadl_instance.proofs.PathLengths.{tells_long}
 use Rattle.aadl_instance.proofs.longest_path.has_too_long_path.Goals as goal

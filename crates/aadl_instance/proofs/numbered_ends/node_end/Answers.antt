@@ -3,7 +3,7 @@ use Rattle.aadl_tree.specs.proof.PackageViews.{placed}
 use Rattle.aadl_names.specs.ReferenceResolution.{implementation_at, ports_at}
 use Rattle.aadl_instance.specs.declared.chain.ChainEnd.TheVariants.{Thread}
 use Rattle.aadl_uses.specs.proof.ImplementationTypes.{type_number_at}
-use Rattle.aadl_instance.specs.Instances.{node_at, number_among}
+use Rattle.aadl_instance.specs.InstancesByNumbers.{node_at, number_among}
 use Rattle.aadl_instance.specs.proof.PortNumberTables.{number_in}
 use Rattle.aadl_instance.specs.proof.ChainsSoFar.{paths_of}
 use Rattle.aadl_instance.proofs.PortNumberTables.{few_before}

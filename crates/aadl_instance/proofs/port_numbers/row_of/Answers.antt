@@ -3,7 +3,7 @@ use Rattle.std.proofs.lemmas.List.{length_push}
 use Rattle.aadl_tree.specs.declared.declarations.Direction.TheVariants as directions
 use Rattle.aadl_tree.specs.proof.PlaceMaps.{kept_place}
 use Rattle.aadl_tree.specs.proof.DeclarationViews.{feature_view}
-use Rattle.aadl_instance.specs.Instances.{number_among}
+use Rattle.aadl_instance.specs.InstancesByNumbers.{number_among}
 use Rattle.aadl_instance.proofs.PortNumberTables.{more_at, few_seen, seen_more, number_seen, row_whole}
 use Rattle.aadl_instance.proofs.port_numbers.row_of.Goals as goal
 

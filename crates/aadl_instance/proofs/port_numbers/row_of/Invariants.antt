@@ -1,7 +1,7 @@
 use Rattle.std.proofs.Common.{◌≡◌, ◌<◌, ℕ, get_or, length, map}
 use Rattle.aadl_tree.specs.proof.PlaceMaps.{kept_place}
 use Rattle.aadl_tree.specs.proof.DeclarationViews.{feature_view}
-use Rattle.aadl_instance.specs.Instances.{number_among}
+use Rattle.aadl_instance.specs.InstancesByNumbers.{number_among}
 use Rattle.aadl_instance.proofs.PortNumberTables.{AreSeen}
 use Rattle.aadl_instance.proofs.port_numbers.row_of.Given as goal
 

@@ -1,6 +1,6 @@
 use Rattle.aadl_tree.specs.proof.DeclarationViews.{declaration_view}
 use Rattle.aadl_tree.specs.proof.PlaceMaps.{kept_place}
-use Rattle.aadl_names.proofs.MatchesAndMemberTables.{pushed_count, next_members}
+use Rattle.aadl_names.proofs.MemberNumbers.{pushed_count, next_members}
 use Rattle.aadl_names.proofs.package_names.members_of.Goals as goal
 
 pub loop-declaration-preserved : goal.loop-declaration-preserved

@@ -8,7 +8,7 @@ use Rattle.aadl_grammar.specs.proof.ParserAnswers.{Room}
 use Rattle.aadl_grammar.proofs.PartSequences.{begun}
 use Rattle.aadl_grammar.proofs.ListSymbols.{word_list}
 use Rattle.aadl_grammar.proofs.ListAnswers.{spelled, items_of, same_answer, respelled_answer, item_advances}
-use Rattle.aadl_grammar.proofs.ListSections.{section_of}
+use Rattle.aadl_grammar.proofs.DeclarationSections.{section_of}
 use Rattle.aadl_parse.proofs.declaration_members.connections.Goals as goal
 
 pub section-requires-clause-advances : goal.section-requires-clause-advances

@@ -2,7 +2,7 @@ use Rattle.std.proofs.Common.{◌∙◌, ap, sym, refl, arith}
 use Rattle.aadl_grammar.specs.proof.ParserAnswers.{here}
 use Rattle.aadl_grammar.proofs.TopSymbolMoves.{takes_row, refuses_unless}
 use Rattle.aadl_grammar.proofs.PartSequences.{nothing, marked}
-use Rattle.aadl_parse.proofs.DeclarationStarts.{category_moves}
+use Rattle.aadl_parse.proofs.CategoryMoves.{category_moves}
 use Rattle.aadl_grammar.specs.proof.GrammarSymbols as s
 use Rattle.aadl_grammar.specs.proof.StackMachine.{move, depth, syntax_at}
 use Rattle.aadl_parse.proofs.declaration_members.expect_category.Goals as goal

@@ -9,7 +9,7 @@ use Rattle.aadl_grammar.specs.proof.ParserAnswers.{Room}
 use Rattle.aadl_grammar.proofs.ValueAndPropertyLists.{association_begun, associations_spelled}
 use Rattle.aadl_grammar.proofs.ListSymbols.{word_list}
 use Rattle.aadl_grammar.proofs.ListAnswers.{items_of, same_answer, respelled_answer, item_advances}
-use Rattle.aadl_grammar.proofs.ListSections.{section_of}
+use Rattle.aadl_grammar.proofs.DeclarationSections.{section_of}
 use Rattle.aadl_parse.proofs.declaration_members.own_properties.Goals as goal
 
 pub section-requires-clause-advances : goal.section-requires-clause-advances

@@ -6,7 +6,7 @@ use Rattle.aadl_grammar.proofs.PartSequences.{respelled, pushed, shorter, placed
 use Rattle.aadl_tree.specs.Declarations.{declaration_parts}
 use Rattle.aadl_tree.specs.proof.DeclarationViews.{declaration_view}
 use Rattle.aadl_tree.specs.proof.PlaceMaps.{kept_place}
-use Rattle.aadl_parse.proofs.DeclarationStarts.{declaration_moves}
+use Rattle.aadl_parse.proofs.CategoryMoves.{declaration_moves}
 use Rattle.aadl_grammar.specs.proof.GrammarSymbols as s
 use Rattle.aadl_grammar.specs.proof.StackMachine.{move, depth}
 use Rattle.aadl_parse.proofs.declarations.declarations.Goals as goal

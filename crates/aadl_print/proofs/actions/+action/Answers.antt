@@ -8,7 +8,7 @@ use Rattle.aadl_tree.specs.proof.ExpressionViews.{expression_view}
 use Rattle.aadl_tree.specs.proof.ActionViews.{action_view, actions_view, mores_view, elsifs_view}
 use Rattle.aadl_tree.specs.proof.PlaceMaps.{no_place}
 use Rattle.aadl_tree.proofs.ActionViews.{view-out-choice, view-out-loop, view-out-actions, view-out-block}
-use Rattle.aadl_print.proofs.PrintedParts.{printed_append, next_written, last_written}
+use Rattle.aadl_print.proofs.PrintedLists.{printed_append, next_written, last_written}
 use Rattle.aadl_print.proofs.actions.+action.Goals as goal
 use Rattle.aadl_print.proofs.actions.+action.Goals.{print_block-in-Some+in_ok-print_actions, print_block-in_default}
 use Rattle.aadl_print.proofs.actions.+action.Goals.{print_choice-in-Some+in_ok-mark-3+in_ok-print_actions-3}

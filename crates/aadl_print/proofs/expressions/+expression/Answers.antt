@@ -15,7 +15,7 @@ use Rattle.aadl_tree.specs.proof.ExpressionViews.{relation_view, relations_view}
 use Rattle.aadl_tree.specs.proof.PlaceMaps.{no_place}
 use Rattle.aadl_tree.proofs.ExpressionViews.{view-Group, view-out-sum, view-out-relation, view-out-expression}
 use Rattle.aadl_tree.proofs.ExpressionViews.{view-out-term}
-use Rattle.aadl_print.proofs.PrintedParts.{printed_append, next_written, last_written}
+use Rattle.aadl_print.proofs.PrintedLists.{printed_append, next_written, last_written}
 use Rattle.aadl_print.proofs.expressions.+expression.Goals as goal
 
 pub print_expression-loop-operator-preserved : goal.print_expression-loop-operator-preserved

@@ -3,7 +3,7 @@ use Rattle.std.specs.List.{flat_map}
 use Rattle.aadl_tree.specs.Names.{qualifier_parts}
 use Rattle.aadl_tree.specs.proof.NameViews.{identifier_view}
 use Rattle.aadl_tree.specs.proof.PlaceMaps.{no_place}
-use Rattle.aadl_print.proofs.PrintedParts.{next_written}
+use Rattle.aadl_print.proofs.PrintedLists.{next_written}
 use Rattle.aadl_print.proofs.names.print_qualifiers.Goals as goal
 
 pub loop-name-preserved : goal.loop-name-preserved

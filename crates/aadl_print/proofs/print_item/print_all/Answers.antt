@@ -1,6 +1,6 @@
 use Rattle.std.proofs.Common.{refl, map}
 use Rattle.std.specs.List.{flat_map}
-use Rattle.aadl_print.proofs.PrintedParts.{next_written}
+use Rattle.aadl_print.proofs.PrintedLists.{next_written}
 use Rattle.aadl_print.proofs.print_item.print_all.Goals as goal
 
 pub loop-item-preserved : goal.loop-item-preserved

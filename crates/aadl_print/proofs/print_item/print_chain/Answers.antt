@@ -1,7 +1,7 @@
 use Rattle.std.proofs.Common.{refl, map}
 use Rattle.std.specs.List.{flat_map}
 use Rattle.aadl_tree.specs.SpellingParts.{behind}
-use Rattle.aadl_print.proofs.PrintedParts.{printed_append, next_written, last_written}
+use Rattle.aadl_print.proofs.PrintedLists.{printed_append, next_written, last_written}
 use Rattle.aadl_print.proofs.print_item.print_chain.Goals as goal
 
 pub loop-item-preserved : goal.loop-item-preserved

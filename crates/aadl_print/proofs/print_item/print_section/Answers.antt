@@ -1,5 +1,5 @@
 use Rattle.list_lemmas.proofs.Results.{OnOk-same}
-use Rattle.aadl_print.proofs.NonemptySections.{under_some, some_parts}
+use Rattle.aadl_print.proofs.NonemptyPropertiesAndSections.{under_some, some_parts}
 use Rattle.aadl_print.proofs.print_item.print_section.Goals as goal
 
 pub returns : goal.returns

@@ -6,7 +6,7 @@ use Rattle.aadl_tree.specs.proof.PlaceMaps.{no_place}
 use Rattle.aadl_tree.specs.SpellingParts.{plain}
 use Rattle.aadl_tree.specs.declared.mark.Mark.TheVariants as k
 use Rattle.aadl_tree.proofs.ValueViews.{view-List, view-Record, view-Reference, view-Classifier, view_out_association}
-use Rattle.aadl_print.proofs.PrintedParts.{printed_append, next_written, last_written, parted}
+use Rattle.aadl_print.proofs.PrintedLists.{printed_append, next_written, last_written, parted}
 use Rattle.aadl_print.proofs.values.+value.Goals as goal
 
 pub print_value-returns-in_ok-print_values-in-List : goal.print_value-returns-in_ok-print_values-in-List

@@ -1,7 +1,7 @@
 use Rattle.list_lemmas.proofs.Results.{OnOk-same}
 use Rattle.aadl_tree.specs.declared.mark.Mark.TheVariants as k
 use Rattle.aadl_tree.specs.proof.PlaceMaps.{no_place}
-use Rattle.aadl_print.proofs.NonemptySections.{under_some, some_associations}
+use Rattle.aadl_print.proofs.NonemptyPropertiesAndSections.{under_some, some_associations}
 use Rattle.aadl_print.proofs.values.print_own_properties.Goals as goal
 
 pub returns : goal.returns

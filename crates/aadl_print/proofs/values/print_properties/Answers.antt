@@ -1,7 +1,7 @@
 use Rattle.list_lemmas.proofs.Results.{OnOk-same}
 use Rattle.aadl_tree.specs.proof.PlaceMaps.{no_place}
-use Rattle.aadl_print.proofs.PrintedParts.{printed_append}
-use Rattle.aadl_print.proofs.NonemptySections.{braced}
+use Rattle.aadl_print.proofs.PrintedLists.{printed_append}
+use Rattle.aadl_print.proofs.NonemptyPropertiesAndSections.{braced}
 use Rattle.aadl_print.proofs.values.print_properties.Goals as goal
 
 pub returns : goal.returns

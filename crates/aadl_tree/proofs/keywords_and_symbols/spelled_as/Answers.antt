@@ -3,7 +3,7 @@ use Rattle.std.specs.Str.{str_eq_ignore_ascii_case}
 use Rattle.aadl_tree.specs.declared.mark.Mark.TheVariants as k
 use Rattle.aadl_tree.specs.KeywordsAndSymbols.{mark_text}
 use Rattle.aadl_tree.proofs.ListSearch.{find_past}
-use Rattle.aadl_tree.proofs.MarkFirstBytes.{unspelled}
+use Rattle.aadl_tree.proofs.MarksByFirstByte.{unspelled}
 use Rattle.aadl_tree.proofs.keywords_and_symbols.spelled_as.Goals as goal
 
 pub loop-mark-preserved : goal.loop-mark-preserved

@@ -1,4 +1,4 @@
-use Rattle.aadl_tree.proofs.ExampleTransition.{counting_plain, counting_ended, counting_canonical}
+use Rattle.aadl_tree.proofs.ExampleSpellings.{counting_plain, counting_ended, counting_canonical}
 use Rattle.aadl_tree.proofs.laws.counting_is_spelled.Goals as goal
 
 pub returns-clause-plain : goal.returns-clause-plain

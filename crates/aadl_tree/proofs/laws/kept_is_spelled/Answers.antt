@@ -1,4 +1,4 @@
-use Rattle.aadl_tree.proofs.ConcatenatedSpellings.{kept_spells, written_spells}
+use Rattle.aadl_tree.proofs.SpellingParts.{kept_spells, written_spells}
 use Rattle.aadl_tree.proofs.laws.kept_is_spelled.Goals as goal
 
 pub returns-clause-kept : goal.returns-clause-kept

@@ -1,4 +1,4 @@
-use Rattle.aadl_tree.proofs.ConcatenatedSpellings.{spells_append, spells_split, written_append, written_split}
+use Rattle.aadl_tree.proofs.SpellingParts.{spells_append, spells_split, written_append, written_split}
 use Rattle.aadl_tree.proofs.laws.parts_are_spelled_in_turn.Goals as goal
 
 pub returns-clause-spelled : goal.returns-clause-spelled

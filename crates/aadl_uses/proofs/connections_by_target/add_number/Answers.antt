@@ -1,7 +1,7 @@
 use Rattle.std.proofs.Common.{refl, ◌∙◌, option_copied}
 use Rattle.indexmap.proofs.CallerLemmas.{insert_entry-new}
-use Rattle.aadl_names.proofs.Lookups.{found_none}
-use Rattle.aadl_uses.proofs.FirstConnectionTables.{number-added}
+use Rattle.aadl_names.proofs.NameTables.{found_none}
+use Rattle.aadl_uses.proofs.FirstConnections.{number-added}
 use Rattle.aadl_uses.proofs.connections_by_target.add_number.Goals as goal
 
 pub returns-in_ok-insert : goal.returns-in_ok-insert

@@ -1,6 +1,6 @@
 use Rattle.std.proofs.Common.{None, arith}
 use Rattle.aadl_uses.specs.proof.NumbersByPort.{is_port}
-use Rattle.aadl_uses.proofs.FirstConnectionTables.{next_first, last_first}
+use Rattle.aadl_uses.proofs.FirstConnections.{next_first, last_first}
 use Rattle.aadl_uses.proofs.connections_by_target.firsts_of.Goals as goal
 
 pub loop-number-preserved : goal.loop-number-preserved

@@ -1,7 +1,7 @@
 use Rattle.std.proofs.Common.{◌≡◌, drop}
 use Rattle.std.specs.List.{position_from}
 use Rattle.std.specs.Option.{option_or}
-use Rattle.aadl_names.specs.declared.port_place.NumberedPort.{NumberedPort}
+use Rattle.aadl_names.specs.declared.numbered_port.NumberedPort.{NumberedPort}
 use Rattle.aadl_uses.specs.proof.NumbersByPort.{is_port, number_of}
 use Rattle.aadl_uses.specs.proof.FirstConnections.{first_into}
 use Rattle.aadl_uses.proofs.connections_by_target.firsts_of.Given as goal

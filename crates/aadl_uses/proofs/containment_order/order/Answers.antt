@@ -1,6 +1,6 @@
 use Rattle.std.proofs.Common.{ap, subst, sym, arith, length}
 use Rattle.aadl_uses.specs.proof.ContainmentOrders.{IsSequence}
-use Rattle.aadl_uses.proofs.ContainmentSequences.{no_sequence, one_more, all_placed}
+use Rattle.aadl_uses.proofs.ContainmentOrders.{no_sequence, one_more, all_placed}
 use Rattle.aadl_uses.proofs.containment_order.order.Goals.{then-len+in_ok-place_each, else-len}
 use Rattle.aadl_uses.proofs.containment_order.order.Goals as goal
 

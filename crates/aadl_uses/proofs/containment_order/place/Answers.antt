@@ -1,7 +1,7 @@
 use Rattle.std.proofs.Common.{◌∙◌, ap, sym, arith}
 use Rattle.std.specs.List.{list_all}
 use Rattle.aadl_uses.specs.proof.ContainmentOrders.{is_there}
-use Rattle.aadl_uses.proofs.ContainmentSequences.{placed_new, placed_not, misses_by}
+use Rattle.aadl_uses.proofs.ContainmentOrders.{placed_new, placed_not, misses_by}
 use Rattle.aadl_uses.proofs.containment_order.place.Goals.{else-number-len-via-then-number-len+else-are_there}
 use Rattle.aadl_uses.proofs.containment_order.place.Goals.{else-number-len-via-else-number-len}
 use Rattle.aadl_uses.proofs.containment_order.place.Goals as goal

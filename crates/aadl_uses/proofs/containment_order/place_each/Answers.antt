@@ -1,4 +1,4 @@
-use Rattle.aadl_uses.proofs.ContainmentSequences.{placed_more}
+use Rattle.aadl_uses.proofs.ContainmentOrders.{placed_more}
 use Rattle.aadl_uses.proofs.containment_order.place_each.Goals as goal
 
 pub loop-number-preserved : goal.loop-number-preserved

@@ -1,7 +1,7 @@
 use Rattle.std.proofs.Common.{◌+◌, ◌∙◌, arith, subst, sym}
 use Rattle.list_lemmas.proofs.ElementPositions.{Contains-from_slice_get}
 use Rattle.aadl_uses.specs.proof.MarkedPathCounts.{Counted}
-use Rattle.aadl_uses.proofs.KnownPrefixes.{FrontOf, no_front, front_more, front_past, front_all}
+use Rattle.aadl_uses.proofs.ContainmentOrderValues.{FrontOf, no_front, front_more, front_past, front_all}
 use Rattle.aadl_uses.proofs.marked_counts.counts_below.Goals.{in-Some, in_default}
 use Rattle.aadl_uses.proofs.marked_counts.counts_below.Goals as goal
 

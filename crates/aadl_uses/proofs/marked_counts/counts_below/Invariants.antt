@@ -1,5 +1,5 @@
 use Rattle.aadl_uses.specs.proof.MarkedPathCounts.{Counted}
-use Rattle.aadl_uses.proofs.KnownPrefixes.{FrontOf}
+use Rattle.aadl_uses.proofs.ContainmentOrderValues.{FrontOf}
 use Rattle.aadl_uses.proofs.marked_counts.counts_below.Given as goal
 
 abbrev pub invariant-loop-at : goal.invariant-loop-at

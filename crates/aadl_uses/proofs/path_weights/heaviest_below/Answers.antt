@@ -1,7 +1,7 @@
 use Rattle.std.proofs.Common.{◌+◌, None, arith, subst, sym}
 use Rattle.list_lemmas.proofs.ElementPositions.{Contains-from_slice_get}
-use Rattle.aadl_uses.proofs.KnownPrefixes.{FrontOf, front_past, front_more, front_all}
-use Rattle.aadl_uses.specs.proof.PathWeights.{IsHeaviest}
+use Rattle.aadl_uses.proofs.ContainmentOrderValues.{FrontOf, front_past, front_more, front_all}
+use Rattle.aadl_uses.specs.proof.HeaviestPaths.{IsHeaviest}
 use Rattle.aadl_uses.proofs.path_weights.heaviest_below.Goals.{in-Some, in_default}
 use Rattle.aadl_uses.proofs.path_weights.heaviest_below.Goals as goal
 

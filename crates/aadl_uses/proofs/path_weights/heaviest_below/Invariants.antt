@@ -1,6 +1,6 @@
 use Rattle.std.proofs.Common.{None}
-use Rattle.aadl_uses.proofs.KnownPrefixes.{FrontOf}
-use Rattle.aadl_uses.specs.proof.PathWeights.{IsHeaviest}
+use Rattle.aadl_uses.proofs.ContainmentOrderValues.{FrontOf}
+use Rattle.aadl_uses.specs.proof.HeaviestPaths.{IsHeaviest}
 use Rattle.aadl_uses.proofs.path_weights.heaviest_below.Given as goal
 
 abbrev pub invariant-loop-at : goal.invariant-loop-at

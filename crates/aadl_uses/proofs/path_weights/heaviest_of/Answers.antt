@@ -1,6 +1,6 @@
 use Rattle.std.proofs.Common.{◌+◌, ◌∙◌, None, ap, arith, get_or, length, min, option_map, subst, sym}
 use Rattle.aadl_uses.proofs.MarkedPathCounts.{Begun, below_is}
-use Rattle.aadl_uses.specs.proof.PathWeights.{IsGreatestOf, path_weight, weight_of, heavier}
+use Rattle.aadl_uses.specs.proof.HeaviestPaths.{IsGreatestOf, path_weight, weight_of, heavier}
 use Rattle.aadl_uses.proofs.HeaviestPaths.{heaviest_more, heaviest_all}
 use Rattle.aadl_uses.proofs.path_weights.heaviest_of.Goals as goal
 

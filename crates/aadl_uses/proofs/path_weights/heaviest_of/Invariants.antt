@@ -1,5 +1,5 @@
 use Rattle.aadl_uses.proofs.MarkedPathCounts.{Begun}
-use Rattle.aadl_uses.specs.proof.PathWeights.{IsGreatestOf, path_weight}
+use Rattle.aadl_uses.specs.proof.HeaviestPaths.{IsGreatestOf, path_weight}
 use Rattle.aadl_uses.proofs.path_weights.heaviest_of.Given as goal
 
 -- of the paths that begin with the subcomponents so far

@@ -1,10 +1,10 @@
 use Rattle.std.proofs.Common.{◌+◌, ◌∙◌, [], Contains, arith, map, subst, sym}
 use Rattle.std.proofs.lemmas.Option.{same_Some}
 use Rattle.list_lemmas.proofs.ElementPositions.{Contains-from_slice_get}
-use Rattle.aadl_uses.proofs.KnownPrefixes.{FrontOf, no_front, front_known, front_same, front_past, front_more}
-use Rattle.aadl_uses.proofs.KnownPrefixes.{front_all}
-use Rattle.aadl_uses.proofs.ContainmentSequences.{of_any, not_of_any}
-use Rattle.aadl_uses.proofs.PathEnumeration.{IsListedIn}
+use Rattle.aadl_uses.proofs.ContainmentOrderValues.{FrontOf, no_front, front_known, front_same, front_past, front_more}
+use Rattle.aadl_uses.proofs.ContainmentOrderValues.{front_all}
+use Rattle.aadl_uses.proofs.ContainmentOrders.{of_any, not_of_any}
+use Rattle.aadl_uses.proofs.MarkedPathLists.{IsListedIn}
 use Rattle.aadl_uses.proofs.paths_to_marked.paths_below.Goals.{in-Some+then-contains+in_ok-row, in-Some+else-contains}
 use Rattle.aadl_uses.proofs.paths_to_marked.paths_below.Goals.{in_default}
 use Rattle.aadl_uses.proofs.paths_to_marked.paths_below.Goals as goal

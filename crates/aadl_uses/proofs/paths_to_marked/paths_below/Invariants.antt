@@ -1,6 +1,6 @@
 use Rattle.std.proofs.Common.{[]}
-use Rattle.aadl_uses.proofs.KnownPrefixes.{FrontOf}
-use Rattle.aadl_uses.proofs.PathEnumeration.{IsListedIn}
+use Rattle.aadl_uses.proofs.ContainmentOrderValues.{FrontOf}
+use Rattle.aadl_uses.proofs.MarkedPathLists.{IsListedIn}
 use Rattle.aadl_uses.proofs.paths_to_marked.paths_below.Given as goal
 
 abbrev pub invariant-loop-at : goal.invariant-loop-at

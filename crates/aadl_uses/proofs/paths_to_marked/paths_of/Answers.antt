@@ -2,8 +2,8 @@ use Rattle.std.proofs.Common.{◌+◌, ◌++◌, ◌∙◌, ap, arith, length, m
 use Rattle.aadl_uses.specs.proof.OrderedLists.{AreListed}
 use Rattle.aadl_uses.specs.ThreadsBelow.{path_before}
 use Rattle.aadl_uses.proofs.MarkedPathCounts.{Begun, listed_more, listed_same, all_listed, below_is}
-use Rattle.aadl_uses.specs.proof.PathTables.{paths_from}
-use Rattle.aadl_uses.proofs.PathEnumeration.{through_all}
+use Rattle.aadl_uses.specs.proof.MarkedPathLists.{paths_from}
+use Rattle.aadl_uses.proofs.MarkedPathLists.{through_all}
 use Rattle.aadl_uses.proofs.paths_to_marked.paths_of.Goals.{in-Some+in_ok-add_below, in_default}
 use Rattle.aadl_uses.proofs.paths_to_marked.paths_of.Goals as goal
 

@@ -1,6 +1,6 @@
 use Rattle.std.proofs.Common.{◌≡◌, Some, reverse, take}
 use Rattle.aadl_tree.specs.proof.PackageViews.{placed}
-use Rattle.aadl_uses.specs.Uses.{number_at_path}
+use Rattle.aadl_uses.specs.ContainmentAndUse.{number_at_path}
 use Rattle.aadl_uses.proofs.thread_locations.standing.Given as goal
 
 abbrev pub invariant-loop-sub : goal.invariant-loop-sub

@@ -3,7 +3,7 @@ use Rattle.std.specs.String.{string_bytes}
 use Rattle.aadl_tree.specs.proof.PackageViews.{placed}
 use Rattle.aadl_tree.specs.proof.DeclarationViews.{subcomponent_view}
 use Rattle.aadl_tree.specs.proof.PlaceMaps.{kept_place}
-use Rattle.aadl_uses.specs.Uses.{number_at_path}
+use Rattle.aadl_uses.specs.ContainmentAndUse.{number_at_path}
 use Rattle.aadl_uses.proofs.SubcomponentsAlongPaths.{leads, next_none, none_below, along_more, first_name, later_name}
 use Rattle.aadl_uses.proofs.thread_locations.thread_at.Goals.{then-at-gt0+in_ok-push_str, else-at-gt0}
 use Rattle.aadl_uses.proofs.thread_locations.thread_at.Goals as goal

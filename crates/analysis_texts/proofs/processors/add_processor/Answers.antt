@@ -1,6 +1,6 @@
 use Rattle.std.proofs.Common.{◌<◌, List, length, All, sym, subst, arith}
 use Rattle.std.proofs.lemmas.List.{length-map}
-use Rattle.pals_base.specs.declared.values.NodeNo.{NodeNo}
+use Rattle.pals_base.specs.declared.basic_types.NodeNo.{NodeNo}
 use Rattle.round_budget.specs.proof.BudgetLaws.{AreMembers}
 use Rattle.round_budget.specs.Budgets.{numbers}
 use Rattle.round_budget.proofs.ProcessorMembers.{nodes_are_members, rising_few}

@@ -6,7 +6,7 @@ use Rattle.pals_model.specs.RoundTexts.{line_end, text_of}
 use Rattle.pals_report.proofs.LinePerItem.{lines_turn, lines_all}
 use Rattle.round_budget.specs.BudgetText.{slot_line}
 use Rattle.round_budget.specs.proof.ReleaseAndLineValues.{line_value}
-use Rattle.round_budget.specs.declared.serving.TimetableLine.{TimetableLine}
+use Rattle.round_budget.specs.declared.served_steps.TimetableLine.{TimetableLine}
 use Rattle.analysis_texts.proofs.processors.add_slots.Goals as goal
 
 pub loop-line-preserved : goal.loop-line-preserved

@@ -2,7 +2,7 @@ use Rattle.std.proofs.Common.{◌≡◌, ◌++◌, map, take}
 use Rattle.pals_model.specs.RoundTexts.{text_of}
 use Rattle.round_budget.specs.BudgetText.{slot_line}
 use Rattle.round_budget.specs.proof.ReleaseAndLineValues.{line_value}
-use Rattle.round_budget.specs.declared.serving.TimetableLine.{TimetableLine}
+use Rattle.round_budget.specs.declared.served_steps.TimetableLine.{TimetableLine}
 use Rattle.analysis_texts.proofs.processors.add_slots.Given as goal
 
 -- the lines so far

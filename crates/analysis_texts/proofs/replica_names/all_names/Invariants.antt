@@ -1,6 +1,6 @@
 use Rattle.std.proofs.Common.{◌≡◌, ◌++◌, drop, map}
 use Rattle.std.specs.List.{enumerate_from}
-use Rattle.triple_vote.specs.Replicas.{is_replicated}
+use Rattle.triple_vote.specs.VotedComposition.{is_replicated}
 use Rattle.analysis_texts.specs.proof.ReplicaNamesAndLines.{names_of, all_names}
 use Rattle.analysis_texts.proofs.replica_names.all_names.Given as goal
 

@@ -2,7 +2,7 @@ use Rattle.std.proofs.Common.{rules, ◌≡◌, ◌∙◌, false, true, length, 
 use Rattle.std.specs.Prelude.{slice_index_or, slice_set}
 use Rattle.std.proofs.lemmas.List.{length-set}
 use Rattle.list_lemmas.proofs.ListOperations.{take-written_whole}
-use Rattle.pals_base.specs.declared.values.NodeNo.{NodeNo}
+use Rattle.pals_base.specs.declared.basic_types.NodeNo.{NodeNo}
 use Rattle.analysis_texts.proofs.FaultAndReplicaTables.{marked_more, none_marked}
 use Rattle.analysis_texts.proofs.replica_names.replicated.Goals as goal
 

@@ -5,7 +5,7 @@ use Rattle.list_lemmas.proofs.ElementPositions.{slice_get-map_enumerate}
 use Rattle.pals_model.specs.declared.design.Component.{Component}
 use Rattle.pals_model.specs.declared.design.DesignParts.{DesignParts}
 use Rattle.pals_model.specs.RoundTexts.{text_of}
-use Rattle.triple_vote.specs.Replicas.{is_replicated, frame_at}
+use Rattle.triple_vote.specs.VotedComposition.{is_replicated, frame_at}
 use Rattle.triple_vote.specs.VotedText.{replica_lines}
 use Rattle.sync_product.proofs.ComponentLists.{entry_at, item_at}
 use Rattle.pals_report.proofs.RowLines.{lines_turn}

@@ -1,6 +1,6 @@
 use Rattle.std.proofs.Common.{◌≡◌, ◌++◌, drop}
 use Rattle.pals_model.specs.RoundTexts.{text_of}
-use Rattle.triple_vote.specs.Replicas.{frame_at}
+use Rattle.triple_vote.specs.VotedComposition.{frame_at}
 use Rattle.analysis_texts.specs.proof.ReplicaNamesAndLines.{all_lines}
 use Rattle.analysis_texts.proofs.replicas.add_components.Given as goal
 

@@ -5,7 +5,7 @@ use Rattle.pals_base.specs.declared.behaviour.BehaviourParts.{BehaviourParts}
 use Rattle.pals_base.specs.declared.frames.Frame.{Frame}
 use Rattle.pals_base.proofs.UpwardNumbers.{get_or-map_upwards, length-map_upwards}
 use Rattle.pals_model.specs.RoundTexts.{line_end, text_of, component_line}
-use Rattle.triple_vote.specs.Replicas.{is_replicated, copies_of, frame_at}
+use Rattle.triple_vote.specs.VotedComposition.{is_replicated, copies_of, frame_at}
 use Rattle.triple_vote.specs.VotedText.{replica_name}
 use Rattle.analysis_texts.specs.proof.ReplicaNamesAndLines.{names_of}
 use Rattle.analysis_texts.proofs.LineBlocks.{counted_turn}

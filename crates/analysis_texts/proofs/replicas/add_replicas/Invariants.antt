@@ -1,7 +1,7 @@
 use Rattle.std.proofs.Common.{◌≡◌, ◌++◌, map}
 use Rattle.pals_base.specs.UpwardNumbers.{upwards}
 use Rattle.pals_model.specs.RoundTexts.{text_of}
-use Rattle.triple_vote.specs.Replicas.{frame_at}
+use Rattle.triple_vote.specs.VotedComposition.{frame_at}
 use Rattle.analysis_texts.proofs.VotedRows.{replica_line}
 use Rattle.analysis_texts.proofs.replicas.add_replicas.Given as goal
 

@@ -2,7 +2,7 @@ use Rattle.std.proofs.Common.{◌∙◌, ◌++◌, map, sym, ap}
 use Rattle.std.proofs.lemmas.Result.{on_ok_weaker}
 use Rattle.pals_model.specs.declared.design.DesignParts.{DesignParts}
 use Rattle.pals_model.specs.RoundTexts.{text_of}
-use Rattle.triple_vote.specs.Replicas.{frame_at}
+use Rattle.triple_vote.specs.VotedComposition.{frame_at}
 use Rattle.triple_vote.specs.VotedText.{shown_line}
 use Rattle.analysis_texts.proofs.VotedRows.{row_of_parts}
 use Rattle.analysis_texts.proofs.replicas.add_row.Goals as goal

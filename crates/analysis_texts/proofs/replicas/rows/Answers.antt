@@ -9,7 +9,7 @@ use Rattle.pals_model.specs.ComponentInputs.{values_at}
 use Rattle.pals_model.proofs.ShapeLaws.{length-values_at}
 use Rattle.pals_runs.specs.declared.vote_faults.VoteFault.{VoteFault}
 use Rattle.triple_vote.specs.proof.VoteLaws.{IsFault}
-use Rattle.triple_vote.specs.Replicas.{voted_composition, voted_tap_by}
+use Rattle.triple_vote.specs.VotedComposition.{voted_composition, voted_tap_by}
 use Rattle.triple_vote.specs.proof.VotedStates.{VotedState, voted_advanced}
 use Rattle.triple_vote.specs.VotedText.{voted_report}
 use Rattle.analysis_texts.specs.proof.ReplicaNamesAndLines.{all_names}

@@ -4,7 +4,7 @@ use Rattle.std.proofs.lemmas.Int.{to_z-of_z}
 use mir.Syntax.{w64}
 use mir.Val.{SFits, to_z, of_z}
 use Rattle.pals_base.specs.TypingRules as base
-use Rattle.pals_base.specs.PlainTrees.{For}
+use Rattle.pals_base.specs.ExpressionAndActionTrees.{For}
 use Rattle.pals_base.specs.proof.TreeViews.{actions_along}
 use Rattle.pals_base.proofs.TreeViews.{action_of-If, action_of-For}
 use Rattle.aadl_tree.specs.declared.actions.Action.TheViews.{out-Actions, out-Choice, out-Loop}
@@ -17,7 +17,7 @@ use Rattle.aadl_tree.specs.proof.ActionViews.{action_view, actions_view, block_v
 use Rattle.aadl_tree.specs.proof.ActionViews.{otherwise_of as listed_otherwise}
 use Rattle.aadl_tree.proofs.ActionViews.{view-Assign, view-Send, view-If, view-For, view-out-choice, view-out-loop}
 use Rattle.aadl_tree.proofs.ActionViews.{view-out-actions, view-out-block}
-use Rattle.annex_resolve.specs.NamesAndFindings.{entry_named}
+use Rattle.annex_resolve.specs.NameMeanings.{entry_named}
 use Rattle.annex_resolve.proofs.ResolvedActions.{assigned, sent, same_action, one_action, next_action, all_actions}
 use Rattle.annex_resolve.proofs.ResolvedActions.{no_actions, some_actions, same_block, branch_read, one_branch}
 use Rattle.annex_resolve.proofs.ResolvedActions.{next_branch, chosen, looped}

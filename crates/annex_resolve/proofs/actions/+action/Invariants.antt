@@ -1,5 +1,5 @@
 use Rattle.std.proofs.Common.{◌++◌, take}
-use Rattle.pals_base.specs.PlainTrees.{Do, Where}
+use Rattle.pals_base.specs.ExpressionAndActionTrees.{Do, Where}
 use Rattle.aadl_tree.specs.declared.actions.Action.TheViews.{out-Actions, out-Choice}
 use Rattle.aadl_tree.specs.proof.PlaceMaps.{kept_place}
 use Rattle.aadl_tree.specs.proof.ExpressionViews.{expression_view}

@@ -1,5 +1,5 @@
 use Rattle.std.proofs.Common.{ap, ◌∙◌}
-use Rattle.pals_base.specs.PlainTrees.{If, NoBranch}
+use Rattle.pals_base.specs.ExpressionAndActionTrees.{If, NoBranch}
 use Rattle.pals_base.specs.proof.TreeViews.{actions_along, branches_along}
 use Rattle.pals_base.proofs.TreeViews.{action_of-If}
 use Rattle.annex_resolve.proofs.actions.nothing.Goals as goal

@@ -1,7 +1,7 @@
 use Rattle.std.proofs.Common.{◌≡◌, map}
 use Rattle.pals_base.specs.UpwardNumbers.{upwards}
 use Rattle.annex_resolve.specs.IncompleteStateCycles.{is_on_cycle}
-use Rattle.annex_resolve.specs.proof.ReachTables.{IsTable}
+use Rattle.annex_resolve.specs.proof.ReachabilityTables.{IsTable}
 use Rattle.annex_resolve.proofs.cycles.cyclic_states.Given as goal
 
 abbrev pub invariant-loop-round : goal.invariant-loop-round

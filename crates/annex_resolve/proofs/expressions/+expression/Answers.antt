@@ -3,7 +3,7 @@ use Rattle.std.proofs.lemmas.Int.{to_z-of_z}
 use mir.Syntax.{w64}
 use mir.Val.{SFits}
 use Rattle.list_lemmas.proofs.Options.{none_unless_some}
-use Rattle.pals_base.specs.PlainTrees.{Literal}
+use Rattle.pals_base.specs.ExpressionAndActionTrees.{Literal}
 use Rattle.std.specs.Option.{is_some}
 use Rattle.std.proofs.lemmas.Bool.{true≢false}
 use Rattle.aadl_tree.specs.declared.expressions.Factor.TheViews.{out-Expression, out-Sum, out-Relation, out-Term}

@@ -1,7 +1,7 @@
 use Rattle.std.proofs.Common.{ap, ◌∙◌, refl, ◌++◌, ◌∷◌, []}
 use Rattle.aadl_tree.specs.proof.PlaceMaps.{kept_place}
 use Rattle.aadl_tree.specs.proof.NameViews.{identifier_view}
-use Rattle.annex_resolve.specs.NamesAndFindings.{entry_named}
+use Rattle.annex_resolve.specs.NameMeanings.{entry_named}
 use Rattle.annex_resolve.proofs.ResolvedExpressions.{name_read, name_unread}
 use Rattle.annex_resolve.proofs.expressions.resolve_name.Goals as goal
 

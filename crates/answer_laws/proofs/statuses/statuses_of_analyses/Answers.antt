@@ -1,7 +1,7 @@
 use Rattle.std.proofs.Common.{◌<◌}
 use Rattle.pals_top.specs.AnalysisAnswers.{command_of}
 use Rattle.answer_laws.proofs.StatusCases.{done, without_text, without_design, without_scenario}
-use Rattle.answer_laws.proofs.AnswerStatuses.{analysis_cases}
+use Rattle.answer_laws.proofs.PrintCheckAndAnalysisStatuses.{analysis_cases}
 use Rattle.answer_laws.proofs.BundleContents.{has_tree, has_design}
 use Rattle.answer_laws.proofs.statuses.statuses_of_analyses.Goals as goal
 

@@ -1,6 +1,6 @@
 use Rattle.std.proofs.Common.{◌≡◌}
 use Rattle.answer_laws.proofs.StatusCases.{zero_is_small, done, without_text, without_design}
-use Rattle.answer_laws.proofs.AnswerStatuses.{check_cases}
+use Rattle.answer_laws.proofs.PrintCheckAndAnalysisStatuses.{check_cases}
 use Rattle.answer_laws.proofs.BundleContents.{has_tree}
 use Rattle.answer_laws.proofs.statuses.statuses_of_check.Goals as goal
 

@@ -1,6 +1,6 @@
 use Rattle.std.proofs.Common.{◌≡◌}
 use Rattle.answer_laws.proofs.StatusCases.{zero_is_small, done, without_text}
-use Rattle.answer_laws.proofs.AnswerStatuses.{print_cases}
+use Rattle.answer_laws.proofs.PrintCheckAndAnalysisStatuses.{print_cases}
 use Rattle.answer_laws.proofs.statuses.statuses_of_print.Goals as goal
 
 pub returns-clause-done : goal.returns-clause-done

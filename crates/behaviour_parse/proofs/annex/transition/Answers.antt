@@ -12,7 +12,7 @@ use Rattle.aadl_grammar.specs.proof.ParserAnswers.{here}
 use Rattle.aadl_grammar.proofs.TopSymbolMoves.{begins_as}
 use Rattle.aadl_grammar.proofs.ParserFaults.{along, exits, no_reads}
 use Rattle.aadl_grammar.proofs.PartSequences.{then, respelled}
-use Rattle.behaviour_parse.proofs.DeclarationStarts.{departed}
+use Rattle.behaviour_parse.proofs.TransitionStarts.{departed}
 use Rattle.aadl_tree.specs.declared.mark.Mark.TheVariants as k
 use Rattle.aadl_grammar.specs.proof.GrammarSymbols as s
 use Rattle.aadl_grammar.specs.proof.StackMachine.{move, depth}

@@ -10,7 +10,7 @@ use Rattle.aadl_grammar.proofs.ListSymbols.{word_list}
 use Rattle.aadl_grammar.proofs.ListAnswers.{whole_list, same_answer, item_advances}
 use Rattle.aadl_grammar.specs.proof.GrammarSymbols as s
 use Rattle.aadl_grammar.specs.proof.StackMachine.{move, depth}
-use Rattle.behaviour_parse.proofs.DeclarationStarts.{transition_begun}
+use Rattle.behaviour_parse.proofs.TransitionStarts.{transition_begun}
 use Rattle.behaviour_parse.proofs.annex.transitions.Goals as goal
 
 pub followers-requires-clause-advances : goal.followers-requires-clause-advances

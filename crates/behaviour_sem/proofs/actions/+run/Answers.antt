@@ -5,11 +5,11 @@ use mir.Val.{SFits}
 use Rattle.pals_base.specs.Actions.{Effect, act, acts, act_first, for_each}
 use Rattle.pals_base.specs.ForRanges.{numbers}
 use Rattle.pals_base.specs.SingleStep.{is_present}
-use Rattle.pals_base.specs.PlainTrees.{For}
+use Rattle.pals_base.specs.ExpressionAndActionTrees.{For}
 use Rattle.pals_base.specs.proof.TreeViews.{action_of, actions_along, branches_along}
-use Rattle.pals_base.proofs.LoopNumbers.{no_numbers}
-use Rattle.behaviour_sem.specs.proof.ReadableFrames.{frame_of}
-use Rattle.behaviour_sem.specs.proof.StepOutcomes.{IsStepResult, IsBranchResult}
+use Rattle.pals_base.proofs.ForRanges.{no_numbers}
+use Rattle.behaviour_sem.specs.proof.EvaluationFrames.{frame_of}
+use Rattle.behaviour_sem.specs.proof.StepResults.{IsStepResult, IsBranchResult}
 use Rattle.behaviour_sem.specs.proof.ActionExecution.{effect}
 use Rattle.behaviour_sem.proofs.ActionMeanings.{act-If, act-For, turn_after, Left-chose-err, for_each-more}
 use Rattle.behaviour_sem.proofs.actions.+run.Goals as goal

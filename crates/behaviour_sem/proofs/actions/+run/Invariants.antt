@@ -1,11 +1,11 @@
 use Rattle.std.proofs.Common.{◌≡◌, map, length, drop}
 use Rattle.std.specs.Prelude.{Result}
-use Rattle.pals_base.specs.declared.values.Trap.{Trap}
+use Rattle.pals_base.specs.declared.basic_types.Trap.{Trap}
 use Rattle.pals_base.specs.Actions.{Effect, acts, act_first, for_each}
 use Rattle.pals_base.specs.ForRanges.{numbers}
 use Rattle.pals_base.specs.SingleStep.{is_present}
 use Rattle.pals_base.specs.proof.TreeViews.{actions_along, branches_along}
-use Rattle.behaviour_sem.specs.proof.ReadableFrames.{frame_of}
+use Rattle.behaviour_sem.specs.proof.EvaluationFrames.{frame_of}
 use Rattle.behaviour_sem.specs.proof.ActionExecution.{effect}
 use Rattle.behaviour_sem.proofs.ActionMeanings.{turn_after}
 use Rattle.behaviour_sem.proofs.actions.+run.Given as goal

@@ -6,7 +6,7 @@ use Rattle.pals_base.specs.ExpressionValues.{eval, eval_rest, on_value}
 use Rattle.pals_base.specs.SingleStep.{is_present}
 use Rattle.pals_base.specs.proof.TreeViews.{tree_of, operands_along}
 use Rattle.pals_base.proofs.TreeViews.{tree_of-Chain}
-use Rattle.behaviour_sem.specs.proof.ReadableFrames.{frame_of}
+use Rattle.behaviour_sem.specs.proof.EvaluationFrames.{frame_of}
 use Rattle.behaviour_sem.proofs.expressions.+eval.Goals as goal
 
 pub eval-returns-in_ok-left-in-Chain : goal.eval-returns-in_ok-left-in-Chain

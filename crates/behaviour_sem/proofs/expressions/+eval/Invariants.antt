@@ -1,7 +1,7 @@
 use Rattle.std.proofs.Common.{◌≡◌, drop}
 use Rattle.pals_base.specs.ExpressionValues.{eval_rest}
 use Rattle.pals_base.specs.proof.TreeViews.{operands_along}
-use Rattle.behaviour_sem.specs.proof.ReadableFrames.{seen, fresh}
+use Rattle.behaviour_sem.specs.proof.EvaluationFrames.{seen, fresh}
 use Rattle.behaviour_sem.proofs.expressions.+eval.Given as goal
 
 -- the operands that are left, from the value so far, give the value of all

@@ -2,12 +2,12 @@ use Rattle.std.proofs.Common.{◌≡◌, ◌∙◌, map, drop, sym, ap, subst, O
 use Rattle.std.specs.Prelude.{Some, filter, nat_eq}
 use Rattle.pals_base.specs.ExpressionValues.{on_value}
 use Rattle.pals_base.specs.SingleStep.{is_present, first_open, along}
-use Rattle.pals_base.specs.PlainTrees.{Edge}
+use Rattle.pals_base.specs.ExpressionAndActionTrees.{Edge}
 use Rattle.behaviour_sem.specs.declared.early_end.EarlyEnd.TheVariants as stop
-use Rattle.behaviour_sem.specs.proof.StepOutcomes.{IsStepResult}
+use Rattle.behaviour_sem.specs.proof.StepResults.{IsStepResult}
 use Rattle.behaviour_sem.specs.proof.TransitionMoves.{move}
 use Rattle.behaviour_sem.specs.proof.PartialSteps.{fired}
-use Rattle.behaviour_sem.proofs.TransitionsAndInputs.{goes-same, first_open-from}
+use Rattle.behaviour_sem.proofs.TransitionSearch.{goes-same, first_open-from}
 use Rattle.behaviour_sem.proofs.transitions.advance.Goals as goal
 
 pub returns-in_err-goes-clause-leads : goal.returns-in_err-goes-clause-leads

@@ -1,6 +1,6 @@
 use Rattle.std.proofs.Common.{◌≡◌, drop, map}
 use Rattle.std.specs.Prelude.{filter, nat_eq}
-use Rattle.pals_base.specs.PlainTrees.{Edge}
+use Rattle.pals_base.specs.ExpressionAndActionTrees.{Edge}
 use Rattle.pals_base.specs.SingleStep.{first_open, is_present}
 use Rattle.behaviour_sem.specs.proof.PartialSteps.{fired}
 use Rattle.behaviour_sem.proofs.transitions.advance.Given as goal

@@ -2,13 +2,13 @@ use Rattle.std.proofs.Common.{◌≡◌, ◌∙◌, sym, ap, subst, Ok, Err, rul
 use Rattle.std.specs.Prelude.{Some}
 use Rattle.pals_base.specs.Actions.{acts}
 use Rattle.pals_base.specs.SingleStep.{along}
-use Rattle.pals_base.specs.PlainTrees.{Edge}
+use Rattle.pals_base.specs.ExpressionAndActionTrees.{Edge}
 use Rattle.pals_base.specs.proof.TreeViews.{actions_along}
-use Rattle.behaviour_sem.specs.proof.ReadableFrames.{frame_of, fresh}
-use Rattle.behaviour_sem.specs.proof.StepOutcomes.{IsStepResult}
+use Rattle.behaviour_sem.specs.proof.EvaluationFrames.{frame_of, fresh}
+use Rattle.behaviour_sem.specs.proof.StepResults.{IsStepResult}
 use Rattle.behaviour_sem.specs.proof.ActionExecution.{effect}
 use Rattle.behaviour_sem.specs.proof.PartialSteps.{fired}
-use Rattle.behaviour_sem.proofs.TransitionsAndInputs.{along-ran, along-stops}
+use Rattle.behaviour_sem.proofs.TransitionSearch.{along-ran, along-stops}
 use Rattle.behaviour_sem.proofs.transitions.follow.Goals as goal
 
 pub returns-in_err-run_all-clause-leads : goal.returns-in_err-run_all-clause-leads

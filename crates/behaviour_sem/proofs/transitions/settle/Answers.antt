@@ -2,10 +2,10 @@ use Rattle.std.proofs.Common.{◌≡◌, ◌∙◌, ◌+◌, ◌-◌, suc, lengt
 use Rattle.std.specs.Prelude.{slice_get}
 use Rattle.pals_base.specs.ExpressionValues.{on_value}
 use Rattle.pals_base.specs.SingleStep.{is_present, is_complete, completes, settled}
-use Rattle.behaviour_sem.specs.proof.StepOutcomes.{IsStepResult}
+use Rattle.behaviour_sem.specs.proof.StepResults.{IsStepResult}
 use Rattle.behaviour_sem.specs.proof.TransitionMoves.{move}
 use Rattle.behaviour_sem.specs.proof.PartialSteps.{fired}
-use Rattle.behaviour_sem.proofs.TransitionsAndInputs.{Left-stops, settled-more}
+use Rattle.behaviour_sem.proofs.TransitionSearch.{Left-stops, settled-more}
 use Rattle.behaviour_sem.proofs.transitions.settle.Goals as goal
 
 pub returns-in_err-advance-clause-leads : goal.returns-in_err-advance-clause-leads

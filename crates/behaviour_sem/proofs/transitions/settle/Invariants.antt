@@ -1,6 +1,6 @@
 use Rattle.std.proofs.Common.{◌≡◌, ◌-◌, length}
 use Rattle.pals_base.specs.SingleStep.{settled}
-use Rattle.behaviour_sem.specs.proof.ReadableFrames.{fresh}
+use Rattle.behaviour_sem.specs.proof.EvaluationFrames.{fresh}
 use Rattle.behaviour_sem.specs.proof.PartialSteps.{fired}
 use Rattle.behaviour_sem.proofs.transitions.settle.Given as goal
 

@@ -1,7 +1,7 @@
 use Rattle.std.proofs.Common.{ℕ, List, codes, [], ◌∷◌, ◌++◌, ap, ◌∙◌}
 use Rattle.pals_model.specs.RoundTexts.{line_end}
 use Rattle.pals_runs.specs.JournalLines.{spaced}
-use Rattle.pals_base.specs.PeriodBound.{sent_steps}
+use Rattle.pals_base.specs.PeriodBoundAndReleases.{sent_steps}
 use Rattle.code_listing.specs.Listings.{number_line, rate_lines}
 use Rattle.code_listing.proofs.AddedLines.{line_alone, line_behind, line_last}
 use Rattle.code_listing.proofs.component.add_rate.Goals as goal

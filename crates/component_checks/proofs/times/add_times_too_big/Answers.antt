@@ -1,5 +1,5 @@
 use Rattle.std.proofs.Common.{refl}
-use Rattle.aadl_names.proofs.GrowingLists.{next_added}
+use Rattle.aadl_names.proofs.ListBuildingLoops.{next_added}
 use Rattle.aadl_tree.specs.proof.ValueViews.{association_view, associations_view}
 use Rattle.aadl_tree.specs.proof.PlaceMaps.{kept_place}
 use Rattle.component_checks.specs.Times.{counted_big, list_big}

@@ -1,4 +1,4 @@
-use Rattle.design_laws.proofs.DesignsOfShownInstances.{there_is}
+use Rattle.design_laws.proofs.DesignExistenceAndRules.{there_is}
 use Rattle.design_laws.proofs.designs.designs_are_there.Goals as goal
 
 pub returns : goal.returns

@@ -1,4 +1,4 @@
-use Rattle.design_laws.proofs.DesignsOfShownInstances.{keeps}
+use Rattle.design_laws.proofs.DesignExistenceAndRules.{keeps}
 use Rattle.design_laws.proofs.designs.designs_keep_their_rules.Goals as goal
 
 pub returns : goal.returns

@@ -4,7 +4,7 @@ use Rattle.std.proofs.lemmas.Iterator.{YieldsList-from_slice}
 use Rattle.std.proofs.lemmas.Iterator.Adapters.{total_from_yields_List}
 use Rattle.std.proofs.lemmas.Iterator.Consumers.{YieldsList-from_filter_map}
 use borrow.Author.Tests.{tests}
-use Rattle.input_adaptors.specs.proof.PortsAsNumbers.{number_of}
+use Rattle.input_adaptors.specs.proof.PortValuesAsNumbers.{number_of}
 use Rattle.input_adaptors.proofs.PresentNumbers.{filter_map-number_of, last_or_fold, reduce-later}
 use Rattle.input_adaptors.proofs.group_value.latest.Goals as goal
 

@@ -5,7 +5,7 @@ use Rattle.std.specs.Ordering.{int_cmp, min_by_ordering}
 use Rattle.std.proofs.lemmas.Iterator.{YieldsList-from_slice}
 use Rattle.std.proofs.lemmas.Iterator.Consumers.{reduce_from_yields_List, YieldsList-from_filter_map}
 use borrow.Author.Tests.{tests}
-use Rattle.input_adaptors.specs.proof.PortsAsNumbers.{number_of}
+use Rattle.input_adaptors.specs.proof.PortValuesAsNumbers.{number_of}
 use Rattle.input_adaptors.proofs.PresentNumbers.{filter_map-number_of, reduce_agree, lesser_is}
 use Rattle.input_adaptors.proofs.group_value.least.Goals as goal
 

@@ -1,7 +1,7 @@
 use Rattle.std.proofs.Common.{◌≡◌, ◌∙◌, ap, ℕ, zero, suc, ◌<◌, pos, ℤ, refl, arith}
 use Rattle.std.specs.Int.RustNames.{int_div}
-use Rattle.pals_base.specs.declared.values.PortValue.TheVariants.{Present}
-use Rattle.input_adaptors.specs.proof.PortsAsNumbers.{mean_of}
+use Rattle.pals_base.specs.declared.basic_types.PortValue.TheVariants.{Present}
+use Rattle.input_adaptors.specs.proof.PortValuesAsNumbers.{mean_of}
 use Rattle.input_adaptors.proofs.Quotient.{quotient_is}
 use Rattle.input_adaptors.proofs.group_value.quotient.Goals as goal
 

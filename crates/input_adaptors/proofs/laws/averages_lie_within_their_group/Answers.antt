@@ -1,6 +1,6 @@
-use Rattle.pals_base.specs.declared.values.PortValue.TheVariants.{Present}
+use Rattle.pals_base.specs.declared.basic_types.PortValue.TheVariants.{Present}
 use Rattle.pals_base.specs.declared.allowed_adaptors.Adaptor.TheVariants.{Average}
-use Rattle.input_adaptors.specs.proof.GroupsAndExtremes.{group_at}
+use Rattle.input_adaptors.specs.proof.PlacesAndGroupValues.{group_at}
 use Rattle.input_adaptors.proofs.TupleLengthsAndGroups.{joined-from}
 use Rattle.input_adaptors.proofs.MeanBounds.{IsAboveSome-joined, IsBelowSome-joined}
 use Rattle.input_adaptors.proofs.laws.averages_lie_within_their_group.Goals as goal

@@ -1,6 +1,6 @@
 use Rattle.std.proofs.Common.{◌∙◌, ◌<◌, ◌%◌, sym, ap, arith, slice_index_or}
 use Rattle.pals_base.specs.Adaptors.{spread}
-use Rattle.pals_base.specs.declared.values.PortValue.TheVariants.{Absent}
+use Rattle.pals_base.specs.declared.basic_types.PortValue.TheVariants.{Absent}
 use Rattle.input_adaptors.proofs.SpreadValues.{spread-place, spread-none}
 use Rattle.input_adaptors.proofs.to_higher_rate.spread_place.Goals as goal
 

@@ -1,4 +1,4 @@
-use Rattle.loose_world.proofs.ReportedWorlds.{world_is_reported, world_text_is_reported}
+use Rattle.loose_world.proofs.FinishedWorldReports.{world_is_reported, world_text_is_reported}
 use Rattle.loose_world.proofs.world_laws.worlds_are_reported.Goals as goal
 
 pub returns : goal.returns

@@ -2,7 +2,7 @@ use Rattle.aadl_tree.specs.proof.PackageViews.{placed}
 use Rattle.model_violations.specs.UsedDeclarations.{has}
 use Rattle.model_violations.specs.proof.UnsortedFindings.{shown}
 use Rattle.model_violations.proofs.ThreadsWithinLimits.{root_within, are_small}
-use Rattle.model_violations.proofs.AllFindings.{used_found}
+use Rattle.model_violations.proofs.UnsortedFindings.{used_found}
 use Rattle.model_violations.proofs.all_violations.add_used_findings.Goals as goal
 
 pub used_below-requires : goal.used_below-requires

@@ -3,8 +3,8 @@ use Rattle.std.specs.Prelude.{flat_map}
 use Rattle.aadl_tree.specs.proof.PackageViews.{placed}
 use Rattle.component_checks.specs.ThreadRatesAndFindings.{thread_rate, greatest_rate, thread_findings}
 use Rattle.model_violations.specs.proof.UnsortedFindings.{shown, AddUsed, AreFindings}
-use Rattle.model_violations.proofs.RateBounds.{rates_positive, greatest_fits}
-use Rattle.model_violations.proofs.AllFindings.{all_found}
+use Rattle.model_violations.proofs.RatesWithinLimits.{rates_positive, greatest_fits}
+use Rattle.model_violations.proofs.UnsortedFindings.{all_found}
 use Rattle.model_violations.proofs.all_violations.findings_of.Goals as goal
 
 pub add_root_findings-requires : goal.add_root_findings-requires

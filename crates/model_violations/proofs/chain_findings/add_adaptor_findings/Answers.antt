@@ -4,7 +4,7 @@ use Rattle.aadl_tree.specs.proof.PlaceMaps.{kept_place}
 use Rattle.aadl_tree.specs.proof.DeclarationViews.{connection_view}
 use Rattle.component_checks.specs.AdaptorTexts.{adaptor_named}
 use Rattle.model_violations.specs.ConnectionsAndCarriers.{adaptor_text}
-use Rattle.model_violations.specs.ChainTargets.{end_name, end_kind, end_rate}
+use Rattle.model_violations.specs.ChainEnds.{end_name, end_kind, end_rate}
 use Rattle.model_violations.specs.proof.ThreadRates.{tree_of}
 use Rattle.model_violations.proofs.EqualOrUnknownRates.{nothing_added}
 use Rattle.model_violations.proofs.chain_findings.add_adaptor_findings.Goals as goal

@@ -1,7 +1,7 @@
 use Rattle.std.proofs.Common.{◌∙◌, refl, sym, ap, slice_get}
 use Rattle.std.proofs.lemmas.Option.{none-some, slice_get_read, slice_get_past}
 use Rattle.aadl_tree.specs.proof.PackageViews.{placed}
-use Rattle.aadl_uses.specs.Wiring.{ports_of_connection}
+use Rattle.aadl_uses.specs.PortsOfConnections.{ports_of_connection}
 use Rattle.model_violations.proofs.ConnectionEndTypes.{wire_is, joined}
 use Rattle.model_violations.proofs.connection_findings.wire_at.Goals as goal
 

@@ -1,6 +1,6 @@
 use Rattle.std.proofs.Common.{◌≡◌, [], drop}
 use Rattle.model_violations.specs.IgnoredProperties.{all_behind}
-use Rattle.model_violations.specs.proof.KnownNames.{KnowsAll}
+use Rattle.model_violations.specs.proof.SpellingTables.{KnowsAll}
 use Rattle.model_violations.proofs.distinct_spellings.first_spellings.Given as goal
 
 -- what is left is still to be added, and the table has the names that were added

@@ -5,7 +5,7 @@ use Rattle.aadl_tree.specs.proof.ExpressionViews.{expression_view}
 use Rattle.aadl_tree.specs.proof.ActionViews.{action_view, actions_view, mores_view, elsifs_view}
 use Rattle.aadl_tree.specs.proof.PlaceMaps.{kept_place}
 use Rattle.aadl_tree.proofs.ActionViews.{view-out-choice, view-out-loop, view-out-actions}
-use Rattle.aadl_names.specs.NameUsesInAnnexes.{expression_uses, action_uses, actions_uses, mores_uses, elsifs_uses}
+use Rattle.aadl_names.specs.NameUseFaults.{expression_uses, action_uses, actions_uses, mores_uses, elsifs_uses}
 use Rattle.name_faults.specs.proof.BehaviourScopes.{known_by}
 use Rattle.aadl_names.proofs.FirstFaultSoFar.{found_append, next_found, last_found}
 use Rattle.name_faults.proofs.actions_and_expressions.+actions.Goals as goal

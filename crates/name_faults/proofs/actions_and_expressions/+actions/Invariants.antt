@@ -1,7 +1,7 @@
 use Rattle.std.proofs.Common.{◌≡◌, drop}
 use Rattle.aadl_tree.specs.proof.ActionViews.{mores_view, elsifs_view}
 use Rattle.aadl_tree.specs.proof.PlaceMaps.{kept_place}
-use Rattle.aadl_names.specs.NameUsesInAnnexes.{mores_uses, elsifs_uses}
+use Rattle.aadl_names.specs.NameUseFaults.{mores_uses, elsifs_uses}
 use Rattle.aadl_names.specs.proof.FirstFaultSoFar.{found}
 use Rattle.name_faults.specs.proof.BehaviourScopes.{known_by}
 use Rattle.name_faults.proofs.actions_and_expressions.+actions.Given as goal

@@ -11,8 +11,8 @@ use Rattle.aadl_tree.specs.proof.ExpressionViews.{relation_view, relations_view}
 use Rattle.aadl_tree.specs.proof.PlaceMaps.{kept_place}
 use Rattle.aadl_tree.proofs.ExpressionViews.{view-Group, view-out-sum, view-out-relation, view-out-expression}
 use Rattle.aadl_tree.proofs.ExpressionViews.{view-out-term}
-use Rattle.aadl_names.specs.NameUsesInAnnexes.{factor_uses, factors_uses, term_uses, terms_uses, relation_uses}
-use Rattle.aadl_names.specs.NameUsesInAnnexes.{relations_uses}
+use Rattle.aadl_names.specs.NameUseFaults.{factor_uses, factors_uses, term_uses, terms_uses, relation_uses}
+use Rattle.aadl_names.specs.NameUseFaults.{relations_uses}
 use Rattle.name_faults.specs.proof.BehaviourScopes.{known_by}
 use Rattle.aadl_names.proofs.FirstFaultSoFar.{found_append, next_found, last_found}
 use Rattle.name_faults.proofs.actions_and_expressions.+uses.Goals as goal

@@ -1,7 +1,7 @@
 use Rattle.std.proofs.Common.{◌≡◌, drop}
 use Rattle.aadl_tree.specs.proof.ExpressionViews.{factors_view, terms_view, relations_view}
 use Rattle.aadl_tree.specs.proof.PlaceMaps.{kept_place}
-use Rattle.aadl_names.specs.NameUsesInAnnexes.{factors_uses, terms_uses, relations_uses}
+use Rattle.aadl_names.specs.NameUseFaults.{factors_uses, terms_uses, relations_uses}
 use Rattle.aadl_names.specs.proof.FirstFaultSoFar.{found}
 use Rattle.name_faults.specs.proof.BehaviourScopes.{known_by}
 use Rattle.name_faults.proofs.actions_and_expressions.+uses.Given as goal

@@ -6,7 +6,7 @@ use Rattle.aadl_tree.specs.proof.PlaceMaps.{kept_place}
 use Rattle.aadl_names.specs.proof.FirstFaultSoFar.{found}
 use Rattle.aadl_names.specs.BehaviourAnnexes.{behaviours}
 use Rattle.aadl_names.specs.PackageFaults.{annex_faults}
-use Rattle.name_faults.proofs.AnnexBehaviours.{next_annex, last_annex, as_annexes}
+use Rattle.name_faults.proofs.AnnexFaults.{next_annex, last_annex, as_annexes}
 use Rattle.name_faults.proofs.behaviours.check_behaviours.Goals as goal
 
 pub loop-annex-preserved : goal.loop-annex-preserved

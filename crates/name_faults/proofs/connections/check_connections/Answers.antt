@@ -9,8 +9,8 @@ use Rattle.aadl_tree.specs.proof.DeclarationViews.{implementation_view, connecti
 use Rattle.aadl_tree.specs.proof.PlaceMaps.{kept_place}
 use Rattle.aadl_names.specs.PackageFaults.{connection_faults}
 use Rattle.aadl_names.proofs.FirstFaultSoFar.{next_found, last_found}
-use Rattle.aadl_uses.specs.Wiring.{ports_of_connection}
-use Rattle.name_faults.proofs.NumberedFindings.{made_of}
+use Rattle.aadl_uses.specs.PortsOfConnections.{ports_of_connection}
+use Rattle.name_faults.proofs.FaultsByDeclaration.{made_of}
 use Rattle.name_faults.proofs.NumberedImplementations.{wires_are, joined}
 use Rattle.name_faults.proofs.connections.check_connections.Goals as goal
 

@@ -10,7 +10,7 @@ use Rattle.aadl_names.specs.proof.FirstFaultSoFar.{found}
 use Rattle.aadl_names.specs.Spelling.{spelled_name}
 use Rattle.aadl_names.specs.PackageFaults.{declaration_faults, wrong_names}
 use Rattle.aadl_names.proofs.FirstFaultSoFar.{found_append}
-use Rattle.name_faults.proofs.NumberedFindings.{next_numbered, last_numbered, numbered}
+use Rattle.name_faults.proofs.FaultsByDeclaration.{next_numbered, last_numbered, numbered}
 use Rattle.name_faults.proofs.declarations.check_declarations.Goals as goal
 
 pub check_declaration-requires : goal.check_declaration-requires

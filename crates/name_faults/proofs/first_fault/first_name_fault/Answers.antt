@@ -3,7 +3,7 @@ use Rattle.aadl_tree.specs.proof.PackageViews.{placed}
 use Rattle.aadl_names.specs.proof.FirstFaultSoFar.{found}
 use Rattle.aadl_names.specs.PackageFaults.{wrong_names}
 use Rattle.aadl_names.proofs.FirstFaultSoFar.{found_append}
-use Rattle.aadl_names.specs.proof.PortDuplicates.{beside_names}
+use Rattle.aadl_names.specs.proof.DuplicatesBesidePorts.{beside_names}
 use Rattle.aadl_names.proofs.FirstPackageFault.{first_fault}
 use Rattle.name_faults.proofs.first_fault.first_name_fault.Goals as goal
 

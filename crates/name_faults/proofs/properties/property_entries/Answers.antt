@@ -3,7 +3,7 @@ use Rattle.aadl_tree.specs.Values.{associate, no_associations}
 use Rattle.aadl_tree.specs.proof.ValueViews.{association_view, associations_view}
 use Rattle.aadl_tree.specs.proof.PlaceMaps.{kept_place}
 use Rattle.aadl_names.specs.RecognisedProperties.{property_entries}
-use Rattle.aadl_names.proofs.GrowingLists.{next_added, last_added}
+use Rattle.aadl_names.proofs.ListBuildingLoops.{next_added, last_added}
 use Rattle.name_faults.proofs.PropertyEntries.{entries-cons}
 use Rattle.name_faults.proofs.properties.property_entries.Goals as goal
 

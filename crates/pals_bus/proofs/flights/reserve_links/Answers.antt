@@ -1,7 +1,7 @@
 use Rattle.std.proofs.Common.{◌∙◌, ◌<◌, ◌≤◌, length, slice_index_or, refl, ap, arith}
 use Rattle.std.proofs.lemmas.List.{get_or_default}
 use Rattle.std.proofs.lemmas.List.Elements.{All-from_get_or}
-use Rattle.pals_base.specs.declared.values.LinkNo.{LinkNo}
+use Rattle.pals_base.specs.declared.basic_types.LinkNo.{LinkNo}
 use Rattle.link_buffers.specs.proof.Flights.{FlightState}
 use Rattle.pals_bus.specs.proof.OutOfRangeDefaults.{no_flight, no_link_no}
 use Rattle.pals_bus.proofs.RoundMessages.{reserved_one}

@@ -1,6 +1,6 @@
 use Rattle.pals_model.specs.declared.design.Component.{Component}
 use Rattle.bus_machine.specs.Plans.{no_component}
-use Rattle.pals_bus.specs.proof.LinksFrom.{no_numbers}
+use Rattle.pals_bus.specs.proof.LinksFromNodes.{no_numbers}
 use Rattle.pals_bus.proofs.Openings.{map_more}
 use Rattle.pals_bus.proofs.outgoing_links.empty_lists.Goals as goal
 

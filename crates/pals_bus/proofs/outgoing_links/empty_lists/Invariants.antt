@@ -1,6 +1,6 @@
 use Rattle.std.proofs.Common.{◌≡◌, map, take}
 use Rattle.pals_model.specs.declared.design.Component.{Component}
-use Rattle.pals_bus.specs.proof.LinksFrom.{no_numbers}
+use Rattle.pals_bus.specs.proof.LinksFromNodes.{no_numbers}
 use Rattle.pals_bus.proofs.outgoing_links.empty_lists.Given as goal
 
 -- the list of each component so far is empty

@@ -1,4 +1,4 @@
-use Rattle.pals_model.proofs.CounterRounds.{counters_count}
+use Rattle.pals_model.proofs.TwoCounters.{counters_count}
 use Rattle.pals_model.proofs.laws.two_counters.Goals as goal
 
 pub returns : goal.returns

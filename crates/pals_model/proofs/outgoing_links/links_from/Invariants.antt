@@ -1,6 +1,6 @@
 use Rattle.std.proofs.Common.{◌≡◌, ◌++◌, map, drop, nat_eq}
 use Rattle.pals_model.specs.declared.design.Link.{Link}
-use Rattle.pals_base.specs.declared.values.LinkNo.{LinkNo}
+use Rattle.pals_base.specs.declared.basic_types.LinkNo.{LinkNo}
 use Rattle.pals_model.proofs.FilteredLinks.{numbers_of}
 use Rattle.pals_model.proofs.outgoing_links.links_from.Given as goal
 

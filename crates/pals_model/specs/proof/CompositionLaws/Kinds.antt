@@ -1,7 +1,7 @@
 -- Laws of the kinds of values: a Boolean stays 0 or 1.
 use Rattle.std.specs.Prelude.{◌≡◌, ℕ, List, [], Some, slice_get, slice_index_or}
 use Rattle.pals_base.specs.declared.frames.Frame.{Frame}
-use Rattle.pals_base.specs.declared.values.PortValue.{PortValue}
+use Rattle.pals_base.specs.declared.basic_types.PortValue.{PortValue}
 use Rattle.pals_base.specs.declared.behaviour.BehaviourParts.{BehaviourParts}
 use Rattle.pals_base.specs.SingleStep.{HasShape, fire}
 use Rattle.pals_base.specs.BehaviourRules.{IsBehaviour}
@@ -14,7 +14,7 @@ use Rattle.pals_model.specs.declared.part.Part.{Part}
 use Rattle.pals_model.specs.Composition.{state, msg, part, taps_of}
 use Rattle.pals_model.specs.PortKinds.{out_kind}
 use Rattle.pals_model.specs.DesignRules.{IsDesign}
-use Rattle.pals_model.specs.proof.FittingValues.{FrameFits, PortsFit, TupleFits, link_kind, EnvFits}
+use Rattle.pals_model.specs.proof.ValuesFitKinds.{FrameFits, PortsFit, TupleFits, link_kind, EnvFits}
 
 -- ---- one step
 pub record StepFits (b : BehaviourParts) (frame : Frame) (inputs : List PortValue) : Type 0 where

@@ -3,7 +3,7 @@ use Rattle.std.specs.Prelude.{◌≡◌, ℕ, List, IsSomeAnd, Some, slice_get}
 use Rattle.pals_model.specs.declared.design.Component.{Component}
 use Rattle.pals_model.specs.declared.design.Link.{Link}
 use Rattle.pals_model.specs.declared.design.DesignParts.{DesignParts}
-use Rattle.pals_model.specs.NamesInTexts.{target_name, link_name, node_named, link_named}
+use Rattle.pals_model.specs.ComponentAndLinkNames.{target_name, link_name, node_named, link_named}
 use Rattle.pals_model.specs.DesignRules.{IsTarget, IsDesign}
 
 -- ---- components

@@ -1,6 +1,6 @@
 -- Laws of the shapes of what the composition has.
 use Rattle.std.specs.Prelude.{◌≡◌, ℕ, suc, List, [], length, All, Some, slice_get, slice_index_or}
-use Rattle.pals_base.specs.declared.values.PortValue.{PortValue}
+use Rattle.pals_base.specs.declared.basic_types.PortValue.{PortValue}
 use Rattle.pals_base.specs.SingleStep.{HasShape}
 use Rattle.pals_model.specs.declared.design.Component.{Component}
 use Rattle.pals_model.specs.declared.design.Link.{Link}

@@ -1,6 +1,6 @@
 use Rattle.std.proofs.Common.{◌∙◌, ◌++◌, ◌∷◌, [], ℕ, List, map, sym, ap₂}
 use Rattle.std.specs.Prelude.{Option, zip}
-use Rattle.pals_base.specs.declared.values.PortValue.{PortValue}
+use Rattle.pals_base.specs.declared.basic_types.PortValue.{PortValue}
 use Rattle.pals_base.specs.Tuples.{column}
 use Rattle.pals_base.proofs.UpwardNumbers.{map_upwards_more}
 use Rattle.bus_machine.specs.declared.plan.Input.{Input}

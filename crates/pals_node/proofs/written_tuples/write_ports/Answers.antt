@@ -2,7 +2,7 @@ use Rattle.std.proofs.Common.{◌≡◌, ◌∙◌, ◌<◌, ℕ, [], sym, ap, l
 use Rattle.std.proofs.lemmas.List.{length-set, length-map, get_or-map}
 use Rattle.std.proofs.lemmas.List.Elements.{All-set}
 use Rattle.list_lemmas.proofs.ListOperations.{filled_more, filled_all}
-use Rattle.pals_base.specs.declared.values.PortValue.{PortValue}
+use Rattle.pals_base.specs.declared.basic_types.PortValue.{PortValue}
 use Rattle.pals_base.specs.Tuples.{cut}
 use Rattle.pals_base.proofs.ColumnsAndCutTuples.{length-cut}
 use Rattle.pals_node.proofs.written_tuples.write_ports.Goals as goal

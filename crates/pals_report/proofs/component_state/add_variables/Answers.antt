@@ -6,7 +6,7 @@ use Rattle.std.proofs.lemmas.Slice.Zip.{zip_turn, zip_end}
 use Rattle.std.specs.Slice.Iter.{iter_rest}
 use Rattle.std.specs.Iterator.Adapters.{zip_first, zip_second}
 use Rattle.pals_model.specs.RoundTexts.{variable_text}
-use Rattle.pals_report.proofs.ListTexts.{vars_text-turn, vars_text-all}
+use Rattle.pals_report.proofs.CommaListsAndVariables.{vars_text-turn, vars_text-all}
 use Rattle.pals_report.proofs.TextPrefixes.{begins_on_err}
 use Rattle.pals_report.proofs.component_state.add_variables.Goals as goal
 

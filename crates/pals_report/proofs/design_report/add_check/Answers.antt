@@ -4,7 +4,7 @@ use Rattle.std.proofs.lemmas.List.Elements.{All-map}
 use Rattle.std.proofs.lemmas.Result.{on_ok_weaker}
 use Rattle.pals_model.specs.RoundTexts.{text_of}
 use Rattle.bound_checker.specs.proof.OverflowLimits.{IsRate}
-use Rattle.bound_checker.specs.ShortestPeriods.{IsLeastMultiple, HasNoMultiple}
+use Rattle.bound_checker.specs.LeastMultiples.{IsLeastMultiple, HasNoMultiple}
 use Rattle.pals_report.proofs.TextPrefixes.{joined_on_ok}
 use Rattle.pals_report.specs.CheckReports.{rate_of, check_lines, IsShortest}
 use Rattle.pals_report.proofs.design_report.add_check.Goals as goal

@@ -1,5 +1,5 @@
 use Rattle.std.proofs.Common.{◌++◌, codes, ap, ◌∙◌}
-use Rattle.pals_base.specs.PeriodBound.{least_period}
+use Rattle.pals_base.specs.PeriodBoundAndReleases.{least_period}
 use Rattle.pals_model.specs.DesignRules.{greatest_rate}
 use Rattle.pals_model.specs.RoundTexts.{line_end}
 use Rattle.pals_report.proofs.TextPrefixes.{last_on_ok, last_on_err}

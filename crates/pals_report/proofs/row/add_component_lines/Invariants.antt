@@ -1,6 +1,6 @@
 use Rattle.std.proofs.Common.{◌≡◌, ◌++◌, drop}
 use Rattle.pals_model.specs.RoundTexts.{text_of}
-use Rattle.pals_report.specs.proof.PartialWrites.{BeginsWith}
+use Rattle.pals_report.specs.proof.TextPrefixes.{BeginsWith}
 use Rattle.pals_report.specs.proof.RowLines.{component_lines_from}
 use Rattle.pals_report.proofs.row.add_component_lines.Given as goal
 

@@ -1,5 +1,5 @@
 use Rattle.pals_model.specs.RoundTexts.{port_text}
-use Rattle.pals_report.proofs.ListTexts.{with_commas-all}
+use Rattle.pals_report.proofs.CommaListsAndVariables.{with_commas-all}
 use Rattle.pals_report.proofs.value.add_places.Goals as goal
 
 pub returns-clause-ok : goal.returns-clause-ok

@@ -1,5 +1,5 @@
 use Rattle.std.proofs.Common.{subst}
-use Rattle.pals_top.specs.proof.CodedBundles.{IsCoded, IsMeaning}
+use Rattle.pals_top.specs.proof.BundlesWithCodes.{IsCoded, IsMeaning}
 use Rattle.pals_top.specs.proof.StatusAndText.{status_of, text_of}
 use Rattle.pals_top.proofs.ExecutionAnswers.{refused, executed}
 use Rattle.pals_top.proofs.execution.answer_execution.Goals as goal

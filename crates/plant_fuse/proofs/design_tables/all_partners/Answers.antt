@@ -1,6 +1,6 @@
 use Rattle.std.proofs.Common.{◌∙◌, [], ◌∷◌, ◌++◌, ap₂, sym}
 use Rattle.pals_base.proofs.UpwardNumbers.{map_upwards_more}
-use Rattle.plant_fuse.specs.proof.Partners.{partner_of}
+use Rattle.plant_fuse.specs.proof.PartnersAndPairLinks.{partner_of}
 use Rattle.plant_fuse.proofs.design_tables.all_partners.Goals as goal
 
 pub loop-node-preserved : goal.loop-node-preserved

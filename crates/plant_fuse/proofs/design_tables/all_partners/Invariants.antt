@@ -1,6 +1,6 @@
 use Rattle.std.proofs.Common.{◌≡◌, map}
 use Rattle.pals_base.specs.UpwardNumbers.{upwards}
-use Rattle.plant_fuse.specs.proof.Partners.{partner_of}
+use Rattle.plant_fuse.specs.proof.PartnersAndPairLinks.{partner_of}
 use Rattle.plant_fuse.proofs.design_tables.all_partners.Given as goal
 
 abbrev pub invariant-loop-node : goal.invariant-loop-node

@@ -1,5 +1,5 @@
 use Rattle.std.proofs.Common.{◌≡◌, drop}
-use Rattle.plant_fuse.specs.proof.Partners.{partner_of}
+use Rattle.plant_fuse.specs.proof.PartnersAndPairLinks.{partner_of}
 use Rattle.plant_fuse.proofs.design_tables.partner.Given as goal
 
 -- it stands in none of the first pairs

@@ -1,4 +1,4 @@
-use Rattle.plant_fuse.proofs.NextRoundSolutions.{rounds_go_on}
+use Rattle.plant_fuse.proofs.LastRoundOfSolution.{rounds_go_on}
 use Rattle.plant_fuse.proofs.RoundUniqueness.{round_is_one}
 use Rattle.plant_fuse.proofs.IteratedRounds.{rounds_follow}
 use Rattle.plant_fuse.proofs.laws.rounds_go_on.Goals as goal

@@ -1,4 +1,4 @@
-use Rattle.plant_fuse.proofs.SolutionSteps.{steps_are_made}
+use Rattle.plant_fuse.proofs.SequentialSteps.{steps_are_made}
 use Rattle.plant_fuse.proofs.laws.steps_are_made.Goals as goal
 
 pub returns : goal.returns

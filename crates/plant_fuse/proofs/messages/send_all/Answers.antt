@@ -3,7 +3,7 @@ use Rattle.std.proofs.Common.{arith}
 use Rattle.std.proofs.lemmas.List.{length-map}
 use Rattle.std.proofs.lemmas.Option.{slice_get-get_or}
 use Rattle.list_lemmas.proofs.ListOperations.{filled_more}
-use Rattle.pals_base.specs.declared.values.PortValue.{PortValue}
+use Rattle.pals_base.specs.declared.basic_types.PortValue.{PortValue}
 use Rattle.pals_base.proofs.ColumnsAndCutTuples.{length-cut}
 use Rattle.pals_model.specs.declared.design.DesignParts.{DesignParts}
 use Rattle.pals_model.specs.declared.design.Link.{Link}
@@ -15,11 +15,11 @@ use Rattle.sync_product.proofs.SizePreservation.{same_sizes}
 use Rattle.sync_product.proofs.ComponentLists.{count_of_sized}
 use Rattle.sync_product.proofs.LinkMessages.{sized_message}
 use Rattle.sync_product.proofs.PortColumns.{length-column}
-use Rattle.plant_fuse.specs.proof.Partners.{is_inside}
+use Rattle.plant_fuse.specs.proof.PartnersAndPairLinks.{is_inside}
 use Rattle.plant_fuse.specs.proof.Messages.{sent_on}
-use Rattle.sync_product.proofs.StepRoom.{count_of_stages}
+use Rattle.sync_product.proofs.ComponentSizes.{count_of_stages}
 use Rattle.plant_fuse.proofs.PartnerListLength.{count_of_partners}
-use Rattle.plant_fuse.proofs.PairAndLoneWork.{partner_entry}
+use Rattle.plant_fuse.proofs.RoundWork.{partner_entry}
 use Rattle.plant_fuse.proofs.LinkMessages.{sent_item}
 use Rattle.plant_fuse.proofs.messages.send_all.Goals as goal
 

@@ -1,5 +1,5 @@
 use Rattle.std.proofs.Common.{◌≡◌, List, length, map, take}
-use Rattle.pals_base.specs.declared.values.PortValue.{PortValue}
+use Rattle.pals_base.specs.declared.basic_types.PortValue.{PortValue}
 use Rattle.sync_product.specs.proof.ProductSizes.{message_sizes}
 use Rattle.plant_fuse.specs.proof.Messages.{sent_on}
 use Rattle.plant_fuse.proofs.messages.send_all.Given as goal

@@ -1,6 +1,6 @@
 use Rattle.std.proofs.Common.{◌≡◌, ◌∙◌, ◌+◌, ◌<◌, List, [], length, take, Some, slice_index_or, sym, ap, arith}
 use Rattle.std.proofs.lemmas.List.{take_more_set, get_or-set_same, length-take-le}
-use Rattle.pals_base.specs.declared.values.PortValue.{PortValue}
+use Rattle.pals_base.specs.declared.basic_types.PortValue.{PortValue}
 use Rattle.pals_base.specs.SingleStep.{fire}
 use Rattle.sync_product.specs.proof.ProductSizes.{StageSize, stage_size}
 use Rattle.sync_product.proofs.TupleLengths.{count_of_rows, length_of_row}

@@ -2,7 +2,7 @@ use Rattle.std.proofs.Common.{◌<◌, sym, length, refl, arith}
 use Rattle.std.proofs.lemmas.List.{get_or-map}
 use Rattle.pals_model.specs.declared.part.Part.{Part}
 use Rattle.pals_model.specs.Composition.{no_frame}
-use Rattle.sync_product.proofs.StepRoom.{count_of_parts}
+use Rattle.sync_product.proofs.ComponentSizes.{count_of_parts}
 use Rattle.plant_fuse.proofs.round.paired.Goals as goal
 
 pub bounds-parts-at : goal.bounds-parts-at

@@ -4,8 +4,8 @@ use Rattle.std.proofs.lemmas.Option.{slice_get-get_or, slice_get_within, same_So
 use Rattle.pals_runs.specs.declared.plant_pairs.Pair.{Pair}
 use Rattle.sync_product.specs.proof.Rounds.{frames_of}
 use Rattle.plant_fuse.specs.proof.RoundWork.{IsRun}
-use Rattle.plant_fuse.proofs.ComponentPairs.{none_apart, pair_at, others_apart}
-use Rattle.plant_fuse.proofs.PairAndLoneWork.{run_stays, stepped_stays}
+use Rattle.plant_fuse.proofs.PartnersAndPairLinks.{none_apart, pair_at, others_apart}
+use Rattle.plant_fuse.proofs.RoundWork.{run_stays, stepped_stays}
 use Rattle.plant_fuse.proofs.round.run_all.Goals as goal
 
 abbrev no_pair : Pair

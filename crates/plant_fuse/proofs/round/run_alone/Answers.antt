@@ -2,9 +2,9 @@ use Rattle.std.proofs.Common.{◌≡◌, ◌≢◌, ◌∙◌, ◌<◌, inl, inr
 use Rattle.std.proofs.lemmas.Bool.{cases_lt}
 use Rattle.std.proofs.lemmas.Option.{slice_get_within, same_Some}
 use Rattle.sync_product.specs.proof.Rounds.{IsStepped, frames_of}
-use Rattle.plant_fuse.specs.proof.Partners.{partner_of}
+use Rattle.plant_fuse.specs.proof.PartnersAndPairLinks.{partner_of}
 use Rattle.plant_fuse.proofs.PartnerListLength.{count_of_partners}
-use Rattle.plant_fuse.proofs.PairAndLoneWork.{partner_entry, stepped_stays}
+use Rattle.plant_fuse.proofs.RoundWork.{partner_entry, stepped_stays}
 use Rattle.plant_fuse.proofs.round.run_alone.Goals as goal
 
 pub index-requires : goal.index-requires

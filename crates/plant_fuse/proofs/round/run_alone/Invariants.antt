@@ -2,7 +2,7 @@ use Rattle.std.proofs.Common.{◌≡◌, ◌<◌, ℕ, map, slice_get, Some, Non
 use Rattle.pals_model.specs.declared.design.Component.{Component}
 use Rattle.sync_product.specs.proof.Rounds.{IsStepped, frames_of}
 use Rattle.sync_product.specs.proof.ProductSizes.{part_size, stage_size}
-use Rattle.plant_fuse.specs.proof.Partners.{partner_of}
+use Rattle.plant_fuse.specs.proof.PartnersAndPairLinks.{partner_of}
 use Rattle.plant_fuse.proofs.round.run_alone.Given as goal
 
 -- the first components that stand in no pair have made their steps, and the sizes stay

@@ -10,8 +10,8 @@ use Rattle.sync_product.specs.proof.ProductSizes.{part_size, stage_size}
 use Rattle.plant_fuse.specs.proof.RoundWork.{IsRun, StayBeside}
 use Rattle.plant_fuse.specs.proof.PairSteps.{AreSidesRun}
 use Rattle.plant_fuse.specs.proof.TakenElements.{TakenFrom}
-use Rattle.sync_product.proofs.StepRoom.{count_of_parts, count_of_stages}
-use Rattle.plant_fuse.proofs.PairAndLoneWork.{pair_is_run}
+use Rattle.sync_product.proofs.ComponentSizes.{count_of_parts, count_of_stages}
+use Rattle.plant_fuse.proofs.RoundWork.{pair_is_run}
 use Rattle.plant_fuse.proofs.PairRoom.{paired_fits}
 use Rattle.plant_fuse.proofs.TakenElements.{kept_get, kept_length, back_first, back_second, back_other, seen_back}
 use Rattle.plant_fuse.proofs.round.run_pair.Goals as goal

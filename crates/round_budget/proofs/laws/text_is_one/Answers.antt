@@ -1,4 +1,4 @@
-use Rattle.round_budget.proofs.UniqueTextsAndVerdicts.{text_is_one, verdict_is_one}
+use Rattle.round_budget.proofs.UniqueBudgets.{text_is_one, verdict_is_one}
 use Rattle.round_budget.proofs.laws.text_is_one.Goals as goal
 
 pub returns : goal.returns

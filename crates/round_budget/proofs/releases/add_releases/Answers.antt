@@ -1,6 +1,6 @@
 use Rattle.std.proofs.Common.{◌≡◌, ◌∙◌, ℕ, ◌+◌, ◌*◌, [], ◌∷◌, ◌++◌, map, ap, sym, append_assoc, arith}
 use Rattle.std.proofs.lemmas.List.{map_push}
-use Rattle.pals_base.specs.PeriodBound.{alarm, step_period}
+use Rattle.pals_base.specs.PeriodBoundAndReleases.{alarm, step_period}
 use Rattle.pals_base.specs.UpwardNumbers.{upwards}
 use Rattle.pals_base.proofs.UpwardNumbers.{map_upwards_more}
 use Rattle.pals_model.specs.declared.design.DesignParts.{DesignParts}

@@ -1,7 +1,7 @@
 use Rattle.std.proofs.Common.{◌≡◌, ◌∙◌, ℕ, ◌+◌, ◌*◌, List, map, ap, sym, subst, arith}
 use Rattle.std.specs.Prelude.{IfOk}
 use Rattle.std.specs.List.{AllByRecursion as Every}
-use Rattle.pals_base.specs.PeriodBound.{alarm}
+use Rattle.pals_base.specs.PeriodBoundAndReleases.{alarm}
 use Rattle.round_budget.specs.Budgets as budgets
 use Rattle.round_budget.specs.Budgets.{releases, in_order, serve, by_most, line_from, numbers}
 use Rattle.round_budget.specs.proof.ReleaseAndLineValues.{release_value, line_value}

@@ -1,7 +1,7 @@
 use Rattle.std.proofs.Common.{◌≡◌, ◌∙◌, ℕ, true, length, ap₂, sym, arith}
 use Rattle.std.proofs.lemmas.List.{length-map}
-use Rattle.pals_base.specs.declared.values.NodeNo.{NodeNo}
-use Rattle.pals_base.specs.declared.period_bound.Gamma.{Gamma}
+use Rattle.pals_base.specs.declared.basic_types.NodeNo.{NodeNo}
+use Rattle.pals_base.specs.declared.period_bound_and_releases.Gamma.{Gamma}
 use Rattle.round_budget.specs.Budgets.{total, fits, numbers}
 use Rattle.round_budget.proofs.ProcessorMembers.{rising_few}
 use Rattle.round_budget.proofs.TimetablePromises.{budgeted_by, respond_in_time, timetable_is_each}

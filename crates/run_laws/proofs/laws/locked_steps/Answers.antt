@@ -1,4 +1,4 @@
-use Rattle.run_laws.proofs.DueArrivalsAndListPicks.{list_picks, list_ends, due_arrives}
+use Rattle.run_laws.proofs.ClockAnswersAndDueArrivals.{list_picks, list_ends, due_arrives}
 use Rattle.run_laws.proofs.EndedListClocks.{stays_ended}
 use Rattle.run_laws.proofs.laws.locked_steps.Goals as goal
 

@@ -3,7 +3,7 @@ use Rattle.std.proofs.lemmas.Bool.{or_left, or_right}
 use Rattle.pals_runs.specs.declared.forms.Form.{Form}
 use Rattle.pals_runs.specs.Formula.{Not, And, Or, Previous, Once, Historically, Since}
 use Rattle.pals_runs.specs.proof.FormulasOfForms.{formula_of}
-use Rattle.pals_runs.specs.proof.FormulaComponents.{names}
+use Rattle.pals_runs.specs.proof.ComponentsInFormulas.{names}
 use Rattle.run_monitor.proofs.FlatForms.{over_one, KeepsBoth, over_two}
 use Rattle.run_monitor.proofs.flat_form.+add.Goals as goal
 

@@ -1,4 +1,4 @@
-use Rattle.run_monitor.proofs.HistoryGrowth.{history_has_rounds, history_goes_on, said_at_once}
+use Rattle.run_monitor.proofs.FrameRowGrowth.{history_has_rounds, history_goes_on, said_at_once}
 use Rattle.run_monitor.proofs.WatchTextGrowth.{rows_go_on}
 use Rattle.run_monitor.proofs.laws.histories_grow.Goals as goal
 

@@ -1,5 +1,5 @@
 use Rattle.std.proofs.Common.{◌≡◌, map, take, string_bytes}
-use Rattle.pals_model.specs.NamesInTexts.{link_name}
+use Rattle.pals_model.specs.ComponentAndLinkNames.{link_name}
 use Rattle.scenario_values.proofs.design_names.link_names.Given as goal
 
 abbrev pub invariant-loop-link : goal.invariant-loop-link

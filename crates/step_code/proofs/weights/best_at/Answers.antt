@@ -6,7 +6,7 @@ use Rattle.step_code.specs.PathWeights.{forward_successors, greatest, weight_at}
 use Rattle.step_code.specs.proof.VerifierAnswers.{AreThere}
 use Rattle.step_code.specs.CappedWeights.{capped}
 use Rattle.step_code.proofs.CheckedPlaces.{known_there}
-use Rattle.step_code.proofs.VerifiedPlaces.{verified_known}
+use Rattle.step_code.proofs.VerifiedInstructionsAndEntries.{verified_known}
 use Rattle.step_code.proofs.CappedWeights.{best_here}
 use Rattle.step_code.proofs.weights.best_at.Goals as goal
 

@@ -4,11 +4,11 @@ use mir.Syntax.{w64}
 use mir.Val.{SFits}
 use Rattle.list_lemmas.proofs.Results.{OnOk-weaker}
 use Rattle.pals_base.specs.proof.TreeViews.{tree_of, action_of, actions_along, branches_along}
-use Rattle.pals_base.specs.PlainTrees.{For, Where, NoBranch}
+use Rattle.pals_base.specs.ExpressionAndActionTrees.{For, Where, NoBranch}
 use Rattle.pals_base.proofs.TreeViews.{action_of-If, action_of-For}
 use Rattle.step_code.specs.declared.instr.Instr.TheVariants as code
 use Rattle.step_code.specs.CodeLengths.{length_of, length_act, length_acts, length_branches}
-use Rattle.step_compiler.specs.TreeInstructions.{code_of, code_act, code_acts, code_branches}
+use Rattle.step_compiler.specs.ExpressionAndActionInstructions.{code_of, code_act, code_acts, code_branches}
 use Rattle.step_compiler.proofs.PlacedCodeLengths.{code-length, act-length, branches-length}
 use Rattle.step_compiler.proofs.AppendedCode.{both_parts, more_parts, next_act, next_branch, between, between_two}
 use Rattle.step_compiler.proofs.LayoutSplits.{branches_split}

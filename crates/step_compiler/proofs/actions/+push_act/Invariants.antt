@@ -1,6 +1,6 @@
 use Rattle.std.proofs.Common.{◌≡◌, ◌++◌, length, drop}
 use Rattle.pals_base.specs.proof.TreeViews.{actions_along, branches_along}
-use Rattle.step_compiler.specs.TreeInstructions.{code_acts, code_branches}
+use Rattle.step_compiler.specs.ExpressionAndActionInstructions.{code_acts, code_branches}
 use Rattle.step_compiler.proofs.actions.+push_act.Given as goal
 
 -- the code so far, and that of the actions that are left

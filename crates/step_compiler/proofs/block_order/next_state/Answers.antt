@@ -1,10 +1,10 @@
 use Rattle.std.proofs.Common.{◌≡◌, ◌∙◌, ◌<◌, Bool, true, false, ◌&&◌, not, List, length, slice_index_or, sym, ap, arith}
 use Rattle.std.specs.Prelude.{fold, replicate}
-use Rattle.pals_base.specs.PlainTrees.{Edge}
+use Rattle.pals_base.specs.ExpressionAndActionTrees.{Edge}
 use Rattle.pals_base.specs.declared.behaviour.BehaviourParts.{BehaviourParts}
 use Rattle.step_compiler.specs.proof.BlockOrder.{is_placed, is_awaited, may_follow, states_outside, with_target}
 use Rattle.step_compiler.proofs.NumbersFromZero.{found, skipped}
-use Rattle.step_compiler.proofs.OutsideTransitionMarks.{outside_tells, awaited_tells}
+use Rattle.step_compiler.proofs.AwaitedStateMarks.{outside_tells, awaited_tells}
 use Rattle.step_compiler.proofs.block_order.next_state.Goals as goal
 use Rattle.step_compiler.proofs.block_order.next_state.Goals.{else-item_at-via-then-item_at+else-not-item_at}
 use Rattle.step_compiler.proofs.block_order.next_state.Goals.{else-item_at-via-else-item_at}

@@ -1,11 +1,11 @@
 use Rattle.std.proofs.Common.{◌≡◌, ◌∙◌, ◌+◌, pos, ◌∷◌, ◌++◌, length, drop, refl, sym, ap, arith}
 use Rattle.list_lemmas.proofs.Results.{OnOk-weaker}
 use Rattle.pals_base.specs.proof.TreeViews.{tree_of, operands_along}
-use Rattle.pals_base.specs.PlainTrees.{Chain}
+use Rattle.pals_base.specs.ExpressionAndActionTrees.{Chain}
 use Rattle.pals_base.proofs.TreeViews.{tree_of-Chain}
 use Rattle.step_code.specs.declared.instr.Instr.TheVariants as code
 use Rattle.step_code.specs.CodeLengths.{operand_length, length_of}
-use Rattle.step_compiler.specs.TreeInstructions.{operand_code, code_of, code_rest}
+use Rattle.step_compiler.specs.ExpressionAndActionInstructions.{operand_code, code_of, code_rest}
 use Rattle.step_compiler.proofs.PlacedCodeLengths.{code-length, operand-length}
 use Rattle.step_compiler.proofs.AppendedCode.{both_parts, more_parts, next_operand, behind_three}
 use Rattle.step_compiler.proofs.expressions.+push_expr.Goals as goal

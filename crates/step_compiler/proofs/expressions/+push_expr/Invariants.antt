@@ -1,6 +1,6 @@
 use Rattle.std.proofs.Common.{◌≡◌, ◌++◌, length, drop}
 use Rattle.pals_base.specs.proof.TreeViews.{operands_along}
-use Rattle.step_compiler.specs.TreeInstructions.{code_rest}
+use Rattle.step_compiler.specs.ExpressionAndActionInstructions.{code_rest}
 use Rattle.step_compiler.proofs.expressions.+push_expr.Given as goal
 
 -- the code so far, and that of the operands that are left

@@ -2,10 +2,10 @@ use Rattle.std.proofs.Common.{◌≡◌, ◌∙◌, [], ◌∷◌, ◌++◌, len
 use Rattle.std.specs.Prelude.{slice_get}
 use Rattle.list_lemmas.proofs.Results.{OnOk-weaker}
 use Rattle.pals_base.specs.SingleStep.{completes, is_complete}
-use Rattle.pals_base.specs.PlainTrees.{Edge}
+use Rattle.pals_base.specs.ExpressionAndActionTrees.{Edge}
 use Rattle.pals_base.specs.proof.TreeViews.{trigger_of, actions_along}
 use Rattle.step_code.specs.CodeLengths.{length_trigger}
-use Rattle.step_compiler.specs.TreeInstructions.{code_acts}
+use Rattle.step_compiler.specs.ExpressionAndActionInstructions.{code_acts}
 use Rattle.step_compiler.specs.BlockInstructions.{trigger_code, last_instr, false_guard_target}
 use Rattle.step_compiler.specs.proof.BlockLengthsAndStarts.{in_list}
 use Rattle.step_compiler.proofs.PlacedCodeLengths.{trigger-length}

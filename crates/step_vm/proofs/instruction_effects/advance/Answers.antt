@@ -5,8 +5,8 @@ use Rattle.std.specs.Prelude.{not, slice_get, int_lt, false, if◌then◌else◌
 use Rattle.std.proofs.lemmas.Option.{slice_get-get_or}
 use mir.Syntax.{w64}
 use mir.Val.{SFits}
-use Rattle.pals_base.specs.declared.values.PortValue.TheVariants as port
-use Rattle.pals_base.specs.declared.values.PortValue.{PortValue as Value}
+use Rattle.pals_base.specs.declared.basic_types.PortValue.TheVariants as port
+use Rattle.pals_base.specs.declared.basic_types.PortValue.{PortValue as Value}
 use Rattle.pals_base.specs.SingleStep.{is_present}
 use Rattle.pals_base.specs.ExpressionValues.{is_true, truth}
 use Rattle.step_code.specs.declared.instr.Instr.{Instr}

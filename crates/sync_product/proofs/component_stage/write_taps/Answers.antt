@@ -1,7 +1,7 @@
 use Rattle.std.proofs.Common.{◌≡◌, ◌∙◌, ℕ, List, ap, sym, length, map, slice_index_or, arith}
 use Rattle.std.proofs.lemmas.List.{length-map, get_or-map}
 use Rattle.list_lemmas.proofs.ListOperations.{filled_more}
-use Rattle.pals_base.specs.declared.values.PortValue.{PortValue}
+use Rattle.pals_base.specs.declared.basic_types.PortValue.{PortValue}
 use Rattle.pals_base.specs.Tuples.{column}
 use Rattle.pals_base.proofs.ColumnsAndCutTuples.{cut_whole}
 use Rattle.sync_product.proofs.SizePreservation.{same_sizes}

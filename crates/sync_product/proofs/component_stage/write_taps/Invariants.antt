@@ -1,5 +1,5 @@
 use Rattle.std.proofs.Common.{◌≡◌, length, take, map, List}
-use Rattle.pals_base.specs.declared.values.PortValue.{PortValue}
+use Rattle.pals_base.specs.declared.basic_types.PortValue.{PortValue}
 use Rattle.pals_base.specs.Tuples.{column}
 use Rattle.sync_product.proofs.component_stage.write_taps.Given as goal
 

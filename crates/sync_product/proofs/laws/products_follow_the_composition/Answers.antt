@@ -1,4 +1,4 @@
-use Rattle.sync_product.proofs.ProductLaws.{design_stays, stands_at_composition, has_parts_of_round}
+use Rattle.sync_product.proofs.CompositionAgreement.{design_stays, stands_at_composition, has_parts_of_round}
 use Rattle.sync_product.proofs.laws.products_follow_the_composition.Goals as goal
 
 pub returns-clause-design : goal.returns-clause-design

@@ -1,6 +1,6 @@
 use Rattle.std.proofs.Common.{◌∙◌, ◌++◌, ◌∷◌, [], ℕ, ap, sym, map, replicate, take}
 use Rattle.std.proofs.lemmas.List.{map_more}
-use Rattle.pals_base.specs.declared.values.PortValue.TheVariants.{Absent}
+use Rattle.pals_base.specs.declared.basic_types.PortValue.TheVariants.{Absent}
 use Rattle.sync_product.proofs.opening.absent_each.Goals as goal
 
 pub loop-port-preserved : goal.loop-port-preserved

@@ -2,8 +2,8 @@ use Rattle.std.proofs.Common.{◌∙◌, ◌+◌, ◌++◌, ◌∷◌, ℕ, List
 use Rattle.std.specs.List.{enumerate_from}
 use Rattle.std.proofs.lemmas.List.{drop_more}
 use Rattle.list_lemmas.proofs.ElementPositions.{slice_get-map_enumerate}
-use Rattle.pals_base.specs.declared.values.PortValue.{PortValue}
-use Rattle.pals_base.specs.declared.values.PortValue.TheVariants.{Absent}
+use Rattle.pals_base.specs.declared.basic_types.PortValue.{PortValue}
+use Rattle.pals_base.specs.declared.basic_types.PortValue.TheVariants.{Absent}
 use Rattle.pals_base.specs.declared.frames.Frame.{Frame}
 use Rattle.pals_model.specs.declared.design.Component.{Component}
 use Rattle.pals_model.specs.declared.part.Part.{Part}

@@ -1,6 +1,6 @@
 use Rattle.std.proofs.Common.{◌≡◌, drop}
 use Rattle.trace_audit.proofs.DoneNodesAndRounds.{least_of}
-use Rattle.bus_machine.specs.States.{finished_by_all}
+use Rattle.bus_machine.specs.BusStates.{finished_by_all}
 use Rattle.trace_audit.proofs.end_rules.finished_by_all.Given as goal
 
 -- the least of the rounds so far, and of those of the nodes that are left

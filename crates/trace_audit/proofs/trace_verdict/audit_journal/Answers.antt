@@ -1,6 +1,6 @@
 use Rattle.std.proofs.Common.{◌≡◌, ◌≤◌, Ok, length, ap, ◌∙◌, arith}
 use Rattle.run_laws.specs.EntriesInLines.{entry_of_line}
-use Rattle.trace_audit.specs.proof.AuditReplays.{audit_in}
+use Rattle.trace_audit.specs.proof.AuditInvariant.{audit_in}
 use Rattle.trace_audit.proofs.JournalVerdicts.{judged_end, judged_next, judged_wrong}
 use Rattle.trace_audit.proofs.trace_verdict.audit_journal.Goals as goal
 

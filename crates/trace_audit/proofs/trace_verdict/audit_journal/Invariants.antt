@@ -1,6 +1,6 @@
 use Rattle.std.proofs.Common.{◌≡◌, drop}
 use Rattle.run_laws.specs.TraceVerdicts.{journal_verdict}
-use Rattle.trace_audit.specs.proof.AuditReplays.{IsReplay, audit_in}
+use Rattle.trace_audit.specs.proof.AuditInvariant.{IsReplay, audit_in}
 use Rattle.trace_audit.proofs.trace_verdict.audit_journal.Given as goal
 
 -- the verdict is that on the lines from the index on

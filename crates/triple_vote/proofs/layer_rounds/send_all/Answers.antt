@@ -3,7 +3,7 @@ use Rattle.pals_model.specs.declared.design.Link.{Link}
 use Rattle.sync_product.specs.proof.Rounds.{sent_by}
 use Rattle.triple_vote.specs.proof.ReplicaLayers.{has_replica}
 use Rattle.triple_vote.proofs.SelectiveListWrites.{filled_all}
-use Rattle.triple_vote.proofs.StageMessages.{message_fits, message_sizes_stay, message_sent}
+use Rattle.triple_vote.proofs.StageMessagesAndTaps.{message_fits, message_sizes_stay, message_sent}
 use Rattle.triple_vote.proofs.layer_rounds.send_all.Goals as goal
 
 pub write_port_tuple-requires : goal.write_port_tuple-requires

@@ -4,7 +4,7 @@ use Rattle.pals_model.specs.declared.design.Tap.{Tap}
 use Rattle.sync_product.specs.declared.component_stage.Stage.{Stage}
 use Rattle.triple_vote.specs.proof.ReplicaLayers.{has_replica, whole_from}
 use Rattle.triple_vote.proofs.SelectiveListWrites.{filled_all}
-use Rattle.triple_vote.proofs.StageMessages.{tuple_fits, tuple_sizes_stay, tuple_shown}
+use Rattle.triple_vote.proofs.StageMessagesAndTaps.{tuple_fits, tuple_sizes_stay, tuple_shown}
 use Rattle.triple_vote.proofs.layer_rounds.show_all.Goals as goal
 
 pub write_port_tuple-requires : goal.write_port_tuple-requires

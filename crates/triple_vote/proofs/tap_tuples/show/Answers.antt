@@ -1,5 +1,5 @@
 use Rattle.std.proofs.Common.{◌∙◌, List, length, sym, ap, ap₂, arith}
-use Rattle.pals_base.specs.declared.values.PortValue.{PortValue}
+use Rattle.pals_base.specs.declared.basic_types.PortValue.{PortValue}
 use Rattle.triple_vote.specs.Votes.{votes}
 use Rattle.triple_vote.specs.proof.ThreeLayers.{shown_in, tuple_of, shown_of}
 use Rattle.triple_vote.proofs.tap_tuples.show.Goals as goal

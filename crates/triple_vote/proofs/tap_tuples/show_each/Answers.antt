@@ -1,6 +1,6 @@
 use Rattle.std.proofs.Common.{◌∙◌, true, refl, ap, length, arith}
 use Rattle.pals_model.specs.declared.design.Tap.{Tap}
-use Rattle.triple_vote.specs.Replicas.{is_replicated}
+use Rattle.triple_vote.specs.VotedComposition.{is_replicated}
 use Rattle.triple_vote.specs.proof.ThreeLayers.{shown_in, shown_of}
 use Rattle.triple_vote.proofs.SelectiveListWrites.{filled_all}
 use Rattle.triple_vote.proofs.VotedMessagesAndTaps.{shown_fit, shown_sizes_stay, shown_more}

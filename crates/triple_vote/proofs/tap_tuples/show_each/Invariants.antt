@@ -1,6 +1,6 @@
 use Rattle.std.proofs.Common.{◌≡◌, true}
 use Rattle.pals_model.specs.declared.design.Tap.{Tap}
-use Rattle.triple_vote.specs.Replicas.{is_replicated}
+use Rattle.triple_vote.specs.VotedComposition.{is_replicated}
 use Rattle.triple_vote.specs.proof.ReplicaLayers.{lengths, tap_sizes}
 use Rattle.triple_vote.specs.proof.ThreeLayers.{shown_in, shown_of}
 use Rattle.triple_vote.proofs.SelectiveListWrites.{Filled}

@@ -1,4 +1,4 @@
-use Rattle.world_gen.proofs.RingDesignsAndSums.{rings_are_designs, rings_add_up}
+use Rattle.world_gen.proofs.RingDesigns.{rings_are_designs, rings_add_up}
 use Rattle.world_gen.proofs.RingNumbers.{ring_numbers_are_small}
 use Rattle.world_gen.proofs.laws.rings_are_designs.Goals as goal
 

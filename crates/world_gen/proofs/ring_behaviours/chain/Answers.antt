@@ -1,6 +1,6 @@
 use Rattle.std.proofs.Common.{ap, ◌∙◌}
 use Rattle.pals_base.specs.proof.TreeViews.{tree_of, operands_along}
-use Rattle.pals_base.specs.PlainTrees.{Chain}
+use Rattle.pals_base.specs.ExpressionAndActionTrees.{Chain}
 use Rattle.pals_base.proofs.TreeViews.{tree_of-Chain}
 use Rattle.world_gen.proofs.ring_behaviours.chain.Goals as goal
 

@@ -1,4 +1,4 @@
-use Rattle.world_gen.proofs.RingDesignsAndSums.{parts_are_design}
+use Rattle.world_gen.proofs.RingDesigns.{parts_are_design}
 use Rattle.world_gen.proofs.rings.ring.Goals as goal
 
 pub new-requires-4 : goal.new-requires-4

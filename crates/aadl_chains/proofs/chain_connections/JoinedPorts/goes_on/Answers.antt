@@ -3,7 +3,7 @@ use Rattle.aadl_tree.specs.proof.PackageViews.{placed}
 use Rattle.aadl_chains.specs.declared.outer_joins.PortSearch.{PortSearch}
 use Rattle.aadl_chains.specs.proof.PortsJoinedOutside.{LeadsFrom}
 use Rattle.aadl_chains.specs.proof.ConnectionsOnChains.{IsOnChain}
-use Rattle.aadl_chains.proofs.EndFaults.{ways_tell, no_target}
+use Rattle.aadl_chains.proofs.ConnectionEndFaults.{ways_tell, no_target}
 use Rattle.aadl_chains.proofs.chain_connections.JoinedPorts.goes_on.Goals as goal
 
 pub returns-in-Some : goal.returns-in-Some

@@ -5,7 +5,7 @@ use Rattle.std.specs.Option.{option_or}
 use Rattle.std.specs.Str.{bytes_eq}
 use Rattle.indexmap.proofs.CallerLemmas.{insert_entry-new}
 use Rattle.aadl_names.specs.proof.NameTables.{folded, value_of}
-use Rattle.aadl_names.proofs.Lookups.{lookup_keys, found_none, found_some, value-added, value-kept}
+use Rattle.aadl_names.proofs.NameTables.{lookup_keys, found_none, found_some, value-added, value-kept}
 use Rattle.aadl_names.proofs.name_table.NameTable.add.Goals as goal
 
 pub returns-in_ok-insert : goal.returns-in_ok-insert

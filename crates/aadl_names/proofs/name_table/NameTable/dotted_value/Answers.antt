@@ -2,7 +2,7 @@ use Rattle.std.proofs.Common.{ℕ, List, ◌++◌, codes, sym, ap, ◌∙◌}
 use Rattle.std.specs.Map.{lookup}
 use Rattle.std.specs.Str.{bytes_eq}
 use Rattle.aadl_names.specs.proof.NameTables.{folded, value_of}
-use Rattle.aadl_names.proofs.Lookups.{lookup_keys}
+use Rattle.aadl_names.proofs.NameTables.{lookup_keys}
 use Rattle.aadl_names.proofs.name_table.NameTable.dotted_value.Goals as goal
 
 pub returns : goal.returns

@@ -1,7 +1,7 @@
 use Rattle.std.proofs.Common.{Some, ap, ◌∙◌, cond}
 use Rattle.aadl_tree.specs.Names.{same_name}
 use Rattle.aadl_names.specs.proof.NameTables.{folded, value_of}
-use Rattle.aadl_names.proofs.Lookups.{value-set}
+use Rattle.aadl_names.proofs.NameTables.{value-set}
 use Rattle.aadl_names.proofs.name_table.NameTable.set.Goals as goal
 
 pub returns : goal.returns

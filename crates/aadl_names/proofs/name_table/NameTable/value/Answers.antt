@@ -4,7 +4,7 @@ use Rattle.std.specs.List.{list_any}
 use Rattle.std.specs.Map.{lookup}
 use Rattle.std.specs.Str.{bytes_eq}
 use Rattle.aadl_names.specs.proof.NameTables.{folded, value_of}
-use Rattle.aadl_names.proofs.Lookups.{lookup_keys, own_key}
+use Rattle.aadl_names.proofs.NameTables.{lookup_keys, own_key}
 use Rattle.aadl_names.proofs.name_table.NameTable.value.Goals as goal
 
 pub returns-then-has_capital : goal.returns-then-has_capital

@@ -1,7 +1,7 @@
 use Rattle.std.proofs.Common.{arith}
 use Rattle.list_lemmas.proofs.Results.{OnOk-same}
-use Rattle.aadl_print.proofs.PrintedParts.{printed_append}
-use Rattle.aadl_print.proofs.NonemptySections.{printed_section}
+use Rattle.aadl_print.proofs.PrintedLists.{printed_append}
+use Rattle.aadl_print.proofs.NonemptyPropertiesAndSections.{printed_section}
 use Rattle.aadl_print.proofs.declarations.ImplementationPrintItem.print.Goals as goal
 
 pub returns : goal.returns

@@ -2,8 +2,8 @@ use Rattle.std.proofs.Common.{◌≡◌, ◌∙◌, ap, sym}
 use Rattle.std.specs.List.{find}
 use Rattle.std.specs.Str.{str_eq_ignore_ascii_case}
 use Rattle.aadl_tree.specs.KeywordsAndSymbols.{mark_text}
-use Rattle.aadl_tree.specs.proof.MarkFirstBytes.{keywords_from}
-use Rattle.aadl_tree.proofs.MarkFirstBytes.{keyword_kept, no_keyword, some_bytes}
+use Rattle.aadl_tree.specs.proof.MarksByFirstByte.{keywords_from}
+use Rattle.aadl_tree.proofs.MarksByFirstByte.{keyword_kept, no_keyword, some_bytes}
 use Rattle.aadl_tree.proofs.mark.Mark.keyword.Goals as goal
 use Rattle.aadl_tree.proofs.mark.Mark.keyword.Goals.{then-inside, else-inside}
 

@@ -2,7 +2,7 @@ use Rattle.std.proofs.Common.{◌∙◌, ap, sym}
 use Rattle.std.specs.List.{find}
 use Rattle.std.specs.Str.{bytes_eq}
 use Rattle.aadl_tree.specs.KeywordsAndSymbols.{mark_text}
-use Rattle.aadl_tree.proofs.MarkFirstBytes.{symbol_kept, no_symbol}
+use Rattle.aadl_tree.proofs.MarksByFirstByte.{symbol_kept, no_symbol}
 use Rattle.aadl_tree.proofs.mark.Mark.symbol.Goals as goal
 
 pub returns : goal.returns

@@ -3,7 +3,7 @@ use Rattle.aadl_tree.specs.proof.ActionViews.{action_view}
 use Rattle.aadl_tree.specs.proof.PlaceMaps.{no_place}
 use Rattle.aadl_tree.proofs.ActionVariants.{only_assign, only_send, only_choose, only_loop}
 use Rattle.aadl_tree.proofs.ActionViews.{view-Assign, view-Send, view-If, view-For, view-out-choice, view-out-loop}
-use Rattle.aadl_tree.proofs.EqualLengths.{mores-length, elsifs-length}
+use Rattle.aadl_tree.proofs.EqualViewLengths.{mores-length, elsifs-length}
 use Rattle.aadl_tree.proofs.sameness.actions.+same_action.Goals as goal
 use Rattle.aadl_tree.proofs.sameness.actions.+same_action.Goals.{same_choice-then-same_expression}
 use Rattle.aadl_tree.proofs.sameness.actions.+same_action.Goals.{same_choice-else-same_expression}

@@ -8,7 +8,7 @@ use Rattle.aadl_tree.proofs.ExpressionViews.{view-out-expression, view-out-sum, 
 use Rattle.aadl_tree.proofs.ExpressionViews.{view-Named, view-Group, view-Abs, view-Not, view-Plain}
 use Rattle.aadl_tree.proofs.PrimaryVariants.{only_whole, only_truth, only_named, only_group}
 use Rattle.aadl_tree.proofs.FactorVariants.{only_absolute, only_negated, only_bare}
-use Rattle.aadl_tree.proofs.EqualLengths.{factors-length, terms-length, relations-length}
+use Rattle.aadl_tree.proofs.EqualViewLengths.{factors-length, terms-length, relations-length}
 use Rattle.aadl_tree.proofs.sameness.expressions.+same_expression.Goals as goal
 use Rattle.aadl_tree.proofs.sameness.expressions.+same_expression.Goals.{same_sum-then-same_option}
 use Rattle.aadl_tree.proofs.sameness.expressions.+same_expression.Goals.{same_sum-else-same_option}

@@ -5,7 +5,7 @@ use Rattle.aadl_tree.proofs.ValueViews.{view-List, view-Record, view-Text, view-
 use Rattle.aadl_tree.proofs.ValueViews.{view-Number}
 use Rattle.aadl_tree.proofs.ValueVariants.{only_list, only_record, only_text, only_reference, only_classifier}
 use Rattle.aadl_tree.proofs.ValueVariants.{only_name, only_number}
-use Rattle.aadl_tree.proofs.EqualLengths.{values-length, associations-length}
+use Rattle.aadl_tree.proofs.EqualViewLengths.{values-length, associations-length}
 use Rattle.aadl_tree.proofs.sameness.values.+same_value.Goals as goal
 
 pub same_values-returns-then-left-right : goal.same_values-returns-then-left-right

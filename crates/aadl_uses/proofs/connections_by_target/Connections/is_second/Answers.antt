@@ -1,7 +1,7 @@
 use Rattle.std.proofs.Common.{ap, sym, ◌∙◌}
 use Rattle.aadl_uses.specs.SecondConnections.{target_in}
 use Rattle.aadl_uses.specs.proof.FirstConnections.{is_before}
-use Rattle.aadl_uses.proofs.FirstConnectionTables.{is_second-tells, no_second}
+use Rattle.aadl_uses.proofs.FirstConnections.{is_second-tells, no_second}
 use Rattle.aadl_uses.proofs.connections_by_target.Connections.is_second.Goals as goal
 
 pub returns-in-Some : goal.returns-in-Some

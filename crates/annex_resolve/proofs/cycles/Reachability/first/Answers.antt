@@ -1,8 +1,8 @@
 use Rattle.std.proofs.Common.{◌≡◌, ◌∙◌, ◌+◌, ◌∷◌, ◌++◌, [], false, take, replicate, sym, ap}
 use Rattle.std.proofs.lemmas.List.{take_more}
-use Rattle.pals_base.specs.PlainTrees.{Edge}
+use Rattle.pals_base.specs.ExpressionAndActionTrees.{Edge}
 use Rattle.pals_base.specs.SingleStep.{is_complete}
-use Rattle.annex_resolve.specs.proof.ReachTables.{marked, table_by}
+use Rattle.annex_resolve.specs.proof.ReachabilityTables.{marked, table_by}
 use Rattle.annex_resolve.proofs.TransitionTables.{table-none, table-marked, table-stays}
 use Rattle.annex_resolve.proofs.cycles.Reachability.first.Goals.{then-not-is_complete, else-not-is_complete}
 use Rattle.annex_resolve.proofs.cycles.Reachability.first.Goals as goal

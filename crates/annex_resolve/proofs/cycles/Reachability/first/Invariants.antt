@@ -1,5 +1,5 @@
 use Rattle.std.proofs.Common.{◌≡◌, take}
-use Rattle.annex_resolve.specs.proof.ReachTables.{table_by}
+use Rattle.annex_resolve.specs.proof.ReachabilityTables.{table_by}
 use Rattle.annex_resolve.proofs.cycles.Reachability.first.Given as goal
 
 -- the table of the first transitions

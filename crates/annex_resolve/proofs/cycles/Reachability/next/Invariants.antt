@@ -1,6 +1,6 @@
 use Rattle.std.proofs.Common.{◌≡◌, ◌+◌, map}
 use Rattle.pals_base.specs.UpwardNumbers.{upwards}
-use Rattle.annex_resolve.specs.proof.ReachTables.{row_of}
+use Rattle.annex_resolve.specs.proof.ReachabilityTables.{row_of}
 use Rattle.annex_resolve.proofs.cycles.Reachability.next.Given as goal
 
 abbrev pub invariant-loop-state : goal.invariant-loop-state

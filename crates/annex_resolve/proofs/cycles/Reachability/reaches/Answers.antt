@@ -1,6 +1,6 @@
 use Rattle.std.proofs.Common.{ap, ◌∙◌}
-use Rattle.annex_resolve.specs.proof.ReachTables.{cell}
-use Rattle.annex_resolve.proofs.TableCells.{cell_of_table}
+use Rattle.annex_resolve.specs.proof.ReachabilityTables.{cell}
+use Rattle.annex_resolve.proofs.ReachabilityTableCells.{cell_of_table}
 use Rattle.annex_resolve.proofs.cycles.Reachability.reaches.Goals as goal
 
 pub returns : goal.returns

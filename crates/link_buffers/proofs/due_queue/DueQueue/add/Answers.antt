@@ -1,5 +1,5 @@
 use Rattle.std.proofs.Common.{◌≡◌, ◌-◌, ◌≤◌, not, length, insert, sym, ap, ◌∙◌, subst, rules, tests, arith}
-use Rattle.link_buffers.specs.proof.Halving.{IsFirstToFail}
+use Rattle.link_buffers.specs.proof.BinarySearch.{IsFirstToFail}
 use Rattle.std.proofs.lemmas.List.Edits.{length-insert}
 use Rattle.link_buffers.specs.proof.DueQueues.{comes_before, IsRising}
 use Rattle.link_buffers.proofs.DueEntryPositions.{parted_not_after, inserted, rising-inserted, same_queue}

@@ -1,5 +1,5 @@
 use Rattle.std.proofs.Common.{sym, rules, tests}
-use Rattle.link_buffers.specs.proof.Halving.{IsFirstToFail}
+use Rattle.link_buffers.specs.proof.BinarySearch.{IsFirstToFail}
 use Rattle.link_buffers.specs.proof.DueQueues.{is_due_at}
 use Rattle.link_buffers.proofs.PartitionedLists.{filter_front, count_front}
 use Rattle.link_buffers.proofs.DueEntryPositions.{parted_due}

@@ -1,6 +1,6 @@
 use Rattle.std.proofs.Common.{◌≡◌, ◌≢◌, ◌<◌, false, length, remove, Contains, Some, slice_get, sym, ap, subst, rules}
 use Rattle.std.proofs.Common.{tests, arith}
-use Rattle.link_buffers.specs.proof.Halving.{IsFirstToFail}
+use Rattle.link_buffers.specs.proof.BinarySearch.{IsFirstToFail}
 use Rattle.std.proofs.lemmas.List.Edits.{length-remove}
 use Rattle.std.proofs.lemmas.List.Quantifiers.{all_pairs_remove}
 use Rattle.std.proofs.lemmas.Option.{slice_get_within}

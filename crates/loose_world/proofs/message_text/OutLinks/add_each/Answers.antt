@@ -1,10 +1,10 @@
 use Rattle.std.proofs.Common.{◌≡◌, ◌∙◌, ◌-◌, ◌++◌, ℕ, List, map, ap, arith}
 use Rattle.std.specs.Prelude.{flat_map}
 use Rattle.std.proofs.lemmas.List.{take_all}
-use Rattle.pals_base.specs.declared.values.LinkNo.{LinkNo}
+use Rattle.pals_base.specs.declared.basic_types.LinkNo.{LinkNo}
 use Rattle.pals_model.specs.OutgoingLinks.{links_from}
 use Rattle.pals_model.specs.RoundTexts.{text_of}
-use Rattle.bus_machine.specs.States.{node_at}
+use Rattle.bus_machine.specs.BusStates.{node_at}
 use Rattle.loose_world.specs.SentLines.{message_lines}
 use Rattle.loose_world.proofs.LinksFromNodes.{items_are, link_within}
 use Rattle.loose_world.proofs.message_text.OutLinks.add_each.Goals as goal

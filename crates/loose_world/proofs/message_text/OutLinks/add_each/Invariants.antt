@@ -1,6 +1,6 @@
 use Rattle.std.proofs.Common.{◌≡◌, ◌++◌, map, take}
 use Rattle.std.specs.Prelude.{flat_map}
-use Rattle.pals_base.specs.declared.values.LinkNo.{LinkNo}
+use Rattle.pals_base.specs.declared.basic_types.LinkNo.{LinkNo}
 use Rattle.pals_model.specs.RoundTexts.{text_of}
 use Rattle.loose_world.specs.SentLines.{message_lines}
 use Rattle.loose_world.proofs.message_text.OutLinks.add_each.Given as goal

@@ -1,7 +1,7 @@
 use Rattle.std.proofs.Common.{◌≡◌, sym, ◌∙◌, arith}
 use Rattle.std.proofs.lemmas.Grind.{common_steps}
 use Rattle.node_threads.specs.proof.SharedCourses.{note_at}
-use Rattle.node_threads.proofs.SourceWaits.{noted_sent}
+use Rattle.node_threads.proofs.SentSources.{noted_sent}
 use Rattle.node_threads.proofs.course.SharedRun.has_sent.Goals as goal
 
 pub returns-in-ClockEnded : goal.returns-in-ClockEnded

@@ -1,6 +1,6 @@
 use Rattle.std.proofs.Common.{◌≤◌, ◌∙◌, length, sym, arith}
 use Rattle.std.proofs.lemmas.Grind.{common_steps}
-use Rattle.node_threads.proofs.SourceWaits.{all_awaited, meeting_awaited, one_more}
+use Rattle.node_threads.proofs.SentSources.{all_awaited, meeting_awaited, one_more}
 use Rattle.node_threads.proofs.course.SharedRun.is_awaited.Goals as goal
 
 pub returns-then-meeting : goal.returns-then-meeting

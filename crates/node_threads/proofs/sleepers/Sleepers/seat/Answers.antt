@@ -1,5 +1,5 @@
 use Rattle.std.proofs.Common.{sym}
-use Rattle.node_threads.proofs.SleeperSeats.{none_seat}
+use Rattle.node_threads.proofs.NodeThreadStates.{none_seat}
 use Rattle.node_threads.proofs.sleepers.Sleepers.seat.Goals as goal
 
 pub returns-in-None : goal.returns-in-None

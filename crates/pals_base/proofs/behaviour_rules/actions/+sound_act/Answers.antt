@@ -4,7 +4,7 @@ use mir.Val.{SFits}
 use Rattle.std.proofs.lemmas.Int.{to_z-of_z}
 use Rattle.std.specs.Prelude.{IfOk}
 use Rattle.std.proofs.lemmas.Grind.{common_steps}
-use Rattle.pals_base.specs.PlainTrees.{If, For}
+use Rattle.pals_base.specs.ExpressionAndActionTrees.{If, For}
 use Rattle.pals_base.specs.proof.TreeViews.{action_of, actions_along, branches_along}
 use Rattle.pals_base.specs.TypingRules.{turns, is_short, is_sound, are_sound, branches_are_sound}
 use Rattle.pals_base.proofs.TreeViews.{action_of-If, action_of-For}

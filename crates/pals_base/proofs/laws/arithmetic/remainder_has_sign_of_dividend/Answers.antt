@@ -1,4 +1,4 @@
-use Rattle.pals_base.proofs.RemainderSigns.{remainder_of-is}
+use Rattle.pals_base.proofs.RemaindersAndModuli.{remainder_of-is}
 use Rattle.pals_base.proofs.laws.arithmetic.remainder_has_sign_of_dividend.Goals as goal
 
 pub returns : goal.returns

@@ -1,4 +1,4 @@
-use Rattle.pals_base.proofs.LoopNumbers.{length-numbers, get_or-numbers, numbers_within}
+use Rattle.pals_base.proofs.ForRanges.{length-numbers, get_or-numbers, numbers_within}
 use Rattle.pals_base.proofs.laws.loops.loop_goes_from_low_to_high.Goals as goal
 
 pub returns-clause-count : goal.returns-clause-count

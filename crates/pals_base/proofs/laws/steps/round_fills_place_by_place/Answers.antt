@@ -1,4 +1,4 @@
-use Rattle.pals_base.proofs.RoundUnderWay.{so_far-none, so_far-one_more, so_far-all}
+use Rattle.pals_base.proofs.PartialRoundTuples.{so_far-none, so_far-one_more, so_far-all}
 use Rattle.pals_base.proofs.laws.steps.round_fills_place_by_place.Goals as goal
 
 pub returns-clause-none : goal.returns-clause-none

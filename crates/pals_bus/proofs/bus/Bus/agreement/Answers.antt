@@ -2,7 +2,7 @@ use Rattle.std.proofs.Common.{◌≡◌, subst}
 use Rattle.std.specs.Arc.{arc_value}
 use Rattle.bus_machine.specs.Agreement.{Agrees}
 use Rattle.pals_bus.specs.proof.BusInvariant.{value_of}
-use Rattle.pals_bus.specs.proof.OpeningBusAndNodeValues.{AreCodes}
+use Rattle.pals_bus.specs.proof.StepCodesOfNodes.{AreCodes}
 use Rattle.pals_bus.specs.BusValues.{BusValue}
 use Rattle.pals_bus.proofs.NodeChanges.{codes_mean}
 use Rattle.pals_bus.proofs.InvariantConsequences.{agrees}

@@ -3,8 +3,8 @@ use Rattle.std.proofs.lemmas.Grind.{common_steps}
 use Rattle.pals_runs.specs.declared.journal.JournalEntry.TheVariants as entry
 use Rattle.pals_node.specs.proof.NodeValues.{NodeValue}
 use Rattle.pals_bus.specs.declared.bus_fields.BusFields.{BusFields}
-use Rattle.pals_bus.proofs.NodeAfterCall.{Turned}
-use Rattle.pals_bus.proofs.NodeCallResults.{Stands, finishes_with}
+use Rattle.pals_bus.proofs.ChangedNodeValues.{Turned}
+use Rattle.pals_bus.proofs.NodeEventCalls.{Stands, finishes_with}
 use Rattle.pals_bus.proofs.bus.Bus.finish.Goals as goal
 
 pub invariant_of-self-2 : goal.invariant_of-self-2

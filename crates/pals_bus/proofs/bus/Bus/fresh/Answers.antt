@@ -9,7 +9,7 @@ use Rattle.pals_node.specs.proof.NodeValues.{NodeValue, opening_value}
 use Rattle.pals_bus.specs.BusValues.{BusValue}
 use Rattle.pals_bus.specs.proof.BusInvariant.{value_of}
 use Rattle.pals_bus.specs.proof.OpeningNodes.{AreOpening, opening_bus}
-use Rattle.pals_bus.specs.proof.OpeningBusAndNodeValues.{AreCodes, codes_in}
+use Rattle.pals_bus.specs.proof.StepCodesOfNodes.{AreCodes, codes_in}
 use Rattle.pals_bus.proofs.NodeChanges.{codes_mean}
 use Rattle.pals_bus.proofs.Openings.{codes_open, nodes_anew, run_anew}
 use Rattle.pals_bus.proofs.bus.Bus.fresh.Goals as goal

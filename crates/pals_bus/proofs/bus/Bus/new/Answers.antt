@@ -4,7 +4,7 @@ use Rattle.step_code.specs.declared.instr.CodeParts.{CodeParts}
 use Rattle.pals_model.specs.declared.design.DesignParts.{DesignParts}
 use Rattle.pals_bus.specs.BusValues.{BusValue}
 use Rattle.pals_bus.specs.proof.OpeningNodes.{AreOpening, opening_bus}
-use Rattle.pals_bus.specs.proof.OpeningBusAndNodeValues.{AreCodes}
+use Rattle.pals_bus.specs.proof.StepCodesOfNodes.{AreCodes}
 use Rattle.pals_bus.proofs.Openings.{codes_open}
 use Rattle.pals_bus.proofs.bus.Bus.new.Goals as goal
 

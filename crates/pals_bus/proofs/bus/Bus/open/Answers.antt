@@ -5,8 +5,8 @@ use Rattle.pals_model.specs.DesignRules.{IsDesign}
 use Rattle.pals_node.specs.proof.NodeValues.{NodeValue}
 use Rattle.pals_bus.specs.declared.bus_fields.BusFields.{BusFields}
 use Rattle.pals_bus.specs.proof.OutOfRangeDefaults.{no_flight, no_queue}
-use Rattle.pals_bus.specs.proof.LinksFrom.{AreOutgoing}
-use Rattle.pals_bus.specs.proof.OpeningBusAndNodeValues.{codes_in}
+use Rattle.pals_bus.specs.proof.LinksFromNodes.{AreOutgoing}
+use Rattle.pals_bus.specs.proof.StepCodesOfNodes.{codes_in}
 use Rattle.pals_bus.proofs.Openings.{IsOpening, opening_keeps, opening_shows}
 use Rattle.pals_bus.proofs.bus.Bus.open.Goals as goal
 

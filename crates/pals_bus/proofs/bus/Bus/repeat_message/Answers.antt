@@ -2,14 +2,14 @@ use Rattle.std.proofs.Common.{◌≡◌, ◌∙◌, ◌∷◌, [], ◌++◌, ◌
 use Rattle.std.specs.Prelude.{vec_capacity}
 use Rattle.std.specs.Arc.{arc_value}
 use Rattle.std.proofs.lemmas.Grind.{common_steps}
-use Rattle.pals_base.specs.declared.values.PortValue.{PortValue}
+use Rattle.pals_base.specs.declared.basic_types.PortValue.{PortValue}
 use Rattle.pals_model.specs.declared.flight_copy.FlightCopy.{FlightCopy}
 use Rattle.pals_runs.specs.declared.journal.JournalEntry.TheVariants as entry
 use Rattle.bus_machine.specs.Machine.{Repeat}
 use Rattle.pals_bus.specs.declared.bus_fields.BusFields.{BusFields}
 use Rattle.pals_bus.specs.BusValues.{BusValue, Happens}
 use Rattle.pals_bus.specs.proof.BusInvariant.{value_of}
-use Rattle.pals_bus.proofs.NodeCallResults.{room_shows}
+use Rattle.pals_bus.proofs.NodeEventCalls.{room_shows}
 use Rattle.pals_bus.proofs.Repeats.{Repeats, oldest_kept, repeat_happens, repeat_keeps_bus}
 use Rattle.pals_bus.proofs.bus.Bus.repeat_message.Goals as goal
 

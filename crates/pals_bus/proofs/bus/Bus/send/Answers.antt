@@ -1,7 +1,7 @@
 use Rattle.std.proofs.Common.{refl, arith}
 use Rattle.std.proofs.lemmas.Grind.{common_steps}
 use Rattle.pals_bus.specs.declared.bus_fields.BusFields.{BusFields}
-use Rattle.pals_bus.proofs.NodeCallResults.{Stands, IsSent, sends, send_place, send_room}
+use Rattle.pals_bus.proofs.NodeEventCalls.{Stands, IsSent, sends, send_place, send_room}
 use Rattle.pals_bus.proofs.bus.Bus.send.Goals as goal
 
 pub send_messages-requires-clause-queues : goal.send_messages-requires-clause-queues

@@ -5,8 +5,8 @@ use Rattle.pals_node.specs.proof.Answers.{StartEnds}
 use Rattle.pals_node.specs.proof.NodeValues.{NodeValue}
 use Rattle.pals_bus.specs.declared.bus_fields.BusFields.{BusFields}
 use Rattle.pals_bus.specs.proof.NodeLists.{node_of}
-use Rattle.pals_bus.proofs.NodeAfterCall.{Turned}
-use Rattle.pals_bus.proofs.NodeCallResults.{HasRoundRoom, is_ready, starts, misses}
+use Rattle.pals_bus.proofs.ChangedNodeValues.{Turned}
+use Rattle.pals_bus.proofs.NodeEventCalls.{HasRoundRoom, is_ready, starts, misses}
 use Rattle.pals_bus.proofs.bus.Bus.start.Goals as goal
 
 pub invariant_of-self-in-Err : goal.invariant_of-self-in-Err

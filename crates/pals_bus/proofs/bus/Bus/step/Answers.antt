@@ -4,8 +4,8 @@ use Rattle.pals_runs.specs.declared.journal.JournalEntry.TheVariants as entry
 use Rattle.pals_node.specs.proof.NodeValues.{NodeValue}
 use Rattle.pals_node.specs.proof.Answers.{StepEnds}
 use Rattle.pals_bus.specs.declared.bus_fields.BusFields.{BusFields}
-use Rattle.pals_bus.proofs.NodeAfterCall.{Turned}
-use Rattle.pals_bus.proofs.NodeCallResults.{reserved, refuses, steps}
+use Rattle.pals_bus.proofs.ChangedNodeValues.{Turned}
+use Rattle.pals_bus.proofs.NodeEventCalls.{reserved, refuses, steps}
 use Rattle.pals_bus.proofs.bus.Bus.step.Goals as goal
 
 pub returns-in-Err-clause-cause : goal.returns-in-Err-clause-cause

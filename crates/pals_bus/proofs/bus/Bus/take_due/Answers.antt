@@ -7,7 +7,7 @@ use Rattle.pals_bus.specs.proof.BusInvariant.{value_of}
 use Rattle.pals_bus.specs.BusValues.{BusValue}
 use Rattle.pals_bus.proofs.DueEntriesAndCopies.{left_at_first}
 use Rattle.pals_bus.proofs.FirstDueArrival.{none_due}
-use Rattle.pals_bus.proofs.NodeCallResults.{journal_shows}
+use Rattle.pals_bus.proofs.NodeEventCalls.{journal_shows}
 use Rattle.pals_bus.proofs.bus.Bus.take_due.Goals as goal
 
 pub arrive_all-requires-clause-left : goal.arrive_all-requires-clause-left

@@ -1,11 +1,11 @@
 use Rattle.std.proofs.Common.{◌∙◌, ap}
 use Rattle.std.specs.Prelude.{slice_index_or}
-use Rattle.pals_base.specs.declared.values.NodeNo.{NodeNo}
+use Rattle.pals_base.specs.declared.basic_types.NodeNo.{NodeNo}
 use Rattle.pals_model.specs.declared.design.DesignParts.{DesignParts}
 use Rattle.bus_machine.specs.LinkEvents.{is_in_flight}
 use Rattle.bus_machine.specs.Plans.{no_link}
 use Rattle.pals_bus.specs.proof.BusInvariant.{copies_in_option}
-use Rattle.pals_bus.proofs.MissCauses.{cause_told}
+use Rattle.pals_bus.proofs.MissedMessageCauses.{cause_told}
 use Rattle.pals_bus.proofs.bus_fields.BusFields.cause_of.Goals as goal
 
 pub returns : goal.returns

@@ -3,7 +3,7 @@ use Rattle.pals_model.specs.declared.design.DesignParts.{DesignParts}
 use Rattle.link_buffers.specs.proof.DueQueues.{QueueState}
 use Rattle.pals_bus.specs.declared.bus_fields.BusFields.{BusFields}
 use Rattle.pals_bus.specs.proof.BusInvariant.{copies_in}
-use Rattle.pals_bus.proofs.UnseenReservations.{flight_copies, message_room}
+use Rattle.pals_bus.proofs.RoomReservations.{flight_copies, message_room}
 use Rattle.pals_bus.proofs.bus_fields.BusFields.reserve_message.Goals as goal
 
 pub returns-in_err-reserve-2-clause-keeps : goal.returns-in_err-reserve-2-clause-keeps

@@ -1,15 +1,15 @@
 use Rattle.std.proofs.Common.{◌≡◌, ◌∙◌, ℕ, ◌<◌, List, length, All, refl, sym, ap, subst, arith}
 use Rattle.std.specs.Arc.{arc_value}
 use Rattle.list_lemmas.proofs.Results.{OnOk-always}
-use Rattle.pals_base.specs.declared.values.LinkNo.{LinkNo}
+use Rattle.pals_base.specs.declared.basic_types.LinkNo.{LinkNo}
 use Rattle.pals_model.specs.declared.design.DesignParts.{DesignParts}
 use Rattle.pals_model.specs.declared.design.Link.{Link}
 use Rattle.pals_bus.specs.declared.bus_fields.BusFields.{BusFields}
-use Rattle.pals_bus.specs.proof.LinksFrom.{links_from}
+use Rattle.pals_bus.specs.proof.LinksFromNodes.{links_from}
 use Rattle.pals_bus.specs.proof.DueQueues.{HasQueueRoomFor, HasQueueRoomOn}
 use Rattle.pals_bus.specs.proof.RoundMessages.{HasRoomFor, HasRoomOn}
-use Rattle.pals_bus.proofs.LinksFrom.{numbers_within, room_for, queue_room_for}
-use Rattle.pals_bus.proofs.UnseenReservations.{more_room}
+use Rattle.pals_bus.proofs.LinksFromNodes.{numbers_within, room_for, queue_room_for}
+use Rattle.pals_bus.proofs.RoomReservations.{more_room}
 use Rattle.pals_bus.proofs.bus_fields.BusFields.reserve_round.Goals as goal
 
 pub returns-in_err-reserve_links-clause-keeps : goal.returns-in_err-reserve_links-clause-keeps

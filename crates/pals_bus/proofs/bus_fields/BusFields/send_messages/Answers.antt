@@ -8,7 +8,7 @@ use Rattle.pals_model.specs.Delays.{delay_of}
 use Rattle.bus_machine.specs.Plans.{link_at}
 use Rattle.pals_bus.specs.declared.bus_fields.BusFields.{BusFields}
 use Rattle.pals_bus.specs.proof.OutOfRangeDefaults.{no_link_no, no_queue}
-use Rattle.pals_bus.specs.proof.LinksFrom.{no_numbers}
+use Rattle.pals_bus.specs.proof.LinksFromNodes.{no_numbers}
 use Rattle.pals_bus.specs.proof.DueQueues.{with_due}
 use Rattle.pals_bus.proofs.NextOutgoingLink.{reaches_more}
 use Rattle.pals_bus.proofs.SendLoop.{CanSend, Sending, own_links, sending_all, sending_delay, sending_more}

@@ -1,7 +1,7 @@
 use Rattle.std.proofs.Common.{slice_index_or}
 use Rattle.std.specs.Arc.{arc_value}
 use Rattle.std.specs.Vec.Iter.{into_iter_items}
-use Rattle.pals_bus.specs.proof.LinksFrom.{no_numbers}
+use Rattle.pals_bus.specs.proof.LinksFromNodes.{no_numbers}
 use Rattle.pals_bus.proofs.NextOutgoingLink.{Reaches}
 use Rattle.pals_bus.proofs.SendLoop.{Sending}
 use Rattle.pals_bus.proofs.bus_fields.BusFields.send_messages.Given as goal

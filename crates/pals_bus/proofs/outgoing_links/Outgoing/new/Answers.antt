@@ -1,12 +1,12 @@
 use Rattle.std.proofs.Common.{◌≡◌, ◌∙◌, ◌<◌, List, [], ◌∷◌, ◌++◌, length, take, slice_index_or, refl, sym, ap, subst}
 use Rattle.std.proofs.Common.{arith}
 use Rattle.std.proofs.lemmas.List.{get_or_default}
-use Rattle.pals_base.specs.declared.values.LinkNo.{LinkNo}
+use Rattle.pals_base.specs.declared.basic_types.LinkNo.{LinkNo}
 use Rattle.pals_model.specs.declared.design.Component.{Component}
 use Rattle.pals_model.specs.declared.design.Link.{Link}
 use Rattle.bus_machine.specs.Plans.{no_link}
-use Rattle.pals_bus.specs.proof.LinksFrom.{AreOutgoing, no_numbers}
-use Rattle.pals_bus.proofs.LinksFrom.{numbered, outgoing_none, outgoing_more, source_within}
+use Rattle.pals_bus.specs.proof.LinksFromNodes.{AreOutgoing, no_numbers}
+use Rattle.pals_bus.proofs.LinksFromNodes.{numbered, outgoing_none, outgoing_more, source_within}
 use Rattle.pals_bus.proofs.outgoing_links.Outgoing.new.Goals as goal
 
 pub loop-number-init : goal.loop-number-init

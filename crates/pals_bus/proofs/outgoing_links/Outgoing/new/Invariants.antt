@@ -1,5 +1,5 @@
 use Rattle.std.proofs.Common.{length, take}
-use Rattle.pals_bus.specs.proof.LinksFrom.{AreOutgoing}
+use Rattle.pals_bus.specs.proof.LinksFromNodes.{AreOutgoing}
 use Rattle.pals_bus.proofs.outgoing_links.Outgoing.new.Given as goal
 
 -- the first links are in the lists

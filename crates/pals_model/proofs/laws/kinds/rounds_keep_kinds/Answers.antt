@@ -1,4 +1,4 @@
-use Rattle.pals_model.proofs.KindsOfRounds.{messages_fit, parts_fit, states_fit}
+use Rattle.pals_model.proofs.RoundsKeepKinds.{messages_fit, parts_fit, states_fit}
 use Rattle.pals_model.proofs.laws.kinds.rounds_keep_kinds.Goals as goal
 
 pub returns : goal.returns

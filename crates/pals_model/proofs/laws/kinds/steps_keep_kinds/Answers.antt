@@ -1,4 +1,4 @@
-use Rattle.pals_model.proofs.KindsOfSteps.{firing_fits}
+use Rattle.pals_model.proofs.StepsKeepKinds.{firing_fits}
 use Rattle.pals_model.proofs.laws.kinds.steps_keep_kinds.Goals as goal
 
 pub returns : goal.returns

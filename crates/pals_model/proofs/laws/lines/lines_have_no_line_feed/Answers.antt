@@ -1,4 +1,4 @@
-use Rattle.pals_model.proofs.LineLaws.{row_has_lines, report_has_lines}
+use Rattle.pals_model.proofs.TextLineLaws.{row_has_lines, report_has_lines}
 use Rattle.pals_model.proofs.laws.lines.lines_have_no_line_feed.Goals as goal
 
 pub returns : goal.returns

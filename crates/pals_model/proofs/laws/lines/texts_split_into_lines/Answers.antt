@@ -1,4 +1,4 @@
-use Rattle.pals_model.proofs.LineLaws.{text_splits, row_splits, report_splits}
+use Rattle.pals_model.proofs.TextLineLaws.{text_splits, row_splits, report_splits}
 use Rattle.pals_model.proofs.laws.lines.texts_split_into_lines.Goals as goal
 
 pub returns : goal.returns

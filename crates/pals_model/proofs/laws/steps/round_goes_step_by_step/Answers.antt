@@ -1,4 +1,4 @@
-use Rattle.pals_model.proofs.StepLaws.{round_begins, round_goes_on, round_ends}
+use Rattle.pals_model.proofs.PartialRounds.{round_begins, round_goes_on, round_ends}
 use Rattle.pals_model.proofs.laws.steps.round_goes_step_by_step.Goals as goal
 
 pub returns : goal.returns

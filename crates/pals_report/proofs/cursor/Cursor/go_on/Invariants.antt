@@ -1,5 +1,5 @@
 use Rattle.std.proofs.Common.{◌≡◌}
-use Rattle.pals_report.specs.Positions.{line_of, column_of}
+use Rattle.pals_report.specs.LinesAndColumns.{line_of, column_of}
 use Rattle.pals_report.proofs.cursor.Cursor.go_on.Given as goal
 
 -- the line and the column of the place that is reached

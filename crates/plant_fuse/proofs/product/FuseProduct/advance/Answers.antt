@@ -1,6 +1,6 @@
 use Rattle.std.proofs.Common.{◌≡◌, ◌∙◌, List, ap, sym, subst, subst₂, map}
 use Rattle.std.specs.Arc.{arc_value}
-use Rattle.pals_base.specs.declared.values.PortValue.{PortValue}
+use Rattle.pals_base.specs.declared.basic_types.PortValue.{PortValue}
 use Rattle.pals_model.specs.declared.design.DesignParts.{DesignParts}
 use Rattle.pals_model.specs.declared.part.Part.{Part}
 use Rattle.pals_model.specs.DesignRules.{IsDesign}
@@ -11,7 +11,7 @@ use Rattle.sync_product.specs.proof.Rounds.{frames_of}
 use Rattle.plant_fuse.specs.FusedComposition.{ArePairs}
 use Rattle.plant_fuse.specs.proof.Messages.{sent_on}
 use Rattle.plant_fuse.specs.proof.FuseState.{FuseState, IsAdvanced}
-use Rattle.sync_product.proofs.StepRoom.{count_of_parts}
+use Rattle.sync_product.proofs.ComponentSizes.{count_of_parts}
 use Rattle.plant_fuse.proofs.ProductAdvance.{standing, advanced_by}
 use Rattle.plant_fuse.proofs.product.FuseProduct.advance.Goals as goal
 

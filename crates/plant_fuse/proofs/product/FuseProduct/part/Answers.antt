@@ -2,7 +2,7 @@ use Rattle.std.proofs.Common.{◌∙◌, ◌<◌, ap, sym, refl, length, slice_g
 use Rattle.std.proofs.lemmas.Option.{slice_get_read}
 use Rattle.std.specs.Arc.{arc_value}
 use Rattle.plant_fuse.specs.proof.FuseState.{FuseState}
-use Rattle.sync_product.proofs.StepRoom.{count_of_parts}
+use Rattle.sync_product.proofs.ComponentSizes.{count_of_parts}
 use Rattle.plant_fuse.proofs.product.FuseProduct.part.Goals as goal
 
 pub bounds-as_slice-node : goal.bounds-as_slice-node

@@ -1,8 +1,8 @@
 use Rattle.std.proofs.Common.{◌∙◌, Bool, true, List, ap, sym, subst, slice_get}
 use Rattle.run_monitor.specs.declared.flat_form.FlatForm.{FlatForm}
-use Rattle.run_monitor.specs.proof.MonitorState.{MonitorState, said, Advances}
+use Rattle.run_monitor.specs.proof.MonitorStates.{MonitorState, said, Advances}
 use Rattle.run_monitor.specs.proof.FormBits.{bit_at, next_bit, AreNext}
-use Rattle.run_monitor.proofs.MonitorHistories.{state, advances}
+use Rattle.run_monitor.proofs.MonitorStates.{state, advances}
 use Rattle.run_monitor.proofs.monitor.Monitor.advance.Goals as goal
 
 pub returns : goal.returns

@@ -2,7 +2,7 @@ use Rattle.std.proofs.Common.{List, subst}
 use Rattle.pals_runs.specs.proof.FormulasOfForms.{formula_of}
 use Rattle.run_monitor.specs.declared.flat_form.FlatForm.{FlatForm}
 use Rattle.run_monitor.specs.proof.FlatForms.{Adds}
-use Rattle.run_monitor.proofs.MonitorHistories.{is_new}
+use Rattle.run_monitor.proofs.MonitorStates.{is_new}
 use Rattle.run_monitor.proofs.monitor.Monitor.of.Goals as goal
 
 pub returns : goal.returns

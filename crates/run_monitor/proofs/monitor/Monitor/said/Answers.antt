@@ -1,6 +1,6 @@
 use Rattle.std.proofs.Common.{◌∙◌, ◌-◌, Bool, List, ap, ap₂, sym}
 use Rattle.run_monitor.specs.proof.FormBits.{bit_at}
-use Rattle.run_monitor.specs.proof.MonitorState.{MonitorState, said}
+use Rattle.run_monitor.specs.proof.MonitorStates.{MonitorState, said}
 use Rattle.run_monitor.proofs.FlatForms.{length-forms}
 use Rattle.run_monitor.proofs.monitor.Monitor.said.Goals as goal
 

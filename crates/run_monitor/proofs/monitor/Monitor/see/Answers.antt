@@ -1,7 +1,7 @@
 use Rattle.std.proofs.Common.{◌∙◌, ap, subst, List, slice_get}
-use Rattle.run_monitor.specs.proof.MonitorState.{MonitorState, Sees}
+use Rattle.run_monitor.specs.proof.MonitorStates.{MonitorState, Sees}
 use Rattle.run_monitor.specs.declared.flat_form.FlatForm.{FlatForm}
-use Rattle.run_monitor.proofs.MonitorHistories.{state, sees}
+use Rattle.run_monitor.proofs.MonitorStates.{state, sees}
 use Rattle.run_monitor.proofs.monitor.Monitor.see.Goals as goal
 
 pub returns : goal.returns

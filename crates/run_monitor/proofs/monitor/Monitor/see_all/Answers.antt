@@ -1,8 +1,8 @@
 use Rattle.std.proofs.Common.{◌∙◌, ap, subst, List, slice_get}
 use Rattle.run_monitor.specs.proof.FormBits.{row_of}
-use Rattle.run_monitor.specs.proof.MonitorState.{MonitorState, SeesAll}
+use Rattle.run_monitor.specs.proof.MonitorStates.{MonitorState, SeesAll}
 use Rattle.run_monitor.specs.declared.flat_form.FlatForm.{FlatForm}
-use Rattle.run_monitor.proofs.MonitorHistories.{state, sees_all}
+use Rattle.run_monitor.proofs.MonitorStates.{state, sees_all}
 use Rattle.run_monitor.proofs.monitor.Monitor.see_all.Goals as goal
 
 pub returns : goal.returns

@@ -3,9 +3,9 @@ use Rattle.std.specs.Prelude.{position}
 use Rattle.std.specs.Option.{option_or}
 use Rattle.run_monitor.specs.proof.FormBits.{row_of}
 use Rattle.run_monitor.specs.FormulaSemantics.{frame_rows}
-use Rattle.run_monitor.specs.proof.MonitorState.{MonitorState, said}
+use Rattle.run_monitor.specs.proof.MonitorStates.{MonitorState, said}
 use Rattle.run_monitor.specs.proof.SeveralMonitors.{MonitorsState, HasWatched}
-use Rattle.run_monitor.proofs.HistoryGrowth.{history_has_rounds}
+use Rattle.run_monitor.proofs.FrameRowGrowth.{history_has_rounds}
 use Rattle.run_monitor.proofs.SeveralMonitors.{at_round, false_in, watch_on, watch_round}
 use Rattle.run_monitor.proofs.monitors.Monitors.advance.Goals as goal
 

@@ -1,7 +1,7 @@
 use Rattle.std.proofs.Common.{arith, bytes_eq}
 use Rattle.std.proofs.lemmas.Grind.{common_steps}
 use Rattle.pals_model.specs.declared.design.Link.{Link}
-use Rattle.pals_model.specs.NamesInTexts.{link_name}
+use Rattle.pals_model.specs.ComponentAndLinkNames.{link_name}
 use Rattle.scenario_values.proofs.NameSearch.{within}
 use Rattle.scenario_values.proofs.design_names.DesignNames.find_link.Goals as goal
 

@@ -3,7 +3,7 @@ use Rattle.std.specs.List.{position_from}
 use Rattle.std.proofs.lemmas.Grind.{common_steps}
 use Rattle.pals_model.specs.declared.design.Component.{Component}
 use Rattle.pals_model.specs.declared.design.Feed.{Feed}
-use Rattle.pals_model.specs.NamesInTexts.{link_name}
+use Rattle.pals_model.specs.ComponentAndLinkNames.{link_name}
 use Rattle.scenario_values.proofs.NameSearch.{position_map, position_zero}
 use Rattle.scenario_values.proofs.design_names.DesignNames.new.Goals as goal
 

@@ -1,5 +1,5 @@
 use Rattle.std.proofs.Common.{◌≡◌, length, map, replicate, List}
-use Rattle.pals_base.specs.declared.values.PortValue.{PortValue}
+use Rattle.pals_base.specs.declared.basic_types.PortValue.{PortValue}
 use Rattle.sync_product.proofs.component_stage.Stage.new.Given as goal
 
 abbrev pub invariant-loop-step : goal.invariant-loop-step

@@ -2,7 +2,7 @@ use Rattle.std.proofs.Common.{ℕ, ◌+◌, ◌<◌, ◌≤◌, length, Option, 
 use Rattle.std.specs.Prelude.{slice_index_or}
 use Rattle.pals_runs.specs.declared.events_and_faults.EventFault.{EventFault}
 use Rattle.pals_runs.specs.declared.events_and_faults.EventFault.TheVariants as fault
-use Rattle.pals_base.specs.declared.period_bound.Gamma.{Gamma}
+use Rattle.pals_base.specs.declared.period_bound_and_releases.Gamma.{Gamma}
 use Rattle.pals_model.specs.declared.design.DesignParts.{DesignParts}
 use Rattle.run_laws.specs.EventFaults.{Reading, apart, clock_apart}
 use Rattle.timed_world.specs.proof.WorldValues.{WorldValue}

@@ -1,12 +1,12 @@
 use Rattle.std.proofs.Common.{◌≡◌, true, false, ap, ◌∙◌, sym, subst}
 use Rattle.pals_runs.specs.declared.events_and_faults.Event.TheVariants as event
-use Rattle.bus_machine.specs.States.{node_at}
+use Rattle.bus_machine.specs.BusStates.{node_at}
 use Rattle.run_laws.specs.Worlds.{is_held}
 use Rattle.run_laws.proofs.FaultlessEventConditions.{sends_in_time}
-use Rattle.timed_world.specs.declared.standing.NodeStanding.{NodeStanding}
+use Rattle.timed_world.specs.declared.node_standing.NodeStanding.{NodeStanding}
 use Rattle.timed_world.specs.proof.WorldValues.{WorldValue, world_of}
 use Rattle.timed_world.proofs.EventEffects.{HasNoFault, reads, moves_on, stays_put, sent, moves_keep}
-use Rattle.timed_world.proofs.BusRefusals.{send_reads}
+use Rattle.timed_world.proofs.MemoryRefusals.{send_reads}
 use Rattle.timed_world.proofs.world.World.send.Goals as goal
 
 pub send-requires-clause-reading : goal.send-requires-clause-reading

@@ -2,7 +2,7 @@ use Rattle.std.proofs.Common.{sym, ap, ◌∙◌, subst}
 use Rattle.sync_product.specs.proof.ProductStates.{state_after}
 use Rattle.run_laws.specs.TraceVerdicts.{line_at}
 use Rattle.trace_audit.specs.proof.RemainingRowLines.{HasLeft}
-use Rattle.trace_audit.proofs.ReportLinePlaces.{begun_after, left_behind, left_is, left_next, line_is_one}
+use Rattle.trace_audit.proofs.ReportLinePositions.{begun_after, left_behind, left_is, left_next, line_is_one}
 use Rattle.trace_audit.proofs.audited_rows.AuditedRows.is_line.Goals as goal
 
 pub returns-clause-same : goal.returns-clause-same

@@ -3,7 +3,7 @@ use Rattle.std.specs.Arc.{arc_value}
 use Rattle.pals_model.specs.declared.design.DesignParts.{DesignParts}
 use Rattle.pals_report.specs.proof.TapPlaces.{tap_places}
 use Rattle.sync_product.specs.proof.ProductStates.{begun, state_after}
-use Rattle.trace_audit.proofs.ReportLinePlaces.{first_place, none_begun}
+use Rattle.trace_audit.proofs.ReportLinePositions.{first_place, none_begun}
 use Rattle.trace_audit.proofs.audited_rows.AuditedRows.new.Goals as goal
 
 pub returns : goal.returns

@@ -1,7 +1,7 @@
 use Rattle.std.proofs.Common.{◌≡◌, ◌/◌, ◌%◌, sym, ap, ◌∙◌, subst}
 use Rattle.run_laws.specs.TraceVerdicts.{row_size}
 use Rattle.trace_audit.specs.proof.ReportRows.{AreRows}
-use Rattle.trace_audit.proofs.ReportLinePlaces.{begun_first, begun_later}
+use Rattle.trace_audit.proofs.ReportLinePositions.{begun_first, begun_later}
 use Rattle.trace_audit.proofs.audited_rows.AuditedRows.reach.Goals as goal
 
 pub make_row-requires : goal.make_row-requires

@@ -1,6 +1,6 @@
 use Rattle.std.proofs.Common.{◌≡◌, ℕ, List, None, length, sym, ap₂, ◌∙◌, rules}
 use Rattle.std.specs.Prelude.{replicate}
-use Rattle.bus_machine.specs.States.{BusState}
+use Rattle.bus_machine.specs.BusStates.{BusState}
 use Rattle.run_laws.specs.TraceVerdicts.{Audit}
 use Rattle.trace_audit.proofs.AuditInvariant.{no_readings}
 use Rattle.trace_audit.proofs.replay.Replay.new.Goals as goal

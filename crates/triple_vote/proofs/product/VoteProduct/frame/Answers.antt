@@ -1,7 +1,7 @@
 use Rattle.std.proofs.Common.{◌≡◌, ◌∙◌, ◌-◌, ◌<◌, List, length, ap, sym, slice_index_or, arith}
 use Rattle.std.specs.Arc.{arc_value}
 use Rattle.pals_model.specs.declared.part.Part.{Part}
-use Rattle.triple_vote.specs.Replicas.{copies_of, frame_at}
+use Rattle.triple_vote.specs.VotedComposition.{copies_of, frame_at}
 use Rattle.triple_vote.specs.proof.VotedStates.{VotedState}
 use Rattle.triple_vote.proofs.OpeningAndNextStates.{frame_read, before_three, parts_there}
 use Rattle.triple_vote.proofs.product.VoteProduct.frame.Goals as goal

@@ -1,0 +1,189 @@
+//! To how many in ports of threads connections lead from the in ports of implementations.
+ghost use Rattle.std.specs.Prelude.{◌≡◌, ◌+◌, ℕ, min, Some, slice_get, IfOk, OnOk, Contains, if◌then◌else◌};
+ghost use Rattle.aadl_tree.specs.proof.PackageViews.{placed};
+ghost use Rattle.aadl_uses.specs.proof.PackageContainment.{containment};
+ghost use Rattle.aadl_uses.specs.PortsOfConnections.{connection_ports_at};
+ghost use Rattle.aadl_uses.specs.proof.ContainmentOrders.{IsOrder};
+ghost use Rattle.aadl_chains.specs.declared.port_set.PortAt.{PortAt};
+ghost use Rattle.aadl_chains.specs.proof.PortSets.{same_port};
+ghost use Rattle.aadl_chains.specs.proof.PermittedConnections.{ArePermitted};
+ghost use Rattle.aadl_chains.specs.proof.LimitedCounts.{IsNumber};
+ghost use Rattle.aadl_chains.specs.proof.EnteredPortCountTables.{entered_count, entered_count_by, AreCounted, AreTakenBelow, IsCounted};
+ghost use Rattle.aadl_chains.specs.proof.EnteredPortCountTables.{AreAdded};
+ghost use Rattle.aadl_chains.specs.proof.EnteredThreadPorts.{IsEnteredThrough};
+
+use crate::PortAt;
+use aadl_names::NumberedPort;
+use aadl_uses::marked_counts::add_up_to;
+use aadl_uses::{ConnectionPorts, PackageConnections};
+use indexmap::{IndexMap, IndexSet};
+use std::alloc::{AllocError, Global};
+use std::marker::Model;
+
+/// The in ports of implementations that are no threads, with the number of threads' in ports to which
+/// connections lead from them. Contracts see the entries.
+pub struct PortCounts {
+    numbers: IndexMap<PortAt, usize>,
+}
+
+impl Drop for PortCounts {
+    fn drop(self) {
+        let PortCounts { numbers: _ } = self;
+    }
+}
+
+impl Model for PortCounts {
+    ghost use Rattle.std.specs.Prelude.{ℕ, List};
+    ghost use Rattle.aadl_chains.specs.declared.port_set.PortAt.{PortAt};
+
+    ghost Value = { List (PortAt × ℕ) };
+
+    ghost view = { λ t. t.numbers.entries };
+}
+
+impl PortCounts {
+    /// The numbers of a package, each up to a limit. The order has each declaration behind those that it
+    /// contains.
+    pub fn of(
+        alloc: Global,
+        wires: &PackageConnections<'_>,
+        order: &IndexSet<usize>,
+        limit: usize,
+    ) -> Result<PortCounts, AllocError>
+        requires order { IsOrder (containment (placed wires.now.uses.names.tree.now)) order.now.keys }
+        requires declared { ArePermitted (placed wires.now.uses.names.tree.now) }
+        ensures { IfOk result (λ takes. (n : ℕ) → Contains order.now.keys n → AreCounted (placed wires.now.uses.names.tree.now) limit takes n) }
+    {
+        let mut takes = PortCounts {
+            numbers: IndexMap::new(alloc),
+        };
+        for at in 0..order.len() {
+            if let Some(number) = order.get_index(at) {
+                let number = *number;
+                takes.add_all(wires, number, limit)?;
+            }
+        }
+        Ok(takes)
+    }
+
+    /// To how many in ports of threads a connection leads from its target; the limit where there are more.
+    /// A connection into a port into which one before it goes leads nowhere.
+    pub fn through(
+        &self,
+        wires: &PackageConnections<'_>,
+        number: usize,
+        at: usize,
+        wire: ConnectionPorts,
+        limit: usize,
+    ) -> usize
+        requires wire { slice_get (connection_ports_at (placed wires.now.uses.names.tree.now) number) at ≡ Some wire }
+        requires declared { ArePermitted (placed wires.now.uses.names.tree.now) }
+        ensures { AreTakenBelow (placed wires.now.uses.names.tree.now) limit self.now number
+            → IsNumber limit (IsEnteredThrough (placed wires.now.uses.names.tree.now) number at) result }
+    {
+        match wire.target {
+            Some(target) => match target {
+                NumberedPort::Inner(sub, port) => {
+                    if wires.is_second(number, at) {
+                        0
+                    } else {
+                        self.below(wires, wires.uses.below(number, sub), port, limit)
+                    }
+                }
+                NumberedPort::Own(_) => 0,
+            },
+            None => 0,
+        }
+    }
+
+    // To how many a port of a declaration leads, or of a thread whether it goes in.
+    fn below(
+        &self,
+        wires: &PackageConnections<'_>,
+        declaration: Option<usize>,
+        port: usize,
+        limit: usize,
+    ) -> usize
+        ensures { result ≡ entered_count_by limit self.now (placed wires.now.uses.names.tree.now) declaration port }
+    {
+        match declaration {
+            Some(declaration) => {
+                if wires.uses.is_thread(declaration) {
+                    if wires.is_in(declaration, port) {
+                        limit.min(1)
+                    } else {
+                        0
+                    }
+                } else {
+                    self.at(PortAt { declaration, port })
+                }
+            }
+            None => 0,
+        }
+    }
+
+    // The number of a port.
+    fn at(&self, port: PortAt) -> usize
+        ensures { result ≡ entered_count self.now port }
+    {
+        match self.numbers.get(&port) {
+            Some(number) => *number,
+            None => 0,
+        }
+    }
+
+    // Adds what the connections of an implementation lead to.
+    fn add_all(
+        &mut self,
+        wires: &PackageConnections<'_>,
+        number: usize,
+        limit: usize,
+    ) -> Result<(), AllocError>
+        requires { ArePermitted (placed wires.now.uses.names.tree.now) }
+        ensures { OnOk result (AreAdded (placed wires.now.uses.names.tree.now) limit number self.old self.new) }
+    {
+        for (at, wire) in wires.wires(number).iter().enumerate() {
+            self.add(wires, number, at, *wire, limit)?;
+        }
+        Ok(())
+    }
+
+    // Adds what a connection leads to, if it comes from an own port.
+    fn add(
+        &mut self,
+        wires: &PackageConnections<'_>,
+        number: usize,
+        at: usize,
+        wire: ConnectionPorts,
+        limit: usize,
+    ) -> Result<(), AllocError>
+        requires wire { slice_get (connection_ports_at (placed wires.now.uses.names.tree.now) number) at ≡ Some wire }
+        requires declared { ArePermitted (placed wires.now.uses.names.tree.now) }
+        ensures { OnOk result (IsCounted (placed wires.now.uses.names.tree.now) limit number at wire self.old self.new) }
+    {
+        match wire.source {
+            Some(source) => match source {
+                NumberedPort::Own(port) => {
+                    let more = self.through(wires, number, at, wire, limit);
+                    let port = PortAt {
+                        declaration: number,
+                        port,
+                    };
+                    self.increase(port, more, limit)
+                }
+                NumberedPort::Inner(_, _) => Ok(()),
+            },
+            None => Ok(()),
+        }
+    }
+
+    // Adds to the number of a port.
+    fn increase(&mut self, port: PortAt, more: usize, limit: usize) -> Result<(), AllocError>
+        ensures { OnOk result ((other : PortAt)
+            → entered_count self.new other ≡ (if same_port port other then min limit (entered_count self.old port + more) else entered_count self.old other)) }
+    {
+        let number = add_up_to(limit, self.at(port), more);
+        self.numbers.insert(port, number)?;
+        Ok(())
+    }
+}

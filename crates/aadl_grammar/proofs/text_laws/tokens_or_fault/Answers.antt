@@ -1,5 +1,0 @@
-use Rattle.aadl_grammar.proofs.TokensOrFault.{tokens_or_fault}
-use Rattle.aadl_grammar.proofs.text_laws.tokens_or_fault.Goals as goal
-
-pub returns : goal.returns
-returns c = tokens_or_fault

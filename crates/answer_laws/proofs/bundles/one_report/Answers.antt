@@ -1,5 +1,0 @@
-use Rattle.answer_laws.proofs.UniqueCheckReports.{one_report}
-use Rattle.answer_laws.proofs.bundles.one_report.Goals as goal
-
-pub returns : goal.returns
-returns c = one_report

@@ -1,9 +1,0 @@
-use Rattle.std.proofs.Common.{◌≡◌, map, take}
-use Rattle.aadl_tree.specs.proof.PlaceMaps.{kept_place}
-use Rattle.aadl_tree.specs.proof.DeclarationViews.{declaration_view}
-use Rattle.component_checks.specs.proof.ComponentProperties.{type_timed}
-use Rattle.component_checks.proofs.component_property_lists.all_of_types.Given as goal
-
-abbrev pub invariant-loop-declaration : goal.invariant-loop-declaration
-invariant-loop-declaration l =
-    l.types ≡ map type_timed (map (declaration_view kept_place) (take l.declaration-index l.declaration-items))

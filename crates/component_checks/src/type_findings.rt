@@ -1,0 +1,170 @@
+//! What is wrong with the types of ports, variables and first values.
+ghost use Rattle.std.specs.Prelude.{◌≡◌, ◌++◌, OnOk, flat_map, map, option_map, option_copied};
+ghost use Rattle.aadl_tree.specs.Names.{identifiers};
+ghost use Rattle.aadl_tree.specs.proof.PlaceMaps.{kept_place};
+ghost use Rattle.aadl_tree.specs.proof.NameViews.{identifiers_view, reference_view};
+ghost use Rattle.aadl_tree.specs.proof.ValueViews.{value_view, values_view, association_view};
+ghost use Rattle.aadl_tree.specs.Values.{list};
+ghost use Rattle.aadl_tree.specs.proof.DeclarationViews.{feature_view};
+ghost use Rattle.aadl_tree.specs.proof.AnnexViews.{variable_view, annex_tree_view};
+ghost use Rattle.aadl_names.specs.PropertyValueShapes.{only_text, text_of};
+ghost use Rattle.annex_resolve.specs.ExpressionTypesAndFindings.{kind_in};
+ghost use Rattle.component_checks.specs.TypeFindings as spec;
+
+use crate::property_lookup::property_in;
+use crate::unquoted_strings::unquoted;
+use aadl_names::PropertyName;
+use aadl_tree::{
+    AnnexTree, Association, Direction, Feature, Identifiers, Reference, Value, VariableDeclaration,
+};
+use annex_resolve::type_names::kind_named;
+use annex_resolve::violation::BAD_TYPE;
+use annex_resolve::{Violation, add_if, expect};
+use pals_base::{Items, Kind, NoMemory};
+use std::alloc::Global;
+
+/// The type that a reference names, if there is one.
+pub fn kind_in(reference: &Option<Reference>) -> Option<Kind>
+    ensures { result ≡ kind_in (option_map (reference_view kept_place) reference.now) }
+{
+    match reference {
+        Some(reference) => kind_named(reference),
+        None => None,
+    }
+}
+
+/// Whether a port is an in port.
+pub fn is_in(port: &Feature) -> bool
+    ensures { result ≡ spec.is_in (feature_view kept_place port.now) }
+{
+    match port.direction {
+        Direction::In => true,
+        Direction::Out => false,
+    }
+}
+
+/// Adds the ports that are neither Integer nor Boolean.
+pub fn add_port_findings(
+    alloc: Global,
+    ports: &[Feature],
+    found: &mut Items<Violation>,
+) -> Result<(), NoMemory>
+    ensures { OnOk result (found.new ≡ found.old ++ flat_map spec.port_findings (map (feature_view kept_place) ports.now)) }
+{
+    for port in ports {
+        let kind = kind_in(&port.data_type);
+        add_if(alloc, found, kind.is_none(), port.name.at, BAD_TYPE)?;
+    }
+    Ok(())
+}
+
+// Adds the variables of a type that is none.
+fn add_name_findings(
+    alloc: Global,
+    kind: Option<Kind>,
+    names: &Identifiers,
+    found: &mut Items<Violation>,
+) -> Result<(), NoMemory>
+    ensures { OnOk result (found.new ≡ found.old ++ flat_map (spec.name_findings kind) (identifiers (identifiers_view kept_place names.now))) }
+{
+    add_if(alloc, found, kind.is_none(), names.first.at, BAD_TYPE)?;
+    for name in &names.rest {
+        add_if(alloc, found, kind.is_none(), name.at, BAD_TYPE)?;
+    }
+    Ok(())
+}
+
+// Whether a text is that of a Boolean.
+fn is_truth(text: &[u8]) -> bool
+    ensures { result ≡ spec.is_truth text.now }
+{
+    text == b"true".as_slice() || text == b"false".as_slice()
+}
+
+// The type of a value that is a text.
+fn text_kind(value: &Value) -> Option<Kind>
+    ensures { result ≡ spec.text_kind (text_of (value_view kept_place value.now)) }
+{
+    match value {
+        Value::Text(bytes) => {
+            if is_truth(unquoted(bytes.as_slice())) {
+                Some(Kind::Boolean)
+            } else {
+                Some(Kind::Integer)
+            }
+        }
+        _ => None,
+    }
+}
+
+// The type of the only text of a list.
+fn only_kind(values: &[Value]) -> Option<Kind>
+    ensures { result ≡ spec.text_kind (only_text (list (values_view kept_place values.now))) }
+{
+    match values {
+        [only] => text_kind(only),
+        _ => None,
+    }
+}
+
+// The type of a first value.
+fn first_kind(value: &Value) -> Option<Kind>
+    ensures { result ≡ spec.text_kind (only_text (value_view kept_place value.now)) }
+{
+    match value {
+        Value::List(values) => only_kind(values.as_slice()),
+        _ => None,
+    }
+}
+
+// Adds the finding that a first value is not of its variable's type.
+fn add_first_findings(
+    alloc: Global,
+    kind: Option<Kind>,
+    given: Option<&Association>,
+    found: &mut Items<Violation>,
+) -> Result<(), NoMemory>
+    ensures { OnOk result (found.new ≡ found.old ++ spec.first_findings kind (option_map (association_view kept_place) (option_copied given.entry))) }
+{
+    match given {
+        Some(given) => expect(
+            alloc,
+            found,
+            given.name.first.at,
+            kind,
+            first_kind(&given.value),
+        ),
+        None => Ok(()),
+    }
+}
+
+// Adds what is wrong with a declaration of variables.
+fn add_variable_findings(
+    alloc: Global,
+    variable: &VariableDeclaration,
+    found: &mut Items<Violation>,
+) -> Result<(), NoMemory>
+    ensures { OnOk result (found.new ≡ found.old ++ spec.variable_findings (variable_view kept_place variable.now)) }
+{
+    let kind = kind_named(&variable.data_type);
+    add_name_findings(alloc, kind, &variable.names, found)?;
+    let first = property_in(variable.properties.as_slice(), PropertyName::Initial);
+    add_first_findings(alloc, kind, first, found)
+}
+
+/// Adds what is wrong with the variables of a behaviour: those that are neither Integer nor Boolean,
+/// and first values of another type.
+pub fn add_variables_findings(
+    alloc: Global,
+    annex: &AnnexTree,
+    found: &mut Items<Violation>,
+) -> Result<(), NoMemory>
+    ensures { OnOk result (found.new ≡ found.old ++ spec.variables_findings (annex_tree_view kept_place annex.now)) }
+{
+    if let Some(variables) = &annex.variables {
+        for variable in variables {
+            add_variable_findings(alloc, variable, found)?;
+        }
+    }
+    Ok(())
+}

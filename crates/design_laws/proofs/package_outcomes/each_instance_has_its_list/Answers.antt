@@ -1,5 +1,0 @@
-use Rattle.design_laws.proofs.SortedFindings.{has_list}
-use Rattle.design_laws.proofs.package_outcomes.each_instance_has_its_list.Goals as goal
-
-pub returns : goal.returns
-returns c = has_list

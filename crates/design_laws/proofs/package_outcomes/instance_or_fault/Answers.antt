@@ -1,5 +1,0 @@
-use Rattle.design_laws.proofs.FirstFaultOrInstance.{each_package_ends}
-use Rattle.design_laws.proofs.package_outcomes.instance_or_fault.Goals as goal
-
-pub returns : goal.returns
-returns c = each_package_ends

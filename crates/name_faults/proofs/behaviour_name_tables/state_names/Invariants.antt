@@ -1,0 +1,20 @@
+use Rattle.std.proofs.Common.{◌≡◌, ℕ, List, map, drop}
+use Rattle.aadl_tree.specs.Names.{identifiers}
+use Rattle.std.specs.List.{flat_map}
+use Rattle.std.specs.Option.{option_or}
+use Rattle.aadl_tree.specs.proof.AnnexViews.{state_view}
+use Rattle.aadl_tree.specs.proof.PlaceMaps.{kept_place}
+use Rattle.aadl_names.specs.proof.NameTables.{value_of}
+use Rattle.aadl_names.specs.PackageFaults.{is_among}
+use Rattle.name_faults.specs.proof.ConditionalValues.{value_if}
+use Rattle.name_faults.proofs.behaviour_name_tables.state_names.Given as goal
+
+-- what is left is still to be added
+abbrev pub invariant-loop-declaration : goal.invariant-loop-declaration
+invariant-loop-declaration l =
+    (name : List ℕ)
+    → value_if tt (is_among (flat_map (λ d. identifiers d.names)
+    (map (state_view kept_place) l.declaration-items)) name)
+    ≡ option_or (value_of l.table name) (value_if tt (is_among
+    (flat_map (λ d. identifiers d.names)
+    (map (state_view kept_place) (drop l.declaration-index l.declaration-items))) name))

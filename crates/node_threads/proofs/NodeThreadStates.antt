@@ -1,0 +1,20 @@
+-- For the functions of `sleepers`: past the last node a thread is its node's own and awake, and what holds of the
+-- nodes so far holds with one more.
+use Rattle.std.proofs.Common.{◌≡◌, inl, inr, ℕ, zero, suc, ◌+◌, ◌<◌, List, [], ◌∷◌, slice_get, None, refl, sym, subst}
+use Rattle.std.proofs.Common.{arith}
+use Rattle.std.proofs.lemmas.Bool.{cases_eq}
+use Rattle.node_threads.specs.declared.sleepers.ThreadSlot.{ThreadSlot}
+use Rattle.node_threads.specs.proof.Sleepers.{seat_at, free_seat}
+
+-- past the last seat
+pub none_seat : (threads : List ThreadSlot) (node : ℕ) → None ≡ slice_get threads node → seat_at threads node ≡ free_seat
+none_seat [] node is = refl
+none_seat (s ∷ ss) zero is = absurd (cc)
+none_seat (s ∷ ss) (suc k) is = none_seat ss k is
+
+-- what holds of the nodes so far, and of one more
+pub one_more : (P : ℕ → Type 0) (n : ℕ) → ((k : ℕ) → k < n → P k) → P n → (k : ℕ) → k < n + 1 → P k
+one_more P n before here k below = elim (cases_eq k n) [
+  | inl same ↦ subst P (sym same) here
+  | inr other ↦ before k (omega arith)
+]

@@ -1,0 +1,80 @@
+//! A run of nodes in threads, from the opening of its bus to the ends of its nodes' parts.
+ghost use Rattle.std.specs.Prelude.{◌≡◌, ◌≢◌, ◌≤◌, ℕ, length, vec_len, None, Some, IfOk, slice_get};
+ghost use Rattle.pals_base.specs.declared.limits.TheConstants.{COMPONENTS};
+ghost use Rattle.pals_bus.specs.proof.OpeningNodes.{opening_bus};
+ghost use Rattle.node_threads.specs.proof.SharedCourses.{AreClocksOf};
+ghost use Rattle.node_threads.specs.proof.NodeEndsAndOutcomes.{IsOutcome};
+ghost use Rattle.node_threads.specs.declared.node_end.NodeEnd.TheVariants as ended;
+
+use crate::course::SharedRun;
+use crate::host::Host;
+use crate::job_gate::Gate;
+use crate::locked_state::Locked;
+use crate::node_end::NodeEnd;
+use crate::opening_course::open_with_spare;
+use crate::run_completion::end_run;
+use crate::sleepers::Sleepers;
+use crate::thread_admission::Starter;
+use crate::wake_signals::WakeSignals;
+use crate::workers::work_all;
+use pals_base::{Items, NoMemory};
+use pals_bus::Bus;
+use pals_clock::Clocks;
+use std::alloc::Global;
+use std::sync::{Mutex, Wait};
+use std::thread::Threads;
+
+/// A bus that comes out of a run, and how the part of each node ended, in the order of the nodes. A part was stopped
+/// only where a stop stands.
+#[derive(Drop)]
+pub struct RunEnd {
+    pub bus: Bus,
+    pub ends: Items<NodeEnd>,
+    pub ghost few: { length ends ≤ COMPONENTS },
+    pub ghost stopped: { (node : ℕ) → slice_get ends node ≡ Some ended.Stopped → bus.state.stop ≢ None },
+}
+
+/// Runs a bus from its opening to its end, with a thread for each node that the starter admits and
+/// that can be started; the calling thread has the others, in turns. The clocks are those of a meeting
+/// where the nodes of the bus meet, and else a list for each node; what was picked of a list does not
+/// count. It may wait for a lock, and for the threads to end.
+pub fn run_threads<R: Threads + Wait + Sync, W: Starter, G: Gate + Sync>(
+    host: Host<'_, R, W, G>,
+    alloc: Global,
+    bus: Bus,
+    clocks: Clocks,
+) -> Result<RunEnd, NoMemory>
+    requires opening { bus ≡ opening_bus bus.run bus.codes bus.meeting }
+    requires clocks { AreClocksOf bus clocks }
+    ensures { IfOk result (λ end. IsOutcome bus clocks end.bus end.ends) }
+{
+    let Host {
+        runtime,
+        starter,
+        gate,
+    } = host;
+    let (course, kept) = open_with_spare(alloc, bus, clocks)?;
+    let count = course.count();
+    let (lock, bells) = shared(alloc, course)?;
+    work_all(runtime, &lock, &bells, count, starter, gate);
+    let out = lock.into_inner().into_course();
+    end_run(runtime, alloc, out, kept, gate)
+}
+
+// A course under a lock, and the bells of its nodes.
+fn shared(alloc: Global, course: SharedRun) -> Result<(Mutex<Locked>, WakeSignals), NoMemory>
+    ensures { IfOk result (λ both. vec_len both.1.nodes ≡ length course.bus.run.design.components) }
+{
+    let (bells, sleepers) = bells_and_sleepers(alloc, course.count())?;
+    let lock = Mutex::new(Locked::new(course, sleepers));
+    Ok((lock, bells))
+}
+
+// The bells of `count` nodes, all of which are awake.
+fn bells_and_sleepers(alloc: Global, count: u32) -> Result<(WakeSignals, Sleepers), NoMemory>
+    ensures { IfOk result (λ both. vec_len both.0.nodes ≡ count) }
+{
+    let bells = WakeSignals::new(alloc, count)?;
+    let sleepers = Sleepers::new(alloc, count)?;
+    Ok((bells, sleepers))
+}
