@@ -15,7 +15,7 @@ ghost use Rattle.annex_resolve.specs.ActionFindings.{branch_findings};
 ghost use Rattle.annex_resolve.specs.proof.ResolutionResults.{ResolvesAction, ResolvesActions, ResolvesBranch};
 
 use crate::expressions::{kind_of, resolve_whole};
-use crate::loop_turns::{count_turns, is_too_long, signed, together};
+use crate::loop_turns::{count_turns, is_too_long, signed, turns_with_outer};
 use crate::scope::{DeclaredName, Meaning, Scope};
 use crate::type_names::kind_named;
 use crate::violation::{BAD_TYPE, LOOP_TOO_LONG, Violation, add_if};
@@ -244,6 +244,6 @@ fn resolve_loop(
         LOOP_TOO_LONG,
     )?;
     let inner = scope.with_loop(alloc, &turns.variable)?;
-    let body = resolve_block(alloc, &inner, together(around, count), &turns.body, found)?;
+    let body = resolve_block(alloc, &inner, turns_with_outer(around, count), &turns.body, found)?;
     Ok(Act::For { low, high, body })
 }

@@ -50,12 +50,12 @@ fn write_cut(to: &mut Tuple, from: &[PortValue], count: usize)
     ensures { to.new ≡ cut count from.now }
 {
     for at in 0..from.len() {
-        to.set(at, place_before(from, at, at < count));
+        to.set(at, value_if_before(from, at, at < count));
     }
 }
 
 // A place where it counts, else an absent one.
-fn place_before(tuple: &[PortValue], at: usize, counts: bool) -> PortValue
+fn value_if_before(tuple: &[PortValue], at: usize, counts: bool) -> PortValue
     ensures { result ≡ (if counts then slice_index_or tuple.now at Absent else Absent) }
 {
     if counts {

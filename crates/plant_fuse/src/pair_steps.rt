@@ -10,7 +10,7 @@ use pals_base::tuples::place;
 use pals_base::{Frame, NoMemory, PortValue, Tuple};
 use pals_model::{Link, Part, PortSource};
 use sync_product::component_stage::{Stage, write_taps};
-use sync_product::round_inputs::{RoundInputs, place_brought};
+use sync_product::round_inputs::{RoundInputs, value_brought};
 use sync_product::wiring::WiredComponent;
 
 /// A component of a pair, with the number of its partner, and the frame that it goes on from.
@@ -167,7 +167,7 @@ fn place_read(
     {
         return left_by_partner(round, side.wired.component.rate, number, link, last);
     }
-    place_brought(round, side.wired.component.rate, source, step)
+    value_brought(round, side.wired.component.rate, source, step)
 }
 
 // What the partner left last on a link: before its first step in the round, the last place of the

@@ -5,7 +5,7 @@ ghost use Rattle.pals_base.specs.ExpressionAndActionTrees.{For};
 ghost use Rattle.step_compiler.specs.ExpressionAndActionInstructions.{code_act, code_acts, code_branches};
 ghost use Rattle.step_compiler.specs.proof.AppendedCode.{Adds};
 
-use crate::checked_numbers::{behind, next_depth};
+use crate::checked_numbers::{place_behind, next_depth};
 use crate::code_lengths::{acts_length, branches_length, expr_length};
 use crate::expressions::push_expr;
 use pals_base::{Act, Branch, Items, NoMemory};
@@ -42,7 +42,7 @@ fn push_act(code: &mut Items<Instr>, act: &Act, variables: u32) -> Result<(), No
             otherwise,
         } => {
             let length = branches_length(branches).saturating_add(acts_length(otherwise));
-            let end = behind(code.len(), length)?;
+            let end = place_behind(code.len(), length)?;
             push_branches(code, branches, variables, end)?;
             push_acts(code, otherwise, variables)
         }
@@ -62,8 +62,8 @@ fn push_for(
     ensures { OnOk result (Adds code.old code.new (code_act (For low high (actions_along body.now)) variables)) }
 {
     let slot = variables;
-    let to = behind(code.len(), 1)?;
-    let exit = behind(code.len(), acts_length(body).saturating_add(2))?;
+    let to = place_behind(code.len(), 1)?;
+    let exit = place_behind(code.len(), acts_length(body).saturating_add(2))?;
     code.push(Instr::LoopStart {
         slot,
         low,
@@ -101,7 +101,7 @@ fn push_branch(
     ensures { OnOk result (Adds code.old code.new (code_branches (branches_along (branch.now ∷ [])) variables end)) }
 {
     let length = expr_length(&branch.guard).saturating_add(acts_length(&branch.acts));
-    let next = behind(code.len(), length.saturating_add(2))?;
+    let next = place_behind(code.len(), length.saturating_add(2))?;
     push_expr(code, &branch.guard)?;
     code.push(Instr::JumpZero(next))?;
     push_acts(code, &branch.acts, variables)?;

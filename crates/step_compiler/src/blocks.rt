@@ -9,7 +9,7 @@ ghost use Rattle.step_compiler.specs.proof.BlockLengthsAndStarts.{start_in, in_l
 ghost use Rattle.step_compiler.specs.proof.CompiledCode.{leaving_code};
 ghost use Rattle.step_compiler.specs.proof.AppendedCode.{Adds};
 
-use crate::checked_numbers::behind;
+use crate::checked_numbers::place_behind;
 use crate::code_lengths::transition_length;
 use crate::list_access::item_at;
 use crate::transitions::{is_complete, push_transition};
@@ -27,7 +27,7 @@ pub fn starts(alloc: Global, behaviour: &Behaviour, order: &[usize]) -> Result<V
     let lengths = block_lengths(alloc, behaviour)?;
     let mut starts = Vec::new(alloc);
     for state in 0..behaviour.states().len() {
-        starts.push(behind(0, start_in(&lengths, order, state))?)?;
+        starts.push(place_behind(0, start_in(&lengths, order, state))?)?;
     }
     Ok(starts)
 }
@@ -95,7 +95,7 @@ fn entry_of(behaviour: &Behaviour, starts: &[u32], state: usize) -> Result<Optio
         return Ok(None);
     }
     let start = item_at(starts, state, 0) as usize;
-    let place = behind(start, dispatch_offset(behaviour.transitions(), state))?;
+    let place = place_behind(start, dispatch_offset(behaviour.transitions(), state))?;
     Ok(Some(place))
 }
 

@@ -4,7 +4,7 @@ ghost use Rattle.pals_base.specs.proof.TreeViews.{tree_of, operands_along};
 ghost use Rattle.step_compiler.specs.ExpressionAndActionInstructions.{operator, operand_of, code_of, code_rest};
 ghost use Rattle.step_compiler.specs.proof.AppendedCode.{Adds};
 
-use crate::checked_numbers::behind;
+use crate::checked_numbers::place_behind;
 use crate::code_lengths::expr_length;
 use pals_base::{Expr, Items, NoMemory, Op, Operand};
 use step_code::Instr;
@@ -71,8 +71,8 @@ fn push_and_then(code: &mut Items<Instr>, right: &Expr) -> Result<(), NoMemory>
     ensures { OnOk result (Adds code.old code.new (operand_of Op.AndThen (tree_of right.now))) }
 {
     let length = expr_length(right);
-    let zero = behind(code.len(), length.saturating_add(2))?;
-    let end = behind(code.len(), length.saturating_add(3))?;
+    let zero = place_behind(code.len(), length.saturating_add(2))?;
+    let end = place_behind(code.len(), length.saturating_add(3))?;
     code.push(Instr::JumpZero(zero))?;
     push_expr(code, right)?;
     code.push(Instr::Jump(end))?;
@@ -84,8 +84,8 @@ fn push_and_then(code: &mut Items<Instr>, right: &Expr) -> Result<(), NoMemory>
 fn push_or_else(code: &mut Items<Instr>, right: &Expr) -> Result<(), NoMemory>
     ensures { OnOk result (Adds code.old code.new (operand_of Op.OrElse (tree_of right.now))) }
 {
-    let other = behind(code.len(), 3)?;
-    let end = behind(code.len(), expr_length(right).saturating_add(3))?;
+    let other = place_behind(code.len(), 3)?;
+    let end = place_behind(code.len(), expr_length(right).saturating_add(3))?;
     code.push(Instr::JumpZero(other))?;
     code.push(Instr::Push(1))?;
     code.push(Instr::Jump(end))?;

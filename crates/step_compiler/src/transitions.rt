@@ -8,7 +8,7 @@ ghost use Rattle.step_compiler.specs.proof.CompiledCode.{transition_code};
 ghost use Rattle.step_compiler.specs.proof.AppendedCode.{Adds};
 
 use crate::actions::push_acts;
-use crate::checked_numbers::{behind, count};
+use crate::checked_numbers::{place_behind, count};
 use crate::code_lengths::transition_length;
 use crate::expressions::push_expr;
 use crate::list_access::item_at;
@@ -52,7 +52,7 @@ fn false_guard_target(
 ) -> Result<u32, NoMemory>
     ensures { IfOk result (λ to. to ≡ false_guard_target never_taken transition.now place) }
 {
-    let end = behind(place, transition_length(transition))?;
+    let end = place_behind(place, transition_length(transition))?;
     if never_taken { Ok(end - 1) } else { Ok(end) }
 }
 

@@ -12,12 +12,12 @@ loop-at-preserved c =
     let from = c.args.from.now in
     let wanted = cut c.args.count from in
     let size : length wanted ≡ length from = length-cut c.args.count from in
-    let item = c.place_before.ensures ∙ cut_place c.args.count at from c.place_before.result c.loop-at-test.true in
+    let item = c.value_if_before.ensures ∙ cut_place c.args.count at from c.value_if_before.result c.loop-at-test.true in
     record {
       len = grind (arith, common_steps);
       done =
           ap (take (at + 1)) c.set.ensures
-          ∙ filled_more c.loop-at.to wanted at c.place_before.result (omega arith) (omega arith) item
+          ∙ filled_more c.loop-at.to wanted at c.value_if_before.result (omega arith) (omega arith) item
           c.loop-at.invariant.done;
     }
 
