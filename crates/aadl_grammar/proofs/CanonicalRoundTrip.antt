@@ -22,7 +22,7 @@ use Rattle.aadl_grammar.proofs.PlaceIndependence.AlikeParts.{alike_kept}
 use Rattle.aadl_grammar.proofs.PlaceIndependence.Declarations.{package_alike}
 use Rattle.aadl_grammar.proofs.DerivationTrees.DerivationsAndMachineSteps.{Derives}
 use Rattle.aadl_grammar.proofs.UniquePlacedTrees.OneTreeWithPlaces.{one_placed_package}
-use Rattle.aadl_grammar.proofs.UniquePlacedTrees.KeptTerminalTrees.{same_package}
+use Rattle.aadl_grammar.proofs.UniquePlacedTrees.TreesFromKeptTerminals.{same_package}
 use Rattle.aadl_grammar.proofs.Fates.GrammarLanguages.{packages}
 use Rattle.aadl_grammar.specs.proof.CanonicalRoundTrip.{HasSameTree}
 use Rattle.aadl_grammar.proofs.PackageAdjacency.{neighbours}

@@ -17,7 +17,7 @@ use Rattle.aadl_lex.specs.proof.TokenSpellings as spelled
 use Rattle.aadl_lex.specs.proof.TokenSpellings.{IsSpelled, AreSpelled}
 use Rattle.aadl_lex.specs.Tokens.{bytes_of, AreTokensOf, AreInOrder}
 use Rattle.aadl_lex.proofs.TokenOrder.{order_le, order_tokens}
-use Rattle.aadl_lex.proofs.TokenSpellings.{spelled_tokens}
+use Rattle.aadl_lex.proofs.TokensAsWritten.{spelled_tokens}
 use Rattle.aadl_tree.specs.declared.mark.Mark.{Mark}
 use Rattle.aadl_tree.specs.declared.mark.Mark.TheVariants as k
 use Rattle.aadl_tree.specs.KeywordsAndSymbols.{keyword_of, symbol_of}

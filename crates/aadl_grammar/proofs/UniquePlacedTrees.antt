@@ -10,4 +10,4 @@ pub mod DeclarationMembers
 pub mod Declarations
 pub mod OneTreeWithPlaces
 pub mod MovedTrees
-pub mod KeptTerminalTrees
+pub mod TreesFromKeptTerminals

@@ -5,4 +5,4 @@ pub mod FrontExtents
 pub mod WordSpellings
 pub mod AnnexEnds
 pub mod FrontSpellings
-pub mod TokenSpellings
+pub mod TokensAsWritten

@@ -2,4 +2,3 @@ pub mod BudgetedProcessors
 pub mod ReplicasAndRoundFaults
 pub mod MonitoredFormulas
 pub mod proof
-pub mod SumLines

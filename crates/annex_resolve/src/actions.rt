@@ -244,6 +244,12 @@ fn resolve_loop(
         LOOP_TOO_LONG,
     )?;
     let inner = scope.with_loop(alloc, &turns.variable)?;
-    let body = resolve_block(alloc, &inner, turns_with_outer(around, count), &turns.body, found)?;
+    let body = resolve_block(
+        alloc,
+        &inner,
+        turns_with_outer(around, count),
+        &turns.body,
+        found,
+    )?;
     Ok(Act::For { low, high, body })
 }

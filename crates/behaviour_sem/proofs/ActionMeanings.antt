@@ -19,7 +19,7 @@ use Rattle.pals_base.proofs.TreeViews.{action_of-If, action_of-For}
 use Rattle.behaviour_sem.specs.declared.early_end.EarlyEnd.{EarlyEnd}
 use Rattle.behaviour_sem.specs.declared.early_end.EarlyEnd.TheVariants as stop
 use Rattle.behaviour_sem.specs.proof.EvaluationFrames.{frame_of}
-use Rattle.behaviour_sem.specs.proof.StepResults.{IsStepResult, IsBranchResult}
+use Rattle.behaviour_sem.specs.proof.PartialStepResults.{IsStepResult, IsBranchResult}
 
 -- ---- trees
 pub act-If : (branches : Vec Branch Global) (otherwise : Vec Act Global) (frame : Frame) (fresh : List Bool)

@@ -11,7 +11,7 @@ use Rattle.pals_base.specs.ExpressionAndActionTrees.{Edge}
 use Rattle.behaviour_sem.specs.declared.early_end.EarlyEnd.{EarlyEnd}
 use Rattle.behaviour_sem.specs.declared.early_end.EarlyEnd.TheVariants as stop
 use Rattle.behaviour_sem.specs.proof.EvaluationFrames.{frame_of}
-use Rattle.behaviour_sem.specs.proof.StepResults.{IsStepResult}
+use Rattle.behaviour_sem.specs.proof.PartialStepResults.{IsStepResult}
 use Rattle.behaviour_sem.specs.proof.ActionExecution.{effect}
 use Rattle.behaviour_sem.specs.proof.TransitionMoves.{goes, move}
 use Rattle.behaviour_sem.specs.declared.transitions.StepState.{StepState}

@@ -1,6 +1,6 @@
 -- What the theorem of the program does not rest on: definitions of contracts below it, of laws, and of proofs.
 pub mod EvaluationFrames
-pub mod StepResults
+pub mod PartialStepResults
 pub mod ActionExecution
 pub mod TransitionMoves
 pub mod PartialSteps

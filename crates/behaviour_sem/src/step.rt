@@ -1,7 +1,7 @@
 //! One step of a behaviour.
 ghost use Rattle.std.specs.Prelude.{◌≡◌, IfOk, OnOk, None, length, map, replicate, slice_index_or};
 ghost use Rattle.pals_base.specs.SingleStep.{fire, held_of, holding, is_present};
-ghost use Rattle.behaviour_sem.specs.proof.StepResults.{IsStepResult};
+ghost use Rattle.behaviour_sem.specs.proof.PartialStepResults.{IsStepResult};
 ghost use Rattle.behaviour_sem.specs.proof.PartialSteps.{reacted};
 
 use crate::early_end::EarlyEnd;

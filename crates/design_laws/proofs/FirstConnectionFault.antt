@@ -28,8 +28,8 @@ use Rattle.aadl_chains.specs.proof.ConnectionEndFaults.{IsFoundAt, IsFoundIn, de
 use Rattle.aadl_chains.proofs.ConnectionEndFaults.{both_found, nothing_at, ways_tell, no_source, no_target, end_fault}
 use Rattle.aadl_chains.proofs.ConnectionEndFaults.{found_fault, wire_if}
 use Rattle.design_laws.proofs.FaultSearches.{Finds, none_found, alike_found, Below, found_below, first_in}
-use Rattle.design_laws.proofs.PortsReachingThreads.{inside}
-use Rattle.design_laws.proofs.PortsLeadingOut.{is_used, outside}
+use Rattle.design_laws.proofs.ExistingPortsJoinedInside.{inside}
+use Rattle.design_laws.proofs.ExistingPortsJoinedOutside.{is_used, outside}
 
 record Told (P : Type 0) : Type 0 where
   answer : Bool

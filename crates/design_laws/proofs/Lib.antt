@@ -61,8 +61,8 @@ mod ContainmentOrders
 mod MarkedPaths
 mod FaultSearches
 mod FirstRecursion
-mod PortsReachingThreads
-mod PortsLeadingOut
+mod ExistingPortsJoinedInside
+mod ExistingPortsJoinedOutside
 mod FirstConnectionFault
 mod FirstFaultOrSoundPackage
 mod IncomingLinkOrFeed

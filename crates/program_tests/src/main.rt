@@ -5,12 +5,12 @@ mod audited_runs;
 mod case_variations;
 mod grouped_answers;
 mod program_answer;
-mod ring_check;
+mod ring_text_reports;
 
 use case_files::{asked, check_answer, text_of, word};
 use case_variations::answer_series;
 use program_answer::{Transfer, ask};
-use ring_check::check_ring;
+use ring_text_reports::check_ring;
 use std::sync::Wait;
 use std::thread::Threads;
 use std::{fs, io};

@@ -1,7 +1,5 @@
 -- What each stop of a run tells: the cause of a missed start, and that with nodes that meet the source has sent. The
 -- claim StopsFit.
--- ---- a meeting's source has sent
--- the steps of a round start before the next alarm
 use Rattle.std.proofs.Common.{◌≡◌, inl, inr, ℕ, ◌+◌, ◌-◌, ◌<◌, ◌≤◌, nat_eq, nat_le, nat_lt, Bool, true, false, cond}
 use Rattle.std.proofs.Common.{◌&&◌, List, [], ◌∷◌, ◌++◌, length, slice_get, All, Option, Some, None, refl, sym, ap, ap₂}
 use Rattle.std.proofs.Common.{◌∙◌, subst, arith}

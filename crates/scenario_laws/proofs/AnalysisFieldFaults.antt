@@ -31,8 +31,8 @@ use Rattle.analysis_fields.specs.Properties.{properties_in}
 use Rattle.analysis_fields.specs.ReplicasAndFaults.{with_replica, replicas_in, copies_at, kind_at, with_fault_value}
 use Rattle.analysis_fields.specs.ReplicasAndFaults.{replica_at, link_from, ends_of, fault_behind, fault_of, fault_from}
 use Rattle.analysis_fields.specs.ReplicasAndFaults.{fault_in, with_fault, faults_in}
-use Rattle.scenario_laws.proofs.FaultsBesidesMemory.{IsNotMemory, ok, wrong, out, strange, lacking, bind, given_named, only}
-use Rattle.scenario_laws.proofs.FaultsBesidesMemory.{through_named}
+use Rattle.scenario_laws.proofs.OutcomesWithoutMemoryFault.{IsNotMemory, ok, wrong, out, strange, lacking, bind, given_named, only}
+use Rattle.scenario_laws.proofs.OutcomesWithoutMemoryFault.{through_named}
 use Rattle.scenario_laws.proofs.ValueFaults.{elements_named, entries_named, whole_named, number_named, text_named}
 use Rattle.scenario_laws.proofs.ValueFaults.{port_value_named, node_at_named, link_at_named}
 

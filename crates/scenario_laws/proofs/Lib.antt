@@ -4,7 +4,7 @@ mod ScenarioEvents
 mod TraceLineLimit
 mod FusiblePairs
 mod SuitableScenarios
-mod FaultsBesidesMemory
+mod OutcomesWithoutMemoryFault
 mod ValueFaults
 mod RunFieldFaults
 mod AnalysisFieldFaults

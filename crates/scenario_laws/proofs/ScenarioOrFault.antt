@@ -24,7 +24,7 @@ use Rattle.scenario_json.specs.declared.scenario.Scenario.{Scenario}
 use Rattle.scenario_json.specs.Scenarios.{only_known, field, needs_events, needs_trace, needs_properties}
 use Rattle.scenario_json.specs.Scenarios.{needs_processors, rounds_in, fields_in, scen}
 use Rattle.scenario_laws.specs.proof.ScenarioOrFault.{HasScenario, HasFault}
-use Rattle.scenario_laws.proofs.FaultsBesidesMemory.{IsNotMemory, ok, strange, lacking, big, bind, only}
+use Rattle.scenario_laws.proofs.OutcomesWithoutMemoryFault.{IsNotMemory, ok, strange, lacking, big, bind, only}
 use Rattle.scenario_laws.proofs.ValueFaults.{entries_named, whole_named}
 use Rattle.scenario_laws.proofs.RunFieldFaults.{inputs_named, delays_named, trace_named, clocks_named, events_named}
 use Rattle.scenario_laws.proofs.AnalysisFieldFaults.{properties_named, replicas_named, faults_named, plants_named}

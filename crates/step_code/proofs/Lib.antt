@@ -1,6 +1,6 @@
 pub mod CleanNesting
 pub mod InnermostLoops
-pub mod WeightBounds
+pub mod RunsWithinWeight
 pub mod StuckFreedom
 pub mod FuelMonotonicity
 pub mod LoopCrossings

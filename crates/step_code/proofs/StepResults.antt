@@ -18,7 +18,7 @@ use Rattle.step_code.specs.InstructionsPerStep.{silent, step_inputs, slots_of}
 use Rattle.step_code.specs.proof.StackHeights.{Member}
 use Rattle.step_code.specs.proof.VerifierRules.{IsVerified}
 use Rattle.step_code.specs.proof.StuckFreedomConditions.{HasSlotsAndPorts, IsNotStuck}
-use Rattle.step_code.proofs.WeightBounds.{ends_within}
+use Rattle.step_code.proofs.RunsWithinWeight.{ends_within}
 use Rattle.step_code.proofs.StuckFreedom.{Begun, never_stuck}
 use Rattle.step_code.proofs.VerifiedInstructionsAndEntries.{verified_entry}
 use Rattle.step_code.proofs.VerifiedPremises.{verified_nested, verified_fed, verified_level}

@@ -23,7 +23,7 @@ use Rattle.step_compiler.specs.ExpressionAndActionInstructions.{code_of, code_ac
 use Rattle.step_compiler.proofs.PlacedCodeLengths.{HasAt, has_front, has_back, code-length, act-length, acts-length}
 use Rattle.step_compiler.proofs.PlacedCodeLengths.{branches-length}
 use Rattle.step_compiler.proofs.AccessBounds.{Sees, Sizes, SeesAct, SeesActs, SeesBranches}
-use Rattle.step_code.proofs.WeightBounds.{spans}
+use Rattle.step_code.proofs.RunsWithinWeight.{spans}
 use Rattle.step_code.proofs.ListMembers.{get_set_other, get_set_same}
 use Rattle.step_compiler.proofs.ExpressionRuns.{At, at, Gives, stays, leads_on, goes, jumps, passes, expr_runs}
 use Rattle.step_compiler.proofs.ActionAndLoopEffects.{Fits, Arrives, Comes, come_after, comes_at, then_comes}

@@ -7,7 +7,7 @@ pub mod TransitionRuns
 pub mod JumpsWithinLoops
 pub mod AppendedCode
 pub mod LayoutSplits
-pub mod BlockOrderExtension
+pub mod BlockOrderTurns
 pub mod NumbersFromZero
 pub mod CappedBlockStarts
 pub mod AwaitedStateMarks

@@ -124,5 +124,3 @@ calm_start whole b starts (t ∷ order) s p has calm =
     (block-length b starts (is_complete b t) (leaving b t) p) refl has)
     (calm_on whole b starts (is_complete b t) (leaving b t) p
     (has_front whole p part (blocks_code b starts order q) has) calm))
-
--- ---- the compiled code

@@ -5,7 +5,7 @@ ghost use Rattle.pals_base.specs.ExpressionAndActionTrees.{For};
 ghost use Rattle.step_compiler.specs.ExpressionAndActionInstructions.{code_act, code_acts, code_branches};
 ghost use Rattle.step_compiler.specs.proof.AppendedCode.{Adds};
 
-use crate::checked_numbers::{place_behind, next_depth};
+use crate::checked_numbers::{next_depth, place_behind};
 use crate::code_lengths::{acts_length, branches_length, expr_length};
 use crate::expressions::push_expr;
 use pals_base::{Act, Branch, Items, NoMemory};

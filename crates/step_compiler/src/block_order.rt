@@ -12,7 +12,7 @@ use std::alloc::Global;
 /// All states, the complete ones first, and then the others, each behind all that jump to its
 /// block. Once for each state it looks at all transitions, and at each pair of states: with 64
 /// states that is at most 64 looks at each transition.
-#[tactic(auto, using(crate::proofs::BlockOrderExtension::next_round))]
+#[tactic(auto, using(crate::proofs::BlockOrderTurns::next_turn))]
 pub fn block_order(alloc: Global, behaviour: &Behaviour) -> Result<Vec<usize>, NoMemory>
     ensures { IfOk result (λ order. order.items ≡ block_order behaviour.now) }
 {

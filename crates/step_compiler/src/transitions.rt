@@ -8,7 +8,7 @@ ghost use Rattle.step_compiler.specs.proof.CompiledCode.{transition_code};
 ghost use Rattle.step_compiler.specs.proof.AppendedCode.{Adds};
 
 use crate::actions::push_acts;
-use crate::checked_numbers::{place_behind, count};
+use crate::checked_numbers::{count, place_behind};
 use crate::code_lengths::transition_length;
 use crate::expressions::push_expr;
 use crate::list_access::item_at;

@@ -20,7 +20,7 @@ use Rattle.step_code.specs.proof.VerifierRules.{IsVerified}
 use Rattle.step_code.specs.proof.StuckFreedomConditions.{HasSlotsAndPorts}
 use Rattle.step_code.proofs.StuckFreedom.{Begun, Fine, Stands, stands_on}
 use Rattle.step_code.proofs.FuelMonotonicity.{Moves, moves}
-use Rattle.step_code.proofs.WeightBounds.{ends_within}
+use Rattle.step_code.proofs.RunsWithinWeight.{ends_within}
 use Rattle.step_code.proofs.ReachedHeights.{low_stack}
 use Rattle.step_code.proofs.VerifiedInstructionsAndEntries.{verified_entry}
 use Rattle.step_code.proofs.VerifiedPremises.{verified_nested, verified_fed, verified_level}

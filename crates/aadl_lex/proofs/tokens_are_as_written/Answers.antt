@@ -1,4 +1,4 @@
-use Rattle.aadl_lex.proofs.TokenSpellings.{spelled_tokens, words_of, words_among}
+use Rattle.aadl_lex.proofs.TokensAsWritten.{spelled_tokens, words_of, words_among}
 use Rattle.aadl_lex.proofs.tokens_are_as_written.Goals as goal
 
 pub returns-clause-all : goal.returns-clause-all

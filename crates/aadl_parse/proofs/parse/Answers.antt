@@ -2,7 +2,7 @@ use Rattle.std.proofs.Common.{◌∙◌, List, subst, sym, ap, refl, arith, [], 
 use Rattle.std.specs.List.{All}
 use Rattle.aadl_lex.specs.declared.token.Token.{Token}
 use Rattle.aadl_lex.specs.proof.TokenSpellings.{IsWordAt}
-use Rattle.aadl_lex.proofs.TokenSpellings.{words_of}
+use Rattle.aadl_lex.proofs.TokensAsWritten.{words_of}
 use Rattle.aadl_tree.specs.Terminals.{placed_terminals}
 use Rattle.aadl_grammar.specs.proof.StackMachine.{depth}
 use Rattle.aadl_grammar.specs.proof.ParserAnswers.{here}

@@ -1,5 +1,5 @@
 use Rattle.std.proofs.Common.{◌∙◌, ap, refl, arith, [], length}
-use Rattle.aadl_lex.proofs.TokenSpellings.{words_among}
+use Rattle.aadl_lex.proofs.TokensAsWritten.{words_among}
 use Rattle.aadl_grammar.specs.proof.StackMachine.{depth}
 use Rattle.aadl_grammar.specs.proof.TerminalViews.{spots_of}
 use Rattle.aadl_grammar.proofs.TerminalViews.{spots_past, some_left}

@@ -9,7 +9,7 @@ use Rattle.pals_base.specs.ExpressionAndActionTrees.{Actions, Branches}
 use Rattle.pals_base.specs.Actions.{Effect, acts, act_first, with_vars, without_loop}
 use Rattle.behaviour_sem.specs.declared.step_inputs.StepInputs.{StepInputs}
 use Rattle.behaviour_sem.specs.declared.early_end.EarlyEnd.{EarlyEnd}
-use Rattle.behaviour_sem.specs.proof.StepResults.{IsStepResult, IsBranchResult}
+use Rattle.behaviour_sem.specs.proof.PartialStepResults.{IsStepResult, IsBranchResult}
 use Rattle.behaviour_sem.specs.proof.EvaluationFrames.{seen, fresh}
 
 -- what actions change: the variables, and the outputs so far

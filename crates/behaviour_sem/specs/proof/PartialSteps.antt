@@ -8,7 +8,7 @@ use Rattle.pals_base.specs.SingleStep.{Fired, along, dispatched, settled}
 use Rattle.behaviour_sem.specs.declared.step_inputs.StepInputs.{StepInputs}
 use Rattle.behaviour_sem.specs.declared.early_end.EarlyEnd.{EarlyEnd}
 use Rattle.behaviour_sem.specs.declared.transitions.StepState.{StepState}
-use Rattle.behaviour_sem.specs.proof.StepResults.{IsStepResult}
+use Rattle.behaviour_sem.specs.proof.PartialStepResults.{IsStepResult}
 use Rattle.behaviour_sem.specs.proof.EvaluationFrames.{fresh}
 
 -- where a step stands, and the outputs so far

@@ -1,5 +1,5 @@
 use Rattle.aadl_grammar.proofs.UniquePlacedTrees.OneTreeWithPlaces.{one_placed_package, one_placed_behaviour}
-use Rattle.aadl_grammar.proofs.UniquePlacedTrees.KeptTerminalTrees.{same_package}
+use Rattle.aadl_grammar.proofs.UniquePlacedTrees.TreesFromKeptTerminals.{same_package}
 use Rattle.aadl_grammar.proofs.fate_and_uniqueness_laws.one_tree_with_places.Goals as goal
 
 pub returns-clause-package : goal.returns-clause-package

@@ -9,7 +9,7 @@ use Rattle.pals_base.specs.ExpressionAndActionTrees.{For}
 use Rattle.pals_base.specs.proof.TreeViews.{action_of, actions_along, branches_along}
 use Rattle.pals_base.proofs.ForRanges.{no_numbers}
 use Rattle.behaviour_sem.specs.proof.EvaluationFrames.{frame_of}
-use Rattle.behaviour_sem.specs.proof.StepResults.{IsStepResult, IsBranchResult}
+use Rattle.behaviour_sem.specs.proof.PartialStepResults.{IsStepResult, IsBranchResult}
 use Rattle.behaviour_sem.specs.proof.ActionExecution.{effect}
 use Rattle.behaviour_sem.proofs.ActionMeanings.{act-If, act-For, turn_after, Left-chose-err, for_each-more}
 use Rattle.behaviour_sem.proofs.actions.+run.Goals as goal

@@ -4,7 +4,7 @@ use Rattle.pals_base.specs.ExpressionValues.{on_value}
 use Rattle.pals_base.specs.SingleStep.{is_present, first_open, along}
 use Rattle.pals_base.specs.ExpressionAndActionTrees.{Edge}
 use Rattle.behaviour_sem.specs.declared.early_end.EarlyEnd.TheVariants as stop
-use Rattle.behaviour_sem.specs.proof.StepResults.{IsStepResult}
+use Rattle.behaviour_sem.specs.proof.PartialStepResults.{IsStepResult}
 use Rattle.behaviour_sem.specs.proof.TransitionMoves.{move}
 use Rattle.behaviour_sem.specs.proof.PartialSteps.{fired}
 use Rattle.behaviour_sem.proofs.TransitionSearch.{goes-same, first_open-from}

@@ -5,7 +5,7 @@ use Rattle.pals_base.specs.SingleStep.{along}
 use Rattle.pals_base.specs.ExpressionAndActionTrees.{Edge}
 use Rattle.pals_base.specs.proof.TreeViews.{actions_along}
 use Rattle.behaviour_sem.specs.proof.EvaluationFrames.{frame_of, fresh}
-use Rattle.behaviour_sem.specs.proof.StepResults.{IsStepResult}
+use Rattle.behaviour_sem.specs.proof.PartialStepResults.{IsStepResult}
 use Rattle.behaviour_sem.specs.proof.ActionExecution.{effect}
 use Rattle.behaviour_sem.specs.proof.PartialSteps.{fired}
 use Rattle.behaviour_sem.proofs.TransitionSearch.{along-ran, along-stops}

@@ -1,5 +1,5 @@
 use Rattle.pals_base.proofs.StepTermination.{fires_well, starts_well}
-use Rattle.pals_base.proofs.laws.behaviours.each_step_ends.Goals as goal
+use Rattle.pals_base.proofs.laws.single_step.each_step_ends.Goals as goal
 
 pub returns-clause-start : goal.returns-clause-start
 returns-clause-start c = starts_well

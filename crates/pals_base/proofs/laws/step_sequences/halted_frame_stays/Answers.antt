@@ -1,5 +1,5 @@
 use Rattle.pals_base.proofs.StepSequences.{fire-halted, frame_after-halted, outputs-halted}
-use Rattle.pals_base.proofs.laws.steps.halted_frame_stays.Goals as goal
+use Rattle.pals_base.proofs.laws.step_sequences.halted_frame_stays.Goals as goal
 
 pub returns-clause-frame : goal.returns-clause-frame
 returns-clause-frame c = frame_after-halted
