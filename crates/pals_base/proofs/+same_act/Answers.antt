@@ -54,10 +54,10 @@ behaviour::Act::same-returns-then-high-other_high t c =
     c.same_acts-then-high-other_high.ensures in
     (λ yes. let e = bodies.0 yes in cc, λ same. bodies.1 (cc))
 
-pub equality::actions::same_acts-returns-then-left-right : goal.same::actions::same_acts-returns-then-left-right
+pub equality::actions::same_acts-returns-then-left-right : goal.equality::actions::same_acts-returns-then-left-right
 equality::actions::same_acts-returns-then-left-right t c =
     (grind (arith, common_steps), λ same. let e = same_acts-length _ _ same in absurd (grind (arith, common_steps)))
 
-pub equality::actions::same_branches-returns-then-left-right : goal.same::actions::same_branches-returns-then-left-right
+pub equality::actions::same_branches-returns-then-left-right : goal.equality::actions::same_branches-returns-then-left-right
 equality::actions::same_branches-returns-then-left-right t c =
     (grind (arith, common_steps), λ same. let e = same_branches-length _ _ same in absurd (grind (arith, common_steps)))

@@ -16,6 +16,6 @@ behaviour::Expr::same-returns-then-same t c =
     let rests = rw (c.deref-then-same.ensures.value, c.deref-then-same-2.ensures.value) at c.same_operands.ensures in
     (λ yes. let e = rests.0 yes in cc, λ same. rests.1 (cc))
 
-pub equality::expressions::same_operands-returns-then-left-right : goal.same::expressions::same_operands-returns-then-left-right
+pub equality::expressions::same_operands-returns-then-left-right : goal.equality::expressions::same_operands-returns-then-left-right
 equality::expressions::same_operands-returns-then-left-right t c =
     (grind (arith, common_steps), λ same. let e = same_operands-length _ _ same in absurd (grind (arith, common_steps)))
