@@ -21,7 +21,7 @@ loop-number-preserved c = λ all are.
     ∙ get_or-map all design.taps at tap c.index-shown-number.result within ∙ ap all (sym is) in
     let out = c.loop-number.text.items in
     lines_turn line_end (shown_line design all) design.taps at tap _ _ _ within is (c.loop-number.invariant all are)
-    (c.in_ok-add_shown.ensures.ok
+    (c.in_ok-add_tap_tuple.ensures.ok
     ∙ ap (λ kind. out ++ tap_line kind tap c.as_slice.result.now ++ line_end) c.out_kind-kind.ensures
     ∙ ap (λ t. out ++ tap_line (out_kind (slice_get design.components tap.source.0) tap.out_port) tap t
     ++ line_end) tuple)

@@ -11,8 +11,8 @@ use Rattle.model_violations.specs.ThreadBehaviours.{annex_rules, behaviour_by, f
 use Rattle.model_violations.specs.PortsAndVariables.{values_of}
 use Rattle.model_violations.proofs.thread_behaviour.resolve_numbered.Goals as goal
 
-pub setting_of-requires-clause-variables : goal.setting_of-requires-clause-variables
-setting_of-requires-clause-variables c =
+pub values_and_scope_of-requires-clause-variables : goal.values_and_scope_of-requires-clause-variables
+values_and_scope_of-requires-clause-variables c =
     let items : c.as_slice.result.now ≡ c.args.x.now.annexes.items = cc in
     c.requires.small.variables (c.in-Some.at, annex_tree_view kept_place c.in-Some.annex.now)
     (sym (c.in-Some.ensures ∙ ap (λ l. slice_get (behaviours (map (annex_view kept_place) l)) 0) items))

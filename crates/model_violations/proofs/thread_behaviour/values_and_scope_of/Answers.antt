@@ -8,22 +8,22 @@ use Rattle.model_violations.specs.PortsAndVariables.{ins_in, outs_in, variables_
 use Rattle.model_violations.proofs.PortAndVariableLists.{ports_both, of_lists}
 use Rattle.model_violations.proofs.thread_behaviour.values_and_scope_of.Goals as goal
 
-pub setting_by-requires-clause-ins : goal.setting_by-requires-clause-ins
-setting_by-requires-clause-ins c =
+pub values_and_scope_by-requires-clause-ins : goal.values_and_scope_by-requires-clause-ins
+values_and_scope_by-requires-clause-ins c =
     let both = ports_both (map (feature_view kept_place) c.ports-ports.result.now) in
     let ports =
     ap length (c.ports-ports.ensures ∙ ap (ports_at (placed c.args.uses.now.names.tree.now)) c.requires.number) in
     omega (arith, both, ap length c.in_ok-ins.ensures, ports)
 
-pub setting_by-requires-clause-outs : goal.setting_by-requires-clause-outs
-setting_by-requires-clause-outs c =
+pub values_and_scope_by-requires-clause-outs : goal.values_and_scope_by-requires-clause-outs
+values_and_scope_by-requires-clause-outs c =
     let both = ports_both (map (feature_view kept_place) c.ports-ports.result.now) in
     let ports =
     ap length (c.ports-ports.ensures ∙ ap (ports_at (placed c.args.uses.now.names.tree.now)) c.requires.number) in
     omega (arith, both, ap length c.in_ok-outs.ensures, ports)
 
-pub setting_by-requires-clause-variables : goal.setting_by-requires-clause-variables
-setting_by-requires-clause-variables c = omega (arith, ap length c.in_ok-variables.ensures)
+pub values_and_scope_by-requires-clause-variables : goal.values_and_scope_by-requires-clause-variables
+values_and_scope_by-requires-clause-variables c = omega (arith, ap length c.in_ok-variables.ensures)
 
 pub returns-clause-values : goal.returns-clause-values
 returns-clause-values c =

@@ -104,10 +104,10 @@ push_for-returns t c =
     OnOk-weaker c.push-2.result _ _
     (λ is. between old c.push.new.self c.push_acts.new.code c.push-2.new.self
     (code.LoopStart n c.args.low c.args.high c.in_ok-exit.exit ∷ []) (code.LoopNext n c.args.high c.in_ok-to.to) 1
-    (code_acts body c.in_ok-deeper.field-0)
+    (code_acts body c.in_ok-next_depth.field-0)
     start refl c.in_ok-push_acts.ensures is
     ∙ ap (λ d. old ++ code.LoopStart n c.args.low c.args.high c.in_ok-exit.exit
-    ∷ (code_acts body d (length old + 1) ++ code.LoopNext n c.args.high c.in_ok-to.to ∷ [])) c.in_ok-deeper.ensures
+    ∷ (code_acts body d (length old + 1) ++ code.LoopNext n c.args.high c.in_ok-to.to ∷ [])) c.in_ok-next_depth.ensures
     ∙ ap (λ q. old ++ code.LoopStart n c.args.low c.args.high q
     ∷ (code_acts body (n + 1) (length old + 1) ++ code.LoopNext n c.args.high c.in_ok-to.to ∷ [])) exit_is
     ∙ ap (λ q. old ++ code.LoopStart n c.args.low c.args.high (length old + m + 2)

@@ -27,7 +27,7 @@ returns c =
     c.is_complete-never_taken.ensures
     ∙ ap (λ ss. completes (slice_get ss c.transition.inside.source)) c.states.ensures.value
     ∙ ap (λ (x : Edge). is_complete b x.source) seen in
-    let past_is : c.in_ok-past.past ≡ false_guard_target complete e p = c.in_ok-past.ensures ∙ ap (λ t. false_guard_target t e c.len.result) never
+    let past_is : c.in_ok-false_guard_target.false_guard_target ≡ false_guard_target complete e p = c.in_ok-false_guard_target.ensures ∙ ap (λ t. false_guard_target t e c.len.result) never
     ∙ ap (false_guard_target complete e) c.len.ensures in
     let trigger : trigger_of c.transition.inside.guard ≡ e.trigger = ap (λ (x : Edge). x.trigger) seen in
     let actions : actions_along c.deref.result.now ≡ e.actions = ap actions_along c.deref.ensures.value
@@ -36,7 +36,7 @@ returns c =
     let last : c.last_instr.result ≡ last_instr b starts e.target = c.last_instr.ensures
     ∙ ap (λ (x : Edge). last_instr b starts x.target) seen in
     let first : c1 ≡ old ++ trigger_code e.trigger (false_guard_target complete e p) p =
-    c.in_ok-push_guard.ensures ∙ ap (λ t. old ++ trigger_code t c.in_ok-past.past p) trigger
+    c.in_ok-push_guard.ensures ∙ ap (λ t. old ++ trigger_code t c.in_ok-false_guard_target.false_guard_target p) trigger
     ∙ ap (λ q. old ++ trigger_code e.trigger q p) past_is in
     let second : c2 ≡ c1 ++ code_acts e.actions (length b.vars) (length c1) =
     c.in_ok-push_acts.ensures ∙ ap (λ as'. c1 ++ code_acts as' c.in_ok-variables.variables (length c1)) actions

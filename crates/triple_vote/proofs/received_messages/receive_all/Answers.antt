@@ -40,8 +40,8 @@ receive-requires-clause-places c =
     c.requires.places c.loop-number.number
     (omega (arith, ap length c.links-link-items.ensures.value, c.loop-number-test.true))
 
-pub loop-number-preserved-then-not-is_there : goal.loop-number-preserved-then-not-is_there
-loop-number-preserved-then-not-is_there c =
+pub loop-number-preserved-then-not-has_replica : goal.loop-number-preserved-then-not-has_replica
+loop-number-preserved-then-not-has_replica c =
     let layers = c.args.layers.now in
     let at = c.args.at in
     let items = c.links-link-items.result.now in
@@ -62,14 +62,14 @@ loop-number-preserved-then-not-is_there c =
           (ap (λ l. slice_get l number) (sym c.links-link-items.ensures.value)
           ∙ slice_get-get_or items number no_link c.loop-number-test.true)
           (ap (λ (t : List Bool). has_replica t link.target.0) (sym there) ∙ sym c.has_replica.ensures
-          ∙ c.if-not-is_there.true) c.loop-number.invariant.done;
+          ∙ c.if-not-has_replica.true) c.loop-number.invariant.done;
     }
 
 pub loop-number-preserved : goal.loop-number-preserved
 loop-number-preserved c =
     let is = c.receive.ensures
     ∙ ap (λ b. received_of b c.args.table.faults.now (sent_in c.args.layers.now) c.loop-number.number c.args.at)
-    c.is_there-three.ensures in
+    c.has_replica-three.ensures in
     record {
       sizes =
           heard_sizes_stay c.args.design.now c.args.replicated.now c.args.table.faults.now c.args.layers.now c.args.at

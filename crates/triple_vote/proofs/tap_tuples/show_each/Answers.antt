@@ -17,7 +17,7 @@ pub loop-number-preserved : goal.loop-number-preserved
 loop-number-preserved c =
     let is =
     c.show.ensures ∙ ap (λ b. shown_of b (shown_in c.args.layers.now) c.loop-number.number)
-    c.is_there-three.ensures in
+    c.has_replica-three.ensures in
     record {
       sizes =
           shown_sizes_stay c.args.design.now c.args.replicated.now c.args.layers.now c.requires.layers

@@ -6,8 +6,8 @@ pub receive_all-requires-clause-at : goal.receive_all-requires-clause-at
 receive_all-requires-clause-at c =
     omega (arith, c.loop-at.received_messages.ok.0, c.loop-at.invariant.received_messages.three, c.loop-at-test.true)
 
-pub receive_all-requires-clause-heard : goal.receive_all-requires-clause-heard
-receive_all-requires-clause-heard c =
+pub receive_all-requires-clause-received_messages : goal.receive_all-requires-clause-received_messages
+receive_all-requires-clause-received_messages c =
     received_sizes c.args.design.now c.loop-at.received_messages.items c.loop-at.at c.index_mut.result.now c.loop-at.invariant.received_messages
     (omega (arith, c.loop-at.received_messages.ok.0, c.loop-at-test.true)) c.index_mut.ensures.value
 

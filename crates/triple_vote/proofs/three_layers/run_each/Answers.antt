@@ -33,7 +33,7 @@ loop-at-preserved c =
     let within : at < length layers = omega (arith, c.loop-at.layers.ok.0, c.loop-at-test.true) in
     let inside : at < length received_messages = omega (arith, within, c.loop-at.invariant.rooms.three, c.requires.received_messages) in
     let messages =
-    c.as_slice.ensures.value ∙ c.index-heard-at.is ∙ get_or_default received_messages at c.index-heard-at.result [] inside in
+    c.as_slice.ensures.value ∙ c.index-received_messages-at.is ∙ get_or_default received_messages at c.index-received_messages-at.result [] inside in
     record {
       made = made_more design values received_messages layers at new within
           (subst (λ (ms : List (List PortValue)). IsMade design values ms new) messages c.in_ok-run.ensures.made)

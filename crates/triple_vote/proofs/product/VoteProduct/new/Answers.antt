@@ -38,7 +38,7 @@ invariant_of-result c =
       record {
         layers_fit = opened.layers_fit;
         layers_are = opened.layers_are;
-        heard_fit = are_heard design c.in_ok-heard.received_messages.items (c.in_ok-heard.ensures ∙ ap silent c.deref-4.ensures);
+        heard_fit = are_heard design c.in_ok-received_messages.received_messages.items (c.in_ok-received_messages.ensures ∙ ap silent c.deref-4.ensures);
         shown_fit =
             ap lengths (c.in_ok-shown.ensures ∙ ap absent_taps c.deref-5.ensures) ∙ shown_fits design design.taps;
       },
@@ -52,7 +52,7 @@ returns c =
     let opened : AreOpened design marked layers
     = subst (λ (r : List Bool). AreOpened design r layers) (c.as_slice.ensures.value ∙ sym c.from_vec.ensures)
     (subst (λ (d : DesignParts). AreOpened d c.as_slice.result.now layers) c.deref-3.ensures c.in_ok-layers.ensures) in
-    state_begun design marked layers c.in_ok-heard.received_messages.items c.in_ok-shown.shown opened
-    (c.in_ok-heard.ensures ∙ ap silent c.deref-4.ensures)
+    state_begun design marked layers c.in_ok-received_messages.received_messages.items c.in_ok-shown.shown opened
+    (c.in_ok-received_messages.ensures ∙ ap silent c.deref-4.ensures)
     (c.in_ok-shown.ensures ∙ ap absent_taps c.deref-5.ensures)
     ∙ ap (voted_begun design) c.from_vec.ensures
