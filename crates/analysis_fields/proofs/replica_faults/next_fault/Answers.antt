@@ -8,14 +8,14 @@ pub returns-then-not-first-clause-value : goal.returns-then-not-first-clause-val
 returns-then-not-first-clause-value c =
     let old : false ≡ c.in_ok-first.first = grind (arith, common_steps) in
     let first =
-    is_first ghosts.eq same_place c.in_ok-fault.fault c.args.faults.now c.place_of.result c.args.places.now.keys
-    c.in_ok-first.first c.place_of.ensures c.requires c.in_ok-first.ensures.added in
+    is_first ghosts.eq same_place c.in_ok-fault.fault c.args.faults.now c.key_of.result c.args.places.now.keys
+    c.in_ok-first.first c.key_of.ensures c.requires c.in_ok-first.ensures.added in
     λ never. no_more _ _ _ _ _ c.in_ok-fault.ensures (old ∙ first) ∙ ap Err (sym (c.out_of_range.ensures never))
 
 pub returns-clause-value : goal.returns-clause-value
 returns-clause-value c =
     let new : true ≡ c.in_ok-first.first = grind (arith, common_steps) in
     let first =
-    is_first ghosts.eq same_place c.in_ok-fault.fault c.args.faults.now c.place_of.result c.args.places.now.keys
-    c.in_ok-first.first c.place_of.ensures c.requires c.in_ok-first.ensures.added in
+    is_first ghosts.eq same_place c.in_ok-fault.fault c.args.faults.now c.key_of.result c.args.places.now.keys
+    c.in_ok-first.first c.key_of.ensures c.requires c.in_ok-first.ensures.added in
     one_more _ _ _ _ _ c.in_ok-fault.ensures (new ∙ first)

@@ -125,13 +125,13 @@ resolve_loop-returns t c =
     looped c.args.scope.now c.args.around _ x.at (identifier_view kept_place x.variable)
     (reference_view kept_place x.data_type) x.low x.high (block_view kept_place x.body) c.in_ok-low.low
     c.in_ok-high.high c.kind_named-kind.result c.is_integer.result c.is_too_long.result c.count_turns-count.result
-    c.together.result c.in_ok-inner.inner _ c.in_ok-body.body.items _ _ _ _
+    c.turns_with_outer.result c.in_ok-inner.inner _ c.in_ok-body.body.items _ _ _ _
     (view-out-loop kept_place c.args.turns.now) c.in_ok-low.ensures c.in_ok-high.ensures
     (c.count_turns-count.ensures.value
     ∙ ap (λ l. base.turns l (to_z w64 (of_z w64 c.in_ok-high.high))) (to_z-of_z w64 _ low)
     ∙ ap (base.turns c.in_ok-low.low) (to_z-of_z w64 _ high))
     c.kind_named-kind.ensures c.is_integer.ensures c.in_ok-add_if.ensures c.is_too_long.ensures c.in_ok-add_if-2.ensures
-    c.in_ok-inner.ensures c.together.ensures.value c.in_ok-body.ensures
+    c.in_ok-inner.ensures c.turns_with_outer.ensures.value c.in_ok-body.ensures
     (action_of-For (to_z w64 (of_z w64 c.in_ok-low.low)) (to_z w64 (of_z w64 c.in_ok-high.high)) c.in_ok-body.body
     ∙ ap (λ l. For l (to_z w64 (of_z w64 c.in_ok-high.high)) (actions_along c.in_ok-body.body.items))
     (to_z-of_z w64 _ low)

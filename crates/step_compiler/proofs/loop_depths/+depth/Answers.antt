@@ -15,4 +15,4 @@ pub act_depth-returns-in_ok-acts_depth-in-For : goal.act_depth-returns-in_ok-act
 act_depth-returns-in_ok-acts_depth-in-For t c =
     let whole = ap depth_act (ap action_of c.in-For.is ∙ action_of-For c.in-For.low c.in-For.high c.in-For.body) in
     let body = ap (λ xs. depth_acts (actions_along xs)) c.deref-in-For.ensures.value in
-    grind (arith, whole, body, c.in_ok-acts_depth-in-For.ensures, c.deeper.ensures)
+    grind (arith, whole, body, c.in_ok-acts_depth-in-For.ensures, c.next_depth.ensures)
