@@ -109,6 +109,40 @@ expression_several scope first (x ∷ xs) at t ops e b m1 m2 a some reads here f
     (relations_of scope (relations_view kept_place (x ∷ xs))) Boolean at (relation_at first) t ops e b m1 m2 a reads
     here found behind is
 
+pub relation_alone : (scope : Scope) (left : Sum ℕ) (t : Typed) (b a : List Violation)
+    → Resolves (sum_of scope left) (total_kind scope left) (sum_types scope left) t b a
+    → Resolves (relation_of scope (single left)) (relation_kind scope (single left))
+    (relation_types scope (single left)) t b a
+unfolding relation_of relation_kind relation_types
+relation_alone scope left t b a reads = reads
+
+pub relation_both : (scope : Scope) (x y : Sum ℕ) (o : RelationOperator) (at to : ℕ) (l r e : Typed)
+    (b m1 m2 a : List Violation)
+    → Resolves (sum_of scope x) (total_kind scope x) (sum_types scope x) l b m1
+    → Resolves (sum_of scope y) (total_kind scope y) (sum_types scope y) r m1 m2
+    → at ≡ sum_at x → to ≡ sum_at y → a ≡ m2 ++ sides_misfit o at to l.kind r.kind
+    → tree_of e.expr ≡ plain.Chain (tree_of l.expr) (plain.Then (relation_op o) (tree_of r.expr) plain.NoMore)
+    → e.kind ≡ Some Boolean
+    → let z = compared x o y in Resolves (relation_of scope z) (relation_kind scope z) (relation_types scope z) e b a
+unfolding relation_of relation_kind relation_types
+relation_both scope x y o at to l r e b m1 m2 a left right here there found is kind = record {
+  tree_is =
+      is ∙ ap (λ z. plain.Chain z (plain.Then (relation_op o) (tree_of r.expr) plain.NoMore)) left.tree_is
+      ∙ ap (λ z. plain.Chain (sum_of scope x) (plain.Then (relation_op o) z plain.NoMore)) right.tree_is;
+  kind_is = kind;
+  found =
+      found ∙ ap (λ z. z ++ sides_misfit o at to l.kind r.kind)
+      (right.found ∙ ap (λ z. z ++ sum_types scope y) left.found)
+      ∙ ap (λ p. ((b ++ sum_types scope x) ++ sum_types scope y) ++ sides_misfit o p to l.kind r.kind) here
+      ∙ ap (λ p. ((b ++ sum_types scope x) ++ sum_types scope y) ++ sides_misfit o (sum_at x) p l.kind r.kind) there
+      ∙ ap (λ k. ((b ++ sum_types scope x) ++ sum_types scope y) ++ sides_misfit o (sum_at x) (sum_at y) k r.kind)
+      left.kind_is
+      ∙ ap (λ k. ((b ++ sum_types scope x) ++ sum_types scope y)
+      ++ sides_misfit o (sum_at x) (sum_at y) (total_kind scope x) k) right.kind_is
+      ∙ three b (sum_types scope x) (sum_types scope y)
+      (sides_misfit o (sum_at x) (sum_at y) (total_kind scope x) (total_kind scope y));
+}
+
 pub relation_compared : (scope : Scope) (x y : Sum ℕ) (o : RelationOperator) (at to : ℕ) (l r : Typed)
     (e : Result Typed AllocError) (b m1 m2 a : List Violation)
     → Resolves (sum_of scope x) (total_kind scope x) (sum_types scope x) l b m1
@@ -355,37 +389,3 @@ name_unread scope x fresh entry r e k b a known read none kind zero found =
       kind_is = kind ∙ ap (read_kind fresh) known;
       found = found ∙ sym (ap (λ o. b ++ found_if (not (is_some o)) x.at BAD_TYPE []) is);
     }
-
-pub relation_alone : (scope : Scope) (left : Sum ℕ) (t : Typed) (b a : List Violation)
-    → Resolves (sum_of scope left) (total_kind scope left) (sum_types scope left) t b a
-    → Resolves (relation_of scope (single left)) (relation_kind scope (single left))
-    (relation_types scope (single left)) t b a
-unfolding relation_of relation_kind relation_types
-relation_alone scope left t b a reads = reads
-
-pub relation_both : (scope : Scope) (x y : Sum ℕ) (o : RelationOperator) (at to : ℕ) (l r e : Typed)
-    (b m1 m2 a : List Violation)
-    → Resolves (sum_of scope x) (total_kind scope x) (sum_types scope x) l b m1
-    → Resolves (sum_of scope y) (total_kind scope y) (sum_types scope y) r m1 m2
-    → at ≡ sum_at x → to ≡ sum_at y → a ≡ m2 ++ sides_misfit o at to l.kind r.kind
-    → tree_of e.expr ≡ plain.Chain (tree_of l.expr) (plain.Then (relation_op o) (tree_of r.expr) plain.NoMore)
-    → e.kind ≡ Some Boolean
-    → let z = compared x o y in Resolves (relation_of scope z) (relation_kind scope z) (relation_types scope z) e b a
-unfolding relation_of relation_kind relation_types
-relation_both scope x y o at to l r e b m1 m2 a left right here there found is kind = record {
-  tree_is =
-      is ∙ ap (λ z. plain.Chain z (plain.Then (relation_op o) (tree_of r.expr) plain.NoMore)) left.tree_is
-      ∙ ap (λ z. plain.Chain (sum_of scope x) (plain.Then (relation_op o) z plain.NoMore)) right.tree_is;
-  kind_is = kind;
-  found =
-      found ∙ ap (λ z. z ++ sides_misfit o at to l.kind r.kind)
-      (right.found ∙ ap (λ z. z ++ sum_types scope y) left.found)
-      ∙ ap (λ p. ((b ++ sum_types scope x) ++ sum_types scope y) ++ sides_misfit o p to l.kind r.kind) here
-      ∙ ap (λ p. ((b ++ sum_types scope x) ++ sum_types scope y) ++ sides_misfit o (sum_at x) p l.kind r.kind) there
-      ∙ ap (λ k. ((b ++ sum_types scope x) ++ sum_types scope y) ++ sides_misfit o (sum_at x) (sum_at y) k r.kind)
-      left.kind_is
-      ∙ ap (λ k. ((b ++ sum_types scope x) ++ sum_types scope y)
-      ++ sides_misfit o (sum_at x) (sum_at y) (total_kind scope x) k) right.kind_is
-      ∙ three b (sum_types scope x) (sum_types scope y)
-      (sides_misfit o (sum_at x) (sum_at y) (total_kind scope x) (total_kind scope y));
-}
