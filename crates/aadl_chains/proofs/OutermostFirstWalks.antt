@@ -1,27 +1,21 @@
 -- The walk back that the code makes, on paths from the outside in, is the walk back of the definitions, on paths
 -- from the inside out.
-use Rattle.std.proofs.Common.{◌≡◌, ◌⊎◌, inl, inr, ℕ, zero, suc, ◌+◌, ◌<◌, ◌≤◌, false, nat_eq, List, [], ◌∷◌, ◌++◌, take}
-use Rattle.std.proofs.Common.{reverse, length, slice_get, get_or, Option, Some, None, option_map, refl, sym, ap, subst}
-use Rattle.std.proofs.Common.{◌∙◌, arith}
-use Rattle.std.specs.Option.{option_and_then}
-use Rattle.std.proofs.lemmas.Bool.{eqb-true, eq-eqb, cases_lt}
+use Rattle.std.proofs.Common.{◌≡◌, ℕ, zero, suc, ◌+◌, ◌<◌, false, List, [], ◌∷◌, ◌++◌, take, reverse, length, get_or}
+use Rattle.std.proofs.Common.{Option, Some, None, option_map, refl, sym, ap, subst, ◌∙◌, arith}
 use Rattle.std.proofs.lemmas.List.{reverse-append}
-use Rattle.std.proofs.lemmas.Option.{none-some, slice_get_past}
-use Rattle.aadl_tree.specs.Declarations.{Subcomponent, PackageTree}
+use Rattle.aadl_tree.specs.Declarations.{PackageTree}
 use Rattle.aadl_names.specs.declared.numbered_port.NumberedPort.{NumberedPort}
 use Rattle.aadl_names.specs.declared.numbered_port.NumberedPort.TheVariants.{Own, Inner}
-use Rattle.aadl_names.specs.ReferenceResolution.{first_number, implementation_in, subcomponents_of, referred}
 use Rattle.aadl_uses.specs.ContainmentAndUse.{below, number_at_path}
-use Rattle.aadl_uses.specs.proof.PackageContainment.{containment}
 use Rattle.aadl_uses.specs.proof.IncomingConnections.{connection_into}
-use Rattle.aadl_uses.specs.proof.ContainmentOrders.{IsOrder}
 use Rattle.aadl_chains.specs.proof.PortsJoinedInside.{is_in_at}
 use Rattle.aadl_chains.specs.proof.PermittedConnections.{MayLeave, ArePermitted}
 use Rattle.aadl_chains.proofs.ConnectionsOnChains.{next_at}
 use Rattle.aadl_chains.specs.declared.chain_tracing.ConnectionInto.{ConnectionInto}
-use Rattle.aadl_chains.specs.proof.Walks.{Crossing, WalkEnd, nowhere, crosses, walk_back, walk_back_by, walk_back_along, walk_back_into}
+use Rattle.aadl_chains.specs.proof.Walks.{Crossing, WalkEnd, nowhere, crosses, walk_back, walk_back_by, walk_back_along}
+use Rattle.aadl_chains.specs.proof.Walks.{walk_back_into}
 use Rattle.aadl_chains.specs.proof.OutermostFirstWalks.{entry}
-use Rattle.aadl_chains.proofs.FirstIncomingConnections.{known, some_first, first_at}
+use Rattle.aadl_chains.proofs.FirstIncomingConnections.{known}
 use Rattle.aadl_chains.proofs.ChainsOfWalks.{crossed}
 
 -- ---- one step of a path
@@ -120,32 +114,3 @@ module _ (tree : PackageTree ℕ) (root : ℕ) where
       leaves_by : (n : ℕ) (source : NumberedPort) → MayLeave tree n source → source ≡ Inner c.sub c.port
           → (m : ℕ) × (below tree n c.sub ≡ Some m) × (is_in_at tree m c.port ≡ false)
       leaves_by n source may e = subst (MayLeave tree n) e may
-
-module _ (tree : PackageTree ℕ) (keys : List ℕ) (order : IsOrder (containment tree) keys) where
-  pub place_of : (n i : ℕ) → slice_get keys i ≡ Some n
-      → (k : ℕ) × (first_number (nat_eq n) keys ≡ Some k) × (k ≤ i) × (slice_get keys k ≡ Some n)
-  place_of n i is =
-      let f = some_first (nat_eq n) keys 0 i n is (eq-eqb n n refl) in
-      let at = first_at (nat_eq n) keys 0 f.0 f.1 in
-      let where_is = at.is in
-      let least = f.2 in
-      let same : f.0 ≡ at.index = omega arith in
-      (f.0, f.1, omega arith, ap (slice_get keys) same ∙ (at.is_item ∙ ap Some (sym (eqb-true n at.item at.passes))))
-
-  pub declared_by : (n s m : ℕ) → below tree n s ≡ Some m → n < length tree.declarations
-  declared_by n s m b = by (cases_lt n (length tree.declarations))
-    where
-      none_past : length tree.declarations ≤ n → below tree n s ≡ None
-      none_past past =
-          ap (λ o. option_and_then (λ sub. referred tree sub.classifier)
-          (slice_get (subcomponents_of (implementation_in o)) s))
-          (slice_get_past tree.declarations n past) ∙ nothing s
-        where
-          nothing : (s : ℕ) → option_and_then (λ (sub : Subcomponent ℕ). referred tree sub.classifier)
-              (slice_get [] s) ≡ None
-          nothing zero = refl
-          nothing (suc s) = refl
-
-      by : (n < length tree.declarations) ⊎ (length tree.declarations ≤ n) → n < length tree.declarations
-      by (inl lt) = lt
-      by (inr past) = absurd (none-some m (sym (none_past past) ∙ b))

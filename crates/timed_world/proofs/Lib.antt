@@ -5,4 +5,3 @@ pub mod SingleCopiesInFlight
 pub mod EventEffects
 pub mod MemoryRefusals
 pub mod EventLists
-pub mod MessagesPastDeadline
