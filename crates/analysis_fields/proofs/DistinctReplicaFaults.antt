@@ -10,7 +10,7 @@ use Rattle.pals_model.specs.declared.design.DesignParts.{DesignParts}
 use Rattle.scenario_values.specs.declared.fault.ScenarioFault.TheVariants.{OutOfRange}
 use Rattle.scenario_values.specs.ResultCombinators.{◌>>=◌, only_if}
 use Rattle.scenario_values.specs.FaultPlaces.{inside}
-use Rattle.analysis_fields.specs.contracts.replica_faults.FaultPlacePartialEq.TheImpl.{ghosts}
+use Rattle.analysis_fields.specs.contracts.replica_faults.FaultKeyPartialEq.TheImpl.{ghosts}
 use Rattle.analysis_fields.specs.declared.replica_faults.FaultKey.{FaultKey}
 use Rattle.analysis_fields.specs.declared.replica_faults.RoundFault.{RoundFault}
 use Rattle.analysis_fields.specs.ReplicasAndFaults.{key_of, has_same_key, fault_in, with_fault}

@@ -1,6 +1,6 @@
 use Rattle.std.proofs.Common.{◌≡◌, true, false, sym, ap, ◌∙◌, arith, Err}
 use Rattle.std.proofs.lemmas.Grind.{common_steps}
-use Rattle.analysis_fields.specs.contracts.replica_faults.FaultPlacePartialEq.TheImpl.{ghosts}
+use Rattle.analysis_fields.specs.contracts.replica_faults.FaultKeyPartialEq.TheImpl.{ghosts}
 use Rattle.analysis_fields.proofs.DistinctReplicaFaults.{is_first, same_place, one_more, no_more}
 use Rattle.analysis_fields.proofs.replica_faults.next_fault.Goals as goal
 
