@@ -4,13 +4,13 @@ use Rattle.std.proofs.Common.{◌≡◌, inl, inr, ℕ, zero, suc, ◌+◌, ◌<
 use Rattle.std.proofs.Common.{arith}
 use Rattle.std.proofs.lemmas.Bool.{cases_eq}
 use Rattle.node_threads.specs.declared.sleepers.ThreadSlot.{ThreadSlot}
-use Rattle.node_threads.specs.proof.Sleepers.{seat_at, free_seat}
+use Rattle.node_threads.specs.proof.Sleepers.{slot_at, free_slot}
 
--- past the last seat
-pub none_seat : (threads : List ThreadSlot) (node : ℕ) → None ≡ slice_get threads node → seat_at threads node ≡ free_seat
-none_seat [] node is = refl
-none_seat (s ∷ ss) zero is = absurd (cc)
-none_seat (s ∷ ss) (suc k) is = none_seat ss k is
+-- past the last slot
+pub none_slot : (threads : List ThreadSlot) (node : ℕ) → None ≡ slice_get threads node → slot_at threads node ≡ free_slot
+none_slot [] node is = refl
+none_slot (s ∷ ss) zero is = absurd (cc)
+none_slot (s ∷ ss) (suc k) is = none_slot ss k is
 
 -- what holds of the nodes so far, and of one more
 pub one_more : (P : ℕ → Type 0) (n : ℕ) → ((k : ℕ) → k < n → P k) → P n → (k : ℕ) → k < n + 1 → P k

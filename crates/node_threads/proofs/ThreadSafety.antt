@@ -53,7 +53,7 @@ use Rattle.pals_bus.specs.contracts.bus_fields.BusFields.{the_field as bus_field
 use Rattle.pals_bus.specs.contracts.bus.Bus.{the_field as bus}
 use Rattle.node_threads.specs.contracts.course.SharedRun.{the_field as course}
 use Rattle.node_threads.specs.contracts.locked_state.Locked.{the_field as locked}
-use Rattle.node_threads.specs.contracts.sleepers.ThreadSlot.{the_field as seat}
+use Rattle.node_threads.specs.contracts.sleepers.ThreadSlot.{the_field as slot}
 use Rattle.node_threads.specs.contracts.sleepers.Sleepers.{the_field as sleepers}
 use Rattle.node_threads.specs.contracts.wake_list.WakeList.{the_field as wakes}
 use Rattle.node_threads.specs.contracts.wake_signals.WakeSignals.{the_field as bells}
@@ -228,11 +228,11 @@ wakes_send = search sendable depth 20
 course_send : IsSend course.row
 course_send = search (sendable, bus_send, items_send, clock_send, note_send) depth 20
 
-seat_send : IsSend seat.row
-seat_send = search sendable depth 20
+thread_slot_send : IsSend slot.row
+thread_slot_send = search sendable depth 20
 
 sleepers_send : IsSend sleepers.row
-sleepers_send = search (sendable, items_send, seat_send, wakes_send) depth 20
+sleepers_send = search (sendable, items_send, thread_slot_send, wakes_send) depth 20
 
 pub locked_send : IsSend locked.row
 locked_send = search (sendable, course_send, sleepers_send) depth 20

@@ -3,7 +3,7 @@
 ghost use Rattle.std.specs.Prelude.{◌≡◌, ℕ, true, IsTrue};
 ghost use Rattle.run_laws.specs.Runs.{IsLeast};
 ghost use Rattle.node_threads.specs.proof.SharedCourses.{Stays, IsOpen, IsDone};
-ghost use Rattle.node_threads.specs.proof.Sleepers.{seat_at, Waits};
+ghost use Rattle.node_threads.specs.proof.Sleepers.{slot_at, Waits};
 
 use crate::course::SharedRun;
 use crate::moves_under_lock::NextMove;
@@ -120,7 +120,7 @@ impl Locked {
     /// Whether no node of the calling thread may go on any more.
     pub fn caller_is_over(&self) -> bool
         ensures { IsTrue result
-            → (node : ℕ) → IsOpen self.now.course node → (seat_at self.now.sleepers.seats node).of_caller ≡ true → IsDone self.now.course node }
+            → (node : ℕ) → IsOpen self.now.course node → (slot_at self.now.sleepers.threads node).of_caller ≡ true → IsDone self.now.course node }
     {
         self.sleepers.caller_is_over(&self.course)
     }

@@ -3,7 +3,7 @@ ghost use Rattle.std.specs.Prelude.{◌≡◌, ◌<◌, ◌≤◌, ℕ, length, 
 ghost use Rattle.run_laws.specs.Runs.{IsLeast};
 ghost use Rattle.node_threads.specs.proof.SharedCourses.{IsOpen, IsDone};
 ghost use Rattle.node_threads.specs.declared.wake_list.Sleeper.{Sleeper};
-ghost use Rattle.node_threads.specs.proof.Sleepers.{no_wakes, is_to_ring, without_bell, free_seat, seat_at, with_seat};
+ghost use Rattle.node_threads.specs.proof.Sleepers.{no_wakes, is_to_ring, without_bell, free_slot, slot_at, with_slot};
 ghost use Rattle.node_threads.specs.proof.Sleepers.{IsAbove, IsHourOver, Waits, Rouses};
 
 use crate::course::SharedRun;
@@ -31,13 +31,13 @@ pub struct Sleepers {
 impl Sleepers {
     /// Nobody sleeps, and each of `count` nodes has a thread of its own.
     pub fn new(alloc: Global, count: u32) -> Result<Sleepers, NoMemory>
-        ensures { IfOk result (λ s. s ≡ record { threads = replicate count free_seat; hour = 0; wakes = no_wakes }) }
+        ensures { IfOk result (λ s. s ≡ record { threads = replicate count free_slot; hour = 0; wakes = no_wakes }) }
     {
-        let seat = ThreadSlot {
+        let slot = ThreadSlot {
             of_caller: false,
             sleeps: false,
         };
-        let threads = vec![in alloc; seat; count as usize]?;
+        let threads = vec![in alloc; slot; count as usize]?;
         Ok(Sleepers {
             threads: Items::from_vec(threads),
             hour: 0,
@@ -47,9 +47,9 @@ impl Sleepers {
 
     /// The calling thread has a node.
     pub fn give_to_caller(&mut self, node: NodeNo)
-        ensures { self.new ≡ with_seat self.old node.0 (record { of_caller = true; sleeps = (seat_at self.old.threads node.0).sleeps }) }
+        ensures { self.new ≡ with_slot self.old node.0 (record { of_caller = true; sleeps = (slot_at self.old.threads node.0).sleeps }) }
     {
-        let sleeps = self.seat(node).sleeps;
+        let sleeps = self.slot(node).sleeps;
         self.put(
             node,
             ThreadSlot {
@@ -61,25 +61,25 @@ impl Sleepers {
 
     /// Whether the calling thread has a node.
     pub fn is_of_caller(&self, node: NodeNo) -> bool
-        ensures { result ≡ (seat_at self.now.threads node.0).of_caller }
+        ensures { result ≡ (slot_at self.now.threads node.0).of_caller }
     {
-        self.seat(node).of_caller
+        self.slot(node).of_caller
     }
 
     /// Whether the thread of a node sleeps on, which is noted.
     pub fn sleeps(&mut self, course: &SharedRun, node: NodeNo) -> bool
-        ensures noted { self.new ≡ with_seat self.old node.0 (record { of_caller = (seat_at self.old.threads node.0).of_caller; sleeps = result }) }
+        ensures noted { self.new ≡ with_slot self.old node.0 (record { of_caller = (slot_at self.old.threads node.0).of_caller; sleeps = result }) }
         ensures waits { IsTrue result → Waits course.now self.old.hour node.0 }
     {
         let sleeps = self.must_wait(course, node);
-        let of_caller = self.seat(node).of_caller;
+        let of_caller = self.slot(node).of_caller;
         self.put(node, ThreadSlot { of_caller, sleeps });
         sleeps
     }
 
     /// Whether no node of the calling thread may go on any more.
     pub fn caller_is_over(&self, course: &SharedRun) -> bool
-        ensures { IsTrue result → (node : ℕ) → IsOpen course.now node → (seat_at self.now.threads node).of_caller ≡ true → IsDone course.now node }
+        ensures { IsTrue result → (node : ℕ) → IsOpen course.now node → (slot_at self.now.threads node).of_caller ≡ true → IsDone course.now node }
     {
         for number in 0..course.count() {
             if !self.is_over(course, NodeNo(number)) {
@@ -91,7 +91,7 @@ impl Sleepers {
 
     // Whether a node is not the calling thread's, or may not go on any more.
     fn is_over(&self, course: &SharedRun, node: NodeNo) -> bool
-        ensures { IsTrue result → IsOpen course.now node.0 → (seat_at self.now.threads node.0).of_caller ≡ true → IsDone course.now node.0 }
+        ensures { IsTrue result → IsOpen course.now node.0 → (slot_at self.now.threads node.0).of_caller ≡ true → IsDone course.now node.0 }
     {
         !self.is_of_caller(node) || !course.is_open(node)
     }
@@ -118,12 +118,12 @@ impl Sleepers {
         self.wakes.remove(node.0 as usize);
     }
 
-    // The seat of a node.
-    fn seat(&self, node: NodeNo) -> ThreadSlot
-        ensures { result ≡ seat_at self.now.threads node.0 }
+    // The slot of a node.
+    fn slot(&self, node: NodeNo) -> ThreadSlot
+        ensures { result ≡ slot_at self.now.threads node.0 }
     {
         match self.threads.get(node.0 as usize) {
-            Some(seat) => *seat,
+            Some(slot) => *slot,
             None => ThreadSlot {
                 of_caller: false,
                 sleeps: false,
@@ -131,12 +131,12 @@ impl Sleepers {
         }
     }
 
-    // A node has this seat from now on.
-    fn put(&mut self, node: NodeNo, seat: ThreadSlot)
-        ensures { self.new ≡ with_seat self.old node.0 seat }
+    // A node has this slot from now on.
+    fn put(&mut self, node: NodeNo, slot: ThreadSlot)
+        ensures { self.new ≡ with_slot self.old node.0 slot }
     {
         if (node.0 as usize) < self.threads.len() {
-            self.threads.set(node.0 as usize, seat);
+            self.threads.set(node.0 as usize, slot);
         }
     }
 
@@ -159,18 +159,18 @@ impl Sleepers {
 
     // Wakes the thread that has a node, where it sleeps.
     fn wake(&mut self, node: NodeNo)
-        ensures awake { (seat_at self.new.threads node.0).sleeps ≡ false }
+        ensures awake { (slot_at self.new.threads node.0).sleeps ≡ false }
         ensures rouses { Rouses self.old self.new }
     {
-        let seat = self.seat(node);
-        if !seat.sleeps {
+        let slot = self.slot(node);
+        if !slot.sleeps {
             return;
         }
-        self.wakes.add(node.0 as usize, seat.of_caller);
+        self.wakes.add(node.0 as usize, slot.of_caller);
         self.put(
             node,
             ThreadSlot {
-                of_caller: seat.of_caller,
+                of_caller: slot.of_caller,
                 sleeps: false,
             },
         );
@@ -207,7 +207,7 @@ impl Sleepers {
     fn wake_ready(&mut self, course: &SharedRun, node: NodeNo)
         ensures { Rouses self.old self.new }
     {
-        if self.seat(node).sleeps && !self.must_wait(course, node) {
+        if self.slot(node).sleeps && !self.must_wait(course, node) {
             self.wake(node);
         }
     }

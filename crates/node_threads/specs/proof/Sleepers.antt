@@ -18,14 +18,14 @@ abbrev pub no_wakes : WakeList
 no_wakes = record { any = false; nodes = replicate COMPONENTS false; caller = false }
 
 -- a node has a thread of its own, which is awake
-abbrev pub free_seat : ThreadSlot
-free_seat = record { of_caller = false; sleeps = false }
+abbrev pub free_slot : ThreadSlot
+free_slot = record { of_caller = false; sleeps = false }
 
-abbrev pub seat_at : List ThreadSlot → ℕ → ThreadSlot
-seat_at threads node = slice_index_or threads node free_seat
+abbrev pub slot_at : List ThreadSlot → ℕ → ThreadSlot
+slot_at threads node = slice_index_or threads node free_slot
 
-abbrev pub with_seat : Sleepers → ℕ → ThreadSlot → Sleepers
-with_seat s node seat = record s { threads = slice_set s.threads node seat }
+abbrev pub with_slot : Sleepers → ℕ → ThreadSlot → Sleepers
+with_slot s node slot = record s { threads = slice_set s.threads node slot }
 
 -- ---- waits
 -- a node's target is above an hour
@@ -67,12 +67,12 @@ without_bell w (Some bell.Caller) = record w { any = false; caller = false }
 
 -- the thread that had a node slept, and is to be woken
 pub record IsRoused (old new : Sleepers) (node : ℕ) : Type 0 where
-  pub slept : (seat_at old.threads node).sleeps ≡ true
-  pub seat : seat_at new.threads node ≡ record { of_caller = (seat_at old.threads node).of_caller; sleeps = false }
-  pub rung : node < length new.wakes.nodes → is_rung new.wakes node (seat_at old.threads node).of_caller ≡ true
+  pub slept : (slot_at old.threads node).sleeps ≡ true
+  pub slot : slot_at new.threads node ≡ record { of_caller = (slot_at old.threads node).of_caller; sleeps = false }
+  pub rung : node < length new.wakes.nodes → is_rung new.wakes node (slot_at old.threads node).of_caller ≡ true
 
 -- some who slept are roused, and nothing else changes for anybody; who was to be woken still is
 pub record Rouses (old new : Sleepers) : Type 0 where
-  pub threads : (node : ℕ) → (seat_at new.threads node ≡ seat_at old.threads node) ⊎ IsRoused old new node
+  pub threads : (node : ℕ) → (slot_at new.threads node ≡ slot_at old.threads node) ⊎ IsRoused old new node
   pub many : length new.wakes.nodes ≡ length old.wakes.nodes
   pub rung : (node : ℕ) (own : Bool) → is_rung old.wakes node own ≡ true → is_rung new.wakes node own ≡ true

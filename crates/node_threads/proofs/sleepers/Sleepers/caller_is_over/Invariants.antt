@@ -1,9 +1,9 @@
 use Rattle.std.proofs.Common.{◌≡◌, ℕ, ◌<◌, true}
 use Rattle.node_threads.specs.proof.SharedCourses.{IsOpen, IsDone}
-use Rattle.node_threads.specs.proof.Sleepers.{seat_at}
+use Rattle.node_threads.specs.proof.Sleepers.{slot_at}
 use Rattle.node_threads.proofs.sleepers.Sleepers.caller_is_over.Given as goal
 
 -- the nodes so far that the calling thread has are done, where they go on
 abbrev pub invariant-loop-number : goal.invariant-loop-number
 invariant-loop-number l =
-    (k : ℕ) → k < l.number → IsOpen l.course k → (seat_at l.self.seats k).of_caller ≡ true → IsDone l.course k
+    (k : ℕ) → k < l.number → IsOpen l.course k → (slot_at l.self.threads k).of_caller ≡ true → IsDone l.course k
