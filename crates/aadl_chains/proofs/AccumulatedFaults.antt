@@ -9,7 +9,7 @@ use Rattle.aadl_names.specs.proof.FirstFaultSoFar.{found}
 use Rattle.aadl_names.proofs.FirstFaultSoFar.{found_append}
 use Rattle.aadl_uses.specs.proof.FirstRecursion.{FirstIn}
 use Rattle.aadl_names.proofs.SameFirstFaults.{found_is_first}
-use Rattle.aadl_chains.specs.proof.ConnectionEndFaults.{FindsAll}
+use Rattle.aadl_chains.specs.proof.FoundChainFaults.{FindsAll}
 
 pub finds_nothing : (P : PackageFault → Type 0) (old : Option PackageFault) → ((fault : PackageFault) → P fault → ⊥)
     → FindsAll P old old

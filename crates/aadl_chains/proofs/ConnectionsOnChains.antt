@@ -11,8 +11,8 @@ use Rattle.aadl_tree.specs.declared.declarations.Direction.TheVariants as direct
 use Rattle.aadl_tree.specs.Declarations.{Feature, Connection, Implementation, PackageTree}
 use Rattle.aadl_names.specs.declared.numbered_port.NumberedPort.{NumberedPort}
 use Rattle.aadl_names.specs.declared.numbered_port.NumberedPort.TheVariants.{Own, Inner}
-use Rattle.aadl_names.specs.ReferenceResolution.{implementation_at, ports_at, end_port}
-use Rattle.aadl_names.specs.PackageFaults.{goes_in}
+use Rattle.aadl_names.specs.NameResolution.{implementation_at, ports_at, end_port}
+use Rattle.aadl_names.specs.PackageNameFaults.{goes_in}
 use Rattle.aadl_uses.specs.ContainmentAndUse.{below, number_at_path, IsInUse}
 use Rattle.aadl_uses.specs.ThreadsBelow.{IsThreadAt}
 use Rattle.aadl_uses.specs.proof.ThreadCounts.{is_thread_in}

@@ -5,7 +5,7 @@ use Rattle.std.specs.Option.{option_map_or, option_and_then}
 use Rattle.std.proofs.lemmas.List.{length-map}
 use Rattle.list_lemmas.proofs.ElementPositions.{slice_get-from_Contains}
 use Rattle.aadl_tree.specs.Declarations.{PackageTree, Subcomponent}
-use Rattle.aadl_names.specs.ReferenceResolution.{first_number, implementation_in, subcomponents_of, referred}
+use Rattle.aadl_names.specs.NameResolution.{first_number, implementation_in, subcomponents_of, referred}
 use Rattle.aadl_uses.specs.ContainmentAndUse.{below}
 use Rattle.aadl_uses.specs.proof.PackageContainment.{containment, targets_in}
 use Rattle.aadl_uses.proofs.PackageContainment.{below-same}

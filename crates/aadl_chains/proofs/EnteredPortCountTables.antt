@@ -13,7 +13,7 @@ use Rattle.aadl_uses.specs.proof.ContainmentOrders.{IsSequence}
 use Rattle.aadl_tree.specs.Declarations.{PackageTree}
 use Rattle.aadl_names.specs.declared.numbered_port.NumberedPort.{NumberedPort}
 use Rattle.aadl_names.specs.declared.numbered_port.NumberedPort.TheVariants.{Own, Inner}
-use Rattle.aadl_names.specs.ReferenceResolution.{implementation_at}
+use Rattle.aadl_names.specs.NameResolution.{implementation_at}
 use Rattle.aadl_uses.specs.ContainmentAndUse.{below}
 use Rattle.aadl_uses.specs.proof.PackageContainment.{containment}
 use Rattle.aadl_uses.proofs.PackageContainment.{below-same}

@@ -12,7 +12,7 @@ use Rattle.list_lemmas.proofs.Elements.{Contains-nil}
 use Rattle.aadl_tree.specs.Declarations.{Implementation, PackageTree}
 use Rattle.aadl_names.specs.declared.numbered_port.NumberedPort.{NumberedPort}
 use Rattle.aadl_names.specs.declared.numbered_port.NumberedPort.TheVariants.{Own, Inner}
-use Rattle.aadl_names.specs.ReferenceResolution.{implementation_at}
+use Rattle.aadl_names.specs.NameResolution.{implementation_at}
 use Rattle.aadl_uses.specs.ContainmentAndUse.{number_at_path}
 use Rattle.aadl_uses.specs.declared.connections_by_target.ConnectionPorts.{ConnectionPorts}
 use Rattle.aadl_uses.specs.proof.NumbersByPort.{is_port}
@@ -27,7 +27,7 @@ use Rattle.aadl_chains.specs.Chains.{Port, ConnectionAt, port_at, Goes}
 use Rattle.aadl_chains.specs.proof.PermittedConnections.{MayLeave, MayEnter, NotBothOwn, ArePermitted}
 use Rattle.aadl_chains.proofs.ConnectionsOnChains.{among_goes, wire_of_goes}
 use Rattle.aadl_chains.specs.proof.Walks.{OneEach}
-use Rattle.aadl_chains.specs.proof.WalksUpAndDown.{IsFromInner}
+use Rattle.aadl_chains.specs.proof.DownwardSteps.{IsFromInner}
 
 -- ---- the first that passes a test
 pub record FirstAt {X : Type 0} (test : X → Bool) (xs : List X) (k n : ℕ) : Type 0 where

@@ -18,7 +18,7 @@ use Rattle.aadl_tree.specs.Declarations.{Connection, Implementation, PackageTree
 use Rattle.aadl_names.specs.declared.numbered_port.NumberedPort.TheVariants.{Own, Inner}
 use Rattle.aadl_names.specs.declared.fault.PackageFault.{PackageFault}
 use Rattle.aadl_names.specs.declared.fault.PackageFault.TheVariants.{TwoSources}
-use Rattle.aadl_names.specs.ReferenceResolution.{implementation_at, subcomponents_of, connections_of, referred}
+use Rattle.aadl_names.specs.NameResolution.{implementation_at, subcomponents_of, connections_of, referred}
 use Rattle.aadl_uses.specs.ContainmentAndUse.{sub_at, below, number_at_path}
 use Rattle.aadl_uses.specs.proof.PackageContainment.{targets_of}
 use Rattle.aadl_uses.specs.ThreadsBelow.{IsThreadAt, MoreThan}
@@ -39,7 +39,7 @@ use Rattle.aadl_chains.specs.proof.EnteredThreadPorts.{EndsLink, IsEnteredThroug
 use Rattle.aadl_chains.proofs.LimitedCounts.{no_number, same_number, both_numbers, no_more}
 use Rattle.aadl_chains.proofs.FirstIncomingConnections.{goes_at}
 use Rattle.aadl_chains.proofs.ChainsOfWalks.{crossed}
-use Rattle.aadl_chains.proofs.LinksByWalks.{link_from, link_met}
+use Rattle.aadl_chains.proofs.CarriedChainsByWalks.{link_from, link_met}
 use Rattle.aadl_chains.proofs.EnteredThreadPorts.{link_parts, deeper_ends, thread_ends, one_through, one_deeper}
 use Rattle.aadl_chains.proofs.EnteredThreadPorts.{not_both, deeper_number, no_deeper, none_first, more_first}
 

@@ -22,13 +22,13 @@ use Rattle.aadl_names.specs.declared.numbered_port.NumberedPort.TheVariants.{Own
 use Rattle.aadl_names.specs.DuplicateNames.{wrong_if}
 use Rattle.aadl_names.specs.RecognisedProperties.{list_faults}
 use Rattle.aadl_names.specs.BehaviourAnnexes.{behaviours}
-use Rattle.aadl_names.specs.ReferenceResolution.{implementation_in, implementation_at, is_thread, subcomponents_of}
-use Rattle.aadl_names.specs.ReferenceResolution.{target_of, referred, port_named, sub_named, inner_ports, inner_end_port}
-use Rattle.aadl_names.specs.ReferenceResolution.{end_port_by, end_port, ports_at, ports_of, direction_of, with_direction}
-use Rattle.aadl_names.specs.PackageFaults.{is_own, goes_in, may_leave, may_enter, end_faults, directed_end_port, connection_faults}
-use Rattle.aadl_names.specs.PackageFaults.{subcomponent_faults, names_faults, may_contain, variables_faults}
-use Rattle.aadl_names.specs.PackageFaults.{heading_faults, outer_faults, annex_faults, declaration_faults, wrong_names}
-use Rattle.aadl_names.specs.PackageFaults.{package_faults}
+use Rattle.aadl_names.specs.NameResolution.{implementation_in, implementation_at, is_thread, subcomponents_of}
+use Rattle.aadl_names.specs.NameResolution.{target_of, referred, port_named, sub_named, inner_ports, inner_end_port}
+use Rattle.aadl_names.specs.NameResolution.{end_port_by, end_port, ports_at, ports_of, direction_of, with_direction}
+use Rattle.aadl_names.specs.PackageNameFaults.{is_own, goes_in, may_leave, may_enter, end_faults, directed_end_port, connection_faults}
+use Rattle.aadl_names.specs.PackageNameFaults.{subcomponent_faults, names_faults, may_contain, variables_faults}
+use Rattle.aadl_names.specs.PackageNameFaults.{heading_faults, outer_faults, annex_faults, declaration_faults, wrong_names}
+use Rattle.aadl_names.specs.PackageNameFaults.{package_faults}
 use Rattle.aadl_names.proofs.FirstFaultSoFar.{wrong_none}
 use Rattle.aadl_uses.specs.ContainmentAndUse.{below}
 use Rattle.aadl_uses.specs.proof.ThreadCounts.{is_thread_in}

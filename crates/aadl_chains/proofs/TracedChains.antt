@@ -20,11 +20,11 @@ use Rattle.aadl_chains.specs.declared.chain_tracing.ChainRoute.{ChainRoute}
 use Rattle.aadl_chains.specs.proof.TracedChains.{Passes, carried_chain, IsGiver, Descends, Traces, TracesTap}
 use Rattle.aadl_chains.specs.proof.Walks.{Crossing, nowhere, at_root, crosses, walk_back, OneEach, IsThreadPort}
 use Rattle.aadl_chains.specs.LinksFeedsAndTaps.{CarriedChain, IsLink, IsFeed, IsTap}
-use Rattle.aadl_chains.proofs.ChainsFromEnds.{passes_end, passes_before, only_start, no_chain}
+use Rattle.aadl_chains.proofs.UniqueIncomingChains.{passes_end, passes_before, only_start, no_chain}
 use Rattle.aadl_chains.proofs.FirstIncomingConnections.{entered, goes_into, into_of_goes, inner_of}
 use Rattle.aadl_chains.proofs.WalksOfChains.{into_own}
-use Rattle.aadl_chains.proofs.LinksByWalks.{link_from, feed_from, tap_from, LinkMet, link_met, FeedMet, feed_met}
-use Rattle.aadl_chains.proofs.LinksByWalks.{TapMet, tap_met}
+use Rattle.aadl_chains.proofs.CarriedChainsByWalks.{link_from, feed_from, tap_from, LinkMet, link_met, FeedMet, feed_met}
+use Rattle.aadl_chains.proofs.CarriedChainsByWalks.{TapMet, tap_met}
 use Rattle.aadl_chains.proofs.FaultlessConnections.{sound_by}
 
 pub ends_by : (a b : CarriedChain) → a.from ≡ b.from → a.to ≡ b.to → a.declaration ≡ b.declaration

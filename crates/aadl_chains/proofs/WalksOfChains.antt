@@ -9,7 +9,7 @@ use Rattle.aadl_tree.specs.declared.declarations.Direction.TheVariants as direct
 use Rattle.aadl_tree.specs.Declarations.{Connection, Implementation, PackageTree}
 use Rattle.aadl_names.specs.declared.numbered_port.NumberedPort.{NumberedPort}
 use Rattle.aadl_names.specs.declared.numbered_port.NumberedPort.TheVariants.{Own, Inner}
-use Rattle.aadl_names.specs.ReferenceResolution.{implementation_at, end_port}
+use Rattle.aadl_names.specs.NameResolution.{implementation_at, end_port}
 use Rattle.aadl_uses.specs.ContainmentAndUse.{below, number_at_path}
 use Rattle.aadl_uses.specs.ThreadsBelow.{IsThreadAt}
 use Rattle.aadl_uses.specs.proof.IncomingConnections.{connection_into}

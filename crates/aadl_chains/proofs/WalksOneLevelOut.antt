@@ -6,8 +6,8 @@ use Rattle.std.proofs.lemmas.Option.{none-some}
 use Rattle.aadl_tree.specs.Declarations.{Feature, PackageTree}
 use Rattle.aadl_names.specs.declared.numbered_port.NumberedPort.{NumberedPort}
 use Rattle.aadl_names.specs.declared.numbered_port.NumberedPort.TheVariants.{Own, Inner}
-use Rattle.aadl_names.specs.ReferenceResolution.{implementation_at, ports_at}
-use Rattle.aadl_names.specs.PackageFaults.{goes_in}
+use Rattle.aadl_names.specs.NameResolution.{implementation_at, ports_at}
+use Rattle.aadl_names.specs.PackageNameFaults.{goes_in}
 use Rattle.aadl_uses.specs.ContainmentAndUse.{below, number_at_path, component_at}
 use Rattle.aadl_uses.specs.ThreadsBelow.{IsThreadAt}
 use Rattle.aadl_uses.specs.proof.ThreadCounts.{is_thread_in}

@@ -14,8 +14,8 @@ use Rattle.aadl_chains.specs.declared.chain_tracing.ChainStart.{ChainStart}
 use Rattle.aadl_chains.specs.declared.chain_tracing.PortBelow.{PortBelow}
 use Rattle.aadl_chains.specs.proof.Walks.{Crossing, at_root, crosses, walk_back, OneEach, IsThreadPort}
 use Rattle.aadl_chains.specs.proof.TracedChains.{Descends, Traces, TracesTap}
-use Rattle.aadl_chains.specs.proof.OutermostFirstWalks.{route_from, route_from_root}
-use Rattle.aadl_chains.proofs.OutermostFirstWalks.{crossing_from}
+use Rattle.aadl_chains.specs.proof.WalkResults.{route_from, route_from_root}
+use Rattle.aadl_chains.proofs.WalkResults.{crossing_from}
 use Rattle.aadl_chains.proofs.TracedChains.{traces_itself, traces_root, traces_none_over, traces_over, no_tap_over}
 use Rattle.aadl_chains.proofs.TracedChains.{tap_over}
 

@@ -3,7 +3,7 @@ use Rattle.std.specs.Prelude.{◌≡◌, ◌⊎◌, ◌≢◌, ℕ, List, Some, 
 use Rattle.aadl_tree.specs.Declarations.{Connection, PackageTree}
 use Rattle.aadl_names.specs.declared.fault.PackageFault.{PackageFault}
 use Rattle.aadl_names.specs.declared.fault.PackageFault.TheVariants.{DeadEnd, TwoSources}
-use Rattle.aadl_names.specs.ReferenceResolution.{implementation_at, connections_of}
+use Rattle.aadl_names.specs.NameResolution.{implementation_at, connections_of}
 use Rattle.aadl_uses.specs.ContainmentAndUse.{number_at_path, IsInUse}
 use Rattle.aadl_uses.specs.SecondConnections.{IsDuplicate}
 use Rattle.aadl_uses.specs.PortsOfConnections.{connection_ports_at}

@@ -3,8 +3,8 @@ use Rattle.std.specs.Prelude.{◌≡◌, ◌⊎◌, ℕ, Bool, true, false, List
 use Rattle.aadl_tree.specs.Declarations.{Feature, Connection, Implementation, PackageTree}
 use Rattle.aadl_names.specs.declared.numbered_port.NumberedPort.{NumberedPort}
 use Rattle.aadl_names.specs.declared.numbered_port.NumberedPort.TheVariants.{Own, Inner}
-use Rattle.aadl_names.specs.ReferenceResolution.{implementation_at, ports_at, end_port}
-use Rattle.aadl_names.specs.PackageFaults.{goes_in}
+use Rattle.aadl_names.specs.NameResolution.{implementation_at, ports_at, end_port}
+use Rattle.aadl_names.specs.PackageNameFaults.{goes_in}
 use Rattle.aadl_uses.specs.ContainmentAndUse.{number_at_path, component_at}
 use Rattle.aadl_uses.specs.ThreadsBelow.{IsThreadAt}
 

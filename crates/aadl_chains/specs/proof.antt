@@ -4,12 +4,12 @@ pub mod PortsJoinedInside
 pub mod PortsJoinedOutside
 pub mod PermittedConnections
 pub mod ConnectionsOnChains
-pub mod ConnectionEndFaults
+pub mod FoundChainFaults
 pub mod FaultlessConnections
 pub mod Walks
 pub mod LimitedCounts
 pub mod TracedChains
-pub mod OutermostFirstWalks
+pub mod WalkResults
 pub mod EnteredThreadPorts
 pub mod EnteredPortCountTables
-pub mod WalksUpAndDown
+pub mod DownwardSteps

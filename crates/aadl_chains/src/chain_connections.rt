@@ -6,7 +6,7 @@ ghost use Rattle.aadl_uses.specs.ContainmentAndUse.{IsInUse};
 ghost use Rattle.aadl_uses.specs.proof.ContainmentOrders.{IsOrder};
 ghost use Rattle.aadl_chains.specs.proof.ConnectionsOnChains.{IsOnChain, AreChainPorts};
 
-use crate::{InnerJoins, OuterJoins, PortSearch};
+use crate::{JoinedInside, JoinedOutside, PortSearch};
 use aadl_names::NumberedPort;
 use aadl_tree::Direction;
 use aadl_uses::{ConnectionPorts, PackageConnections};
@@ -18,13 +18,13 @@ pub struct JoinedPorts {
     /// The number of the root.
     pub root: usize,
     /// Out ports to which threads below give.
-    pub gives: InnerJoins,
+    pub gives: JoinedInside,
     /// In ports from which threads below take.
-    pub takes: InnerJoins,
+    pub takes: JoinedInside,
     /// In ports to which something outside gives.
-    pub fed: OuterJoins,
+    pub fed: JoinedOutside,
     /// Out ports from which something outside takes.
-    pub led: OuterJoins,
+    pub led: JoinedOutside,
 }
 
 impl Drop for JoinedPorts {
@@ -53,18 +53,18 @@ impl JoinedPorts {
         requires used { (n : ℕ) → Contains used.now.keys n ↔ IsInUse (placed wires.now.uses.names.tree.now) root n }
         ensures { IfOk result (λ ways. (ways.root ≡ root) × AreChainPorts (placed wires.now.uses.names.tree.now) ways) }
     {
-        let gives = InnerJoins::of(alloc, wires, order, Direction::Out)?;
-        let takes = InnerJoins::of(alloc, wires, order, Direction::In)?;
+        let gives = JoinedInside::of(alloc, wires, order, Direction::Out)?;
+        let takes = JoinedInside::of(alloc, wires, order, Direction::In)?;
         let inward = PortSearch {
             root,
             direction: Direction::In,
         };
-        let fed = OuterJoins::of(alloc, wires, &gives, order, used, inward)?;
+        let fed = JoinedOutside::of(alloc, wires, &gives, order, used, inward)?;
         let outward = PortSearch {
             root,
             direction: Direction::Out,
         };
-        let led = OuterJoins::of(alloc, wires, &takes, order, used, outward)?;
+        let led = JoinedOutside::of(alloc, wires, &takes, order, used, outward)?;
         Ok(JoinedPorts {
             root,
             gives,

@@ -11,8 +11,8 @@ ghost use Rattle.aadl_chains.specs.proof.PermittedConnections.{ArePermitted};
 ghost use Rattle.aadl_chains.specs.proof.Walks as walks;
 ghost use Rattle.aadl_chains.specs.proof.Walks.{OneEach, IsThreadPort};
 ghost use Rattle.aadl_chains.specs.proof.TracedChains.{Descends, Traces, TracesTap};
-ghost use Rattle.aadl_chains.specs.proof.OutermostFirstWalks as spec;
-ghost use Rattle.aadl_chains.specs.proof.WalksUpAndDown.{IsFromInner, IsLower, LeadsDown};
+ghost use Rattle.aadl_chains.specs.proof.WalkResults as spec;
+ghost use Rattle.aadl_chains.specs.proof.DownwardSteps.{IsFromInner, IsLower, LeadsDown};
 
 use aadl_names::NumberedPort;
 use aadl_uses::{PackageConnections, standing};

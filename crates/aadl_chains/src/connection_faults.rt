@@ -12,7 +12,7 @@ ghost use Rattle.aadl_uses.specs.proof.ContainmentOrders.{IsOrder};
 ghost use Rattle.aadl_chains.specs.ChainFaults.{IsEndFault};
 ghost use Rattle.aadl_chains.specs.proof.PermittedConnections.{ArePermitted};
 ghost use Rattle.aadl_chains.specs.proof.ConnectionsOnChains.{AreChainPorts};
-ghost use Rattle.aadl_chains.specs.proof.ConnectionEndFaults.{FindsAll, IsFoundIn, IsFoundAt, dead_end, second};
+ghost use Rattle.aadl_chains.specs.proof.FoundChainFaults.{FindsAll, IsFoundIn, IsFoundAt, dead_end, second};
 
 use crate::chain_connections::JoinedPorts;
 use aadl_names::{FaultFinder, PackageFault};

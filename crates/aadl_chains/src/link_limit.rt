@@ -19,7 +19,7 @@ ghost use Rattle.aadl_chains.specs.LinksFeedsAndTaps.{IsLink, OtherTarget};
 ghost use Rattle.aadl_chains.specs.proof.EnteredPortCountTables.{AreTakenBelow};
 ghost use Rattle.aadl_chains.specs.proof.EnteredThreadPorts.{EndsLink, IsLinkBelow, FromThread};
 
-use crate::InnerJoins;
+use crate::JoinedInside;
 use crate::entered_port_counts::PortCounts;
 use aadl_names::NumberedPort;
 use aadl_tree::Direction;
@@ -53,7 +53,7 @@ pub fn has_too_many_links(
 #[derive(Clone, Copy)]
 struct LinkEnds<'c> {
     takes: &'c PortCounts,
-    gives: &'c InnerJoins,
+    gives: &'c JoinedInside,
 }
 
 // How many links there are below each declaration; the limit where there are more.
@@ -69,7 +69,7 @@ fn link_counts(
         → IsNumber limit (EndsLink (placed wires.now.uses.names.tree.now) n) (slice_index counts.items n)) }
 {
     let takes = PortCounts::of(alloc, wires, order, limit)?;
-    let gives = InnerJoins::of(alloc, wires, order, Direction::Out)?;
+    let gives = JoinedInside::of(alloc, wires, order, Direction::Out)?;
     let ends = LinkEnds {
         takes: &takes,
         gives: &gives,

@@ -18,7 +18,7 @@ pub mod ValueAndPropertyLists
 pub mod ListSymbols
 pub mod DeclarationSections
 mod KeywordListMembership
-mod ParseTableRoutes
+mod RoutesToKeywords
 mod OnlyListedKeywords
 mod ReachedKeywords
 pub mod TokensOrFault

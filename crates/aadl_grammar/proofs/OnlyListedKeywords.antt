@@ -14,7 +14,7 @@ use Rattle.aadl_grammar.specs.proof.ParseTable.{rows}
 use Rattle.aadl_grammar.specs.proof.StackMachine.{whole_package, annex_body}
 use Rattle.aadl_grammar.specs.proof.ReachableKeywords.{is_word, Stands, at_first, later, CanCome}
 use Rattle.aadl_grammar.proofs.KeywordListMembership.{or_not, or_false, listed, is_listed}
-use Rattle.aadl_grammar.proofs.ParseTableRoutes.{is_the, the_mark}
+use Rattle.aadl_grammar.proofs.RoutesToKeywords.{is_the, the_mark}
 
 -- a keyword or symbol that may come where these are the keywords
 abbrev fine_mark : List Mark → Mark → Bool

@@ -10,7 +10,7 @@ use Rattle.aadl_tree.specs.KeywordsAndSymbols.{keywords_outside, keywords_inside
 use Rattle.aadl_grammar.specs.proof.GrammarSymbols.{Symbol}
 use Rattle.aadl_grammar.specs.proof.StackMachine.{whole_package, annex_body}
 use Rattle.aadl_grammar.specs.proof.ReachableKeywords.{is_word, CanCome}
-use Rattle.aadl_grammar.proofs.ParseTableRoutes.{Turn, Way, leads_to, comes}
+use Rattle.aadl_grammar.proofs.RoutesToKeywords.{Turn, Way, leads_to, comes}
 
 turn : ℕ → ℕ → Turn
 turn by to = record { by = by; to = to }

@@ -15,7 +15,7 @@ use Rattle.aadl_tree.specs.Declarations.{Feature, PackageTree}
 use Rattle.aadl_tree.specs.proof.PlaceMaps.{kept_place}
 use Rattle.aadl_tree.specs.proof.DeclarationViews.{feature_view}
 use Rattle.aadl_uses.specs.ThreadsBelow.{path_before, IsThreadAt, PathBefore}
-use Rattle.aadl_names.specs.ReferenceResolution.{ports_at, ports_of, implementation_at}
+use Rattle.aadl_names.specs.NameResolution.{ports_at, ports_of, implementation_at}
 use Rattle.aadl_uses.specs.ContainmentAndUse.{number_at_path, component_at}
 use Rattle.aadl_uses.specs.ThreadLocations.{ThreadWith}
 use Rattle.aadl_uses.proofs.PathOrder.{never_before}

@@ -11,9 +11,9 @@ use Rattle.aadl_tree.specs.Names.{Identifier}
 use Rattle.aadl_tree.specs.Declarations.{Feature, Subcomponent, ConnectionEnd, Implementation, PackageTree}
 use Rattle.aadl_names.specs.declared.numbered_port.NumberedPort.{NumberedPort}
 use Rattle.aadl_names.specs.declared.numbered_port.NumberedPort.TheVariants.{Own, Inner}
-use Rattle.aadl_names.specs.PackageFaults.{goes_in}
-use Rattle.aadl_names.specs.ReferenceResolution.{implementation_at, referred, target_of, ports_at, ports_of, port_named}
-use Rattle.aadl_names.specs.ReferenceResolution.{sub_named, inner_ports, inner_end_port, end_port_by, end_port, subcomponents_of}
+use Rattle.aadl_names.specs.PackageNameFaults.{goes_in}
+use Rattle.aadl_names.specs.NameResolution.{implementation_at, referred, target_of, ports_at, ports_of, port_named}
+use Rattle.aadl_names.specs.NameResolution.{sub_named, inner_ports, inner_end_port, end_port_by, end_port, subcomponents_of}
 use Rattle.aadl_uses.specs.ContainmentAndUse.{below, number_at_path, component_at}
 use Rattle.aadl_chains.specs.Chains.{Port, ConnectionAt, port_at, Goes, Leads}
 use Rattle.aadl_instance.specs.proof.ChainsSoFar.{HasPort}

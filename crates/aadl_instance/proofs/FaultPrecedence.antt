@@ -8,8 +8,8 @@ use Rattle.aadl_tree.specs.Declarations.{PackageTree}
 use Rattle.aadl_names.specs.declared.fault.PackageFault.{PackageFault}
 use Rattle.aadl_names.specs.declared.fault.PackageFault.TheVariants.{NoRoot, TooMany}
 use Rattle.aadl_names.specs.FirstFaults.{precedes, IsFirst, IsFirstByLine}
-use Rattle.aadl_names.specs.ReferenceResolution.{root_number}
-use Rattle.aadl_names.specs.PackageFaults.{package_faults}
+use Rattle.aadl_names.specs.NameResolution.{root_number}
+use Rattle.aadl_names.specs.PackageNameFaults.{package_faults}
 use Rattle.aadl_uses.specs.Recursion.{IsRecursive}
 use Rattle.aadl_chains.specs.ChainFaults.{IsEndFault}
 use Rattle.aadl_instance.specs.declared.limits.Limit.{Limit}

@@ -7,7 +7,7 @@ use Rattle.std.proofs.lemmas.Option.{slice_get-get_or}
 use Rattle.pals_base.specs.declared.limits.TheConstants.{COMPONENTS}
 use Rattle.aadl_tree.specs.Declarations.{PackageTree}
 use Rattle.aadl_names.specs.declared.fault.PackageFault.TheVariants.{TooMany}
-use Rattle.aadl_names.specs.ReferenceResolution.{root_number}
+use Rattle.aadl_names.specs.NameResolution.{root_number}
 use Rattle.aadl_uses.specs.ContainmentAndUse.{number_at_path}
 use Rattle.aadl_uses.specs.ThreadsBelow.{Lists, IsThreadAt, PathBefore}
 use Rattle.aadl_uses.specs.declared.thread_locations.ThreadAt.{ThreadAt}

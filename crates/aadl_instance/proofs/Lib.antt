@@ -1,5 +1,5 @@
 pub mod DeclaredNameCounts
-pub mod ThreadsInUse
+pub mod ThreadLimits
 pub mod PathLengths
 pub mod FaultPrecedence
 pub mod Roots

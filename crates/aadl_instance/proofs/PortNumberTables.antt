@@ -12,7 +12,7 @@ use Rattle.aadl_tree.specs.declared.declarations.Feature as source
 use Rattle.aadl_tree.specs.Declarations.{Feature, PackageTree}
 use Rattle.aadl_tree.specs.proof.PlaceMaps.{kept_place}
 use Rattle.aadl_tree.specs.proof.DeclarationViews.{feature_view}
-use Rattle.aadl_names.specs.ReferenceResolution.{type_in, type_numbered, features_of}
+use Rattle.aadl_names.specs.NameResolution.{type_in, type_numbered, features_of}
 use Rattle.aadl_instance.specs.InstancesByNumbers.{same_direction, goes_as, number_among}
 use Rattle.aadl_instance.specs.proof.PortNumberTables.{AreAmong, AreNumbers, seen, with_port}
 use Rattle.aadl_instance.specs.declared.port_numbers.SeenPorts.{SeenPorts}

@@ -6,7 +6,7 @@ use Rattle.std.proofs.lemmas.Option.{slice_get_within, none-some}
 use Rattle.aadl_tree.specs.declared.declarations.Category.{Category}
 use Rattle.aadl_tree.specs.declared.declarations.Category.TheVariants as categories
 use Rattle.aadl_tree.specs.Declarations.{Implementation, Declaration, type, implementation, PackageTree}
-use Rattle.aadl_names.specs.ReferenceResolution.{implementation_in, is_root, is_system, is_thread, root_number}
+use Rattle.aadl_names.specs.NameResolution.{implementation_in, is_root, is_system, is_thread, root_number}
 use Rattle.aadl_uses.specs.proof.ThreadCounts.{is_thread_in}
 use Rattle.aadl_chains.specs.proof.PortsJoinedInside.{is_thread_at}
 use Rattle.aadl_chains.proofs.FirstIncomingConnections.{first_at}

@@ -5,8 +5,8 @@ use Rattle.aadl_tree.specs.Declarations.{Implementation, PackageTree}
 use Rattle.aadl_names.specs.declared.fault.PackageFault.{PackageFault}
 use Rattle.aadl_names.specs.declared.fault.PackageFault.TheVariants.{NoRoot, TooMany}
 use Rattle.aadl_names.specs.FirstFaults.{IsFirstByLine}
-use Rattle.aadl_names.specs.ReferenceResolution.{implementation_at, is_system, ports_of, root_number}
-use Rattle.aadl_names.specs.PackageFaults.{package_faults}
+use Rattle.aadl_names.specs.NameResolution.{implementation_at, is_system, ports_of, root_number}
+use Rattle.aadl_names.specs.PackageNameFaults.{package_faults}
 use Rattle.aadl_uses.specs.Recursion.{IsRecursive}
 use Rattle.aadl_chains.specs.ChainFaults.{IsEndFault}
 use Rattle.aadl_uses.specs.ThreadsBelow.{MoreThan, IsThreadAt, PathBefore}

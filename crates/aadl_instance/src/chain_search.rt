@@ -8,7 +8,7 @@ ghost use Rattle.aadl_instance.specs.proof.ChainSearchStates.{ShowsInto, ShowsTa
 ghost use Rattle.aadl_instance.specs.proof.ChainsSoFar.{HasPort, IsChainStart};
 
 use crate::chain::{Chain, ChainEnd, ConnectionAt};
-use crate::chain_map::{ChainMap, NumberedThread};
+use crate::chain_search_context::{ChainSearchContext, NumberedThread};
 use crate::numbered_ends::{node_end, root_end, start_end};
 use aadl_chains::{ChainRoute, ChainStart, trace_back, trace_tap};
 use aadl_uses::standing;
@@ -25,7 +25,7 @@ pub struct Incoming {
 }
 
 /// All links and feeds, in order of their targets.
-pub fn incoming_of(alloc: Global, network: &ChainMap<'_>) -> Result<Incoming, AllocError>
+pub fn incoming_of(alloc: Global, network: &ChainSearchContext<'_>) -> Result<Incoming, AllocError>
     requires { IsReady network.now }
     ensures links { IfOk result (λ incoming. Shows network.now IsLink TargetBefore incoming.links) }
     ensures feeds { IfOk result (λ incoming. Shows network.now IsFeed TargetBefore incoming.feeds) }
@@ -50,7 +50,7 @@ pub fn incoming_of(alloc: Global, network: &ChainMap<'_>) -> Result<Incoming, Al
 fn add_thread(
     alloc: Global,
     incoming: &mut Incoming,
-    network: &ChainMap<'_>,
+    network: &ChainSearchContext<'_>,
     number: NodeNo,
     path: &[usize],
 ) -> Result<(), AllocError>
@@ -76,7 +76,7 @@ fn add_thread(
 fn add_port(
     alloc: Global,
     incoming: &mut Incoming,
-    network: &ChainMap<'_>,
+    network: &ChainSearchContext<'_>,
     node: &NumberedThread<'_>,
     port: usize,
 ) -> Result<(), AllocError>
@@ -95,7 +95,7 @@ fn add_port(
 fn add_chain(
     alloc: Global,
     incoming: &mut Incoming,
-    network: &ChainMap<'_>,
+    network: &ChainSearchContext<'_>,
     node: &NumberedThread<'_>,
     port: usize,
 ) -> Result<(), AllocError>
@@ -131,7 +131,7 @@ impl Incoming {
 }
 
 /// All taps, in order of the ports to which they go.
-pub fn taps_of(alloc: Global, network: &ChainMap<'_>) -> Result<Items<Chain>, AllocError>
+pub fn taps_of(alloc: Global, network: &ChainSearchContext<'_>) -> Result<Items<Chain>, AllocError>
     requires { IsReady network.now }
     ensures { IfOk result (λ taps. Shows network.now IsTap PortBefore taps) }
 {
@@ -146,7 +146,7 @@ pub fn taps_of(alloc: Global, network: &ChainMap<'_>) -> Result<Items<Chain>, Al
 fn add_tap(
     alloc: Global,
     taps: &mut Items<Chain>,
-    network: &ChainMap<'_>,
+    network: &ChainSearchContext<'_>,
     port: usize,
 ) -> Result<(), AllocError>
     requires ready { IsReady network.now }
@@ -170,7 +170,7 @@ fn add_tap(
 // A chain by how it was found and the end to which it leads.
 fn chain_by(
     alloc: Global,
-    network: &ChainMap<'_>,
+    network: &ChainSearchContext<'_>,
     route: &ChainRoute,
     to: ChainEnd,
 ) -> Result<Chain, AllocError>

@@ -2,13 +2,13 @@
 ghost use Rattle.std.specs.Prelude.{◌≡◌, ◌⊎◌, ℕ, List, Some, IfErr, IfOk};
 ghost use Rattle.aadl_tree.specs.proof.PackageViews.{placed};
 ghost use Rattle.aadl_names.specs.declared.fault.PackageFault.TheVariants.{Memory};
-ghost use Rattle.aadl_names.specs.ReferenceResolution.{root_number};
+ghost use Rattle.aadl_names.specs.NameResolution.{root_number};
 ghost use Rattle.aadl_instance.specs.Faults.{IsFault};
 ghost use Rattle.aadl_instance.specs.proof.CheckedPackages.{IsChecked};
 ghost use Rattle.aadl_instance.specs.InstancesByNumbers.{IsInstance};
 
-use crate::chain_map::ChainMap;
 use crate::chain_search::{incoming_of, taps_of};
+use crate::chain_search_context::ChainSearchContext;
 use crate::instance::Instance;
 use crate::port_numbers::PortNumbers;
 use crate::{Checked, check_package};
@@ -45,7 +45,7 @@ fn instance_of<'t>(alloc: Global, checked: Checked<'t>) -> Result<Instance<'t>, 
     let uses = &checked.wires.uses;
     let paths = thread_paths(alloc, uses, &checked.order, &checked.used, checked.root)?;
     let numbers = PortNumbers::of(alloc, &checked.wires)?;
-    let network = ChainMap {
+    let network = ChainSearchContext {
         wires: &checked.wires,
         order: &checked.order,
         root: checked.root,

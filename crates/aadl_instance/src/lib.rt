@@ -4,8 +4,8 @@
 
 mod behaviour_sizes;
 pub mod chain;
-mod chain_map;
 mod chain_search;
+mod chain_search_context;
 pub mod checked_package;
 pub mod fault_laws;
 mod flattening;

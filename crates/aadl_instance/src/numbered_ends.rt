@@ -1,5 +1,4 @@
-//! The ends of chains with their threads and ports as numbers, and the map of threads, paths and port numbers that
-//! they are made by.
+//! The ends of chains with their threads and ports as numbers.
 ghost use Rattle.std.specs.Prelude.{◌≡◌, ◌≤◌, Some, [], length, reverse, slice_get, AllPairs, Contains, IfOk};
 ghost use Rattle.aadl_uses.specs.ThreadsBelow.{path_before, IsThreadAt, PathBefore};
 ghost use Rattle.aadl_chains.specs.proof.TracedChains.{begin_port};
@@ -8,7 +7,7 @@ ghost use Rattle.aadl_instance.specs.proof.ChainSearchStates.{tree_of, paths_in,
 ghost use Rattle.aadl_instance.specs.proof.ChainsSoFar.{paths_of, HasPort, IsChainStart};
 
 use crate::chain::ChainEnd;
-use crate::chain_map::{ChainMap, NumberedThread};
+use crate::chain_search_context::{ChainSearchContext, NumberedThread};
 use aadl_chains::ChainStart;
 use aadl_uses::standing;
 use pals_base::{NodeNo, Text};
@@ -17,7 +16,7 @@ use std::alloc::{AllocError, Global};
 /// Where a chain begins.
 pub fn start_end(
     alloc: Global,
-    network: &ChainMap<'_>,
+    network: &ChainSearchContext<'_>,
     begin: &ChainStart,
 ) -> Result<ChainEnd, AllocError>
     requires ready { IsReady network.now }
@@ -31,7 +30,11 @@ pub fn start_end(
 }
 
 /// A port of the root, by its number. The root has a port of this number.
-pub fn root_end(alloc: Global, network: &ChainMap<'_>, port: usize) -> Result<ChainEnd, AllocError>
+pub fn root_end(
+    alloc: Global,
+    network: &ChainSearchContext<'_>,
+    port: usize,
+) -> Result<ChainEnd, AllocError>
     requires { HasPort (tree_of network.now) network.now.root (record { path = []; port = port }) }
     ensures { IfOk result (λ end. end ≡ end_in (tree_of network.now) network.now.root (paths_in network.now)
         (record { path = []; port = port })) }
@@ -43,7 +46,7 @@ pub fn root_end(alloc: Global, network: &ChainMap<'_>, port: usize) -> Result<Ch
 }
 
 // A port of the thread at a path.
-fn thread_end(network: &ChainMap<'_>, path: &[usize], port: usize) -> ChainEnd
+fn thread_end(network: &ChainSearchContext<'_>, path: &[usize], port: usize) -> ChainEnd
     requires ready { IsReady network.now }
     requires thread { IsThreadAt (tree_of network.now) network.now.root (reverse path.now) }
     requires port { HasPort (tree_of network.now) network.now.root (record { path = reverse path.now; port = port }) }
@@ -62,7 +65,11 @@ fn thread_end(network: &ChainMap<'_>, path: &[usize], port: usize) -> ChainEnd
 }
 
 /// A port of a thread, by its number among those that go as it does.
-pub fn node_end(network: &ChainMap<'_>, node: &NumberedThread<'_>, port: usize) -> ChainEnd
+pub fn node_end(
+    network: &ChainSearchContext<'_>,
+    node: &NumberedThread<'_>,
+    port: usize,
+) -> ChainEnd
     requires ready { IsReady network.now }
     requires node { IsNode network.now node.now }
     requires port { HasPort (tree_of network.now) network.now.root (record { path = reverse node.now.path.now; port = port }) }

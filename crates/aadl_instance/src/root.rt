@@ -6,10 +6,10 @@ ghost use Rattle.aadl_tree.specs.proof.PlaceMaps.{kept_place};
 ghost use Rattle.aadl_tree.specs.proof.PackageViews.{placed};
 ghost use Rattle.aadl_tree.specs.proof.DeclarationViews.{declaration_view, implementation_view};
 ghost use Rattle.aadl_tree.specs.proof.DeclarationViews.{implementation_name_view};
-ghost use Rattle.aadl_names.specs.Spelling.{spelled_implementation};
-ghost use Rattle.aadl_names.specs.ReferenceResolution as spec;
+ghost use Rattle.aadl_names.specs.QualifiedNameSpellings.{spelled_implementation};
+ghost use Rattle.aadl_names.specs.NameResolution as spec;
 
-use aadl_names::spelling::spelled_implementation;
+use aadl_names::qualified_names::spelled_implementation;
 use aadl_tree::{Category, Declaration, Implementation, PackageTree};
 use pals_base::Text;
 use std::alloc::{AllocError, Global};

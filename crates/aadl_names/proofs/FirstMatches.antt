@@ -5,7 +5,7 @@ use Rattle.std.specs.List.{position_from}
 use Rattle.std.specs.Option.{option_or}
 use Rattle.std.proofs.lemmas.List.{length-map, length-take-le, map_more, take_all}
 use Rattle.list_lemmas.proofs.Options.{option_or-cond}
-use Rattle.aadl_names.specs.ReferenceResolution.{first_number}
+use Rattle.aadl_names.specs.NameResolution.{first_number}
 
 position-push : {X : Type 0} (p : X → Bool) (n : ℕ) (xs : List X) (x : X)
     → position_from p n (xs ++ x ∷ []) ≡ option_or (position_from p n xs) (cond (p x) (Some (n + length xs)) None)

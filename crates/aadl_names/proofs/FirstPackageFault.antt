@@ -7,12 +7,12 @@ use Rattle.aadl_names.specs.declared.fault.PackageFault.{PackageFault}
 use Rattle.aadl_names.specs.FirstFaults.{FirstOf}
 use Rattle.aadl_names.specs.proof.FirstFaultSoFar.{found}
 use Rattle.aadl_names.specs.DuplicateNames.{twice}
-use Rattle.aadl_names.specs.ReferenceResolution.{is_thread, ports_of}
+use Rattle.aadl_names.specs.NameResolution.{is_thread, ports_of}
 use Rattle.aadl_names.specs.BehaviourAnnexes.{behaviours}
 use Rattle.aadl_names.specs.DuplicatesByNamespace.{port_entries, variable_entries, state_entries, member_entries}
 use Rattle.aadl_names.specs.DuplicatesByNamespace.{type_entry, implementation_entry, twice_in_behaviour, twice_in_first}
 use Rattle.aadl_names.specs.DuplicatesByNamespace.{twice_in, twice_names}
-use Rattle.aadl_names.specs.PackageFaults.{wrong_names, package_faults}
+use Rattle.aadl_names.specs.PackageNameFaults.{wrong_names, package_faults}
 use Rattle.aadl_names.specs.proof.DuplicatesBesidePorts.{beside, beside_in_behaviour, beside_in_first, beside_in, beside_names}
 use Rattle.aadl_names.proofs.SameFirstFaults.{Covers, covers_itself, covers_append, covers_all, first_of_more}
 use Rattle.aadl_names.proofs.SameFirstFaults.{found_is_first}

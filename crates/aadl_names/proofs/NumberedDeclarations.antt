@@ -11,7 +11,7 @@ use Rattle.aadl_tree.specs.proof.DeclarationViews.{declaration_view}
 use Rattle.aadl_tree.specs.proof.PlaceMaps.{kept_place}
 use Rattle.aadl_tree.specs.proof.PackageViews.{placed}
 use Rattle.aadl_names.specs.proof.MemberNumbers.{member_of}
-use Rattle.aadl_names.specs.ReferenceResolution.{type_in, type_numbered, features_of, port_named}
+use Rattle.aadl_names.specs.NameResolution.{type_in, type_numbered, features_of, port_named}
 
 -- the declaration of a number
 pub declaration_there : (tree : source_package.PackageTree) (n : ℕ) (ds : List source_declaration.Declaration)

@@ -6,7 +6,7 @@ use Rattle.aadl_tree.specs.declared.names.Identifier.{Identifier}
 use Rattle.aadl_tree.specs.proof.NameViews.{identifier_view}
 use Rattle.aadl_tree.specs.proof.PlaceMaps.{kept_place}
 use Rattle.aadl_tree.specs.Names as n
-use Rattle.aadl_names.specs.ReferenceResolution.{same_words}
+use Rattle.aadl_names.specs.NameResolution.{same_words}
 
 abbrev seen : List Identifier → List (n.Identifier ℕ)
 seen xs = map (identifier_view kept_place) xs

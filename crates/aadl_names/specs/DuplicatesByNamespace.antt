@@ -6,9 +6,9 @@ use Rattle.aadl_tree.specs.Annexes.{AnnexTree}
 use Rattle.aadl_tree.specs.Declarations.{Feature, Implementation, Declaration, type, implementation, PackageTree}
 use Rattle.aadl_names.specs.declared.fault.PackageFault.{PackageFault}
 use Rattle.aadl_names.specs.declared.declared_name.SpelledName.{SpelledName}
-use Rattle.aadl_names.specs.Spelling.{spelled_implementation}
+use Rattle.aadl_names.specs.QualifiedNameSpellings.{spelled_implementation}
 use Rattle.aadl_names.specs.DuplicateNames.{entry_of, twice}
-use Rattle.aadl_names.specs.ReferenceResolution.{is_thread, ports_of}
+use Rattle.aadl_names.specs.NameResolution.{is_thread, ports_of}
 use Rattle.aadl_names.specs.BehaviourAnnexes.{behaviours, variables_of, states_of}
 
 abbrev pub port_entries : List (Feature ℕ) → List SpelledName

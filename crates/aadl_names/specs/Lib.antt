@@ -1,11 +1,11 @@
-pub mod Spelling
+pub mod QualifiedNameSpellings
 pub mod FirstFaults
-pub mod ReferenceResolution
+pub mod NameResolution
 pub mod DuplicateNames
 pub mod RecognisedProperties
 pub mod BehaviourAnnexes
 pub mod DuplicatesByNamespace
 pub mod NameUseFaults
-pub mod PackageFaults
+pub mod PackageNameFaults
 pub mod proof
 pub mod PropertyValueShapes

@@ -1,4 +1,5 @@
--- The properties that mean something, where they do, and whether their values have the shape that they need.
+-- The properties that mean something, where they do, whether their values have the shape that they need, and what is
+-- wrong with a list of them.
 use Rattle.std.specs.Prelude.{ℕ, Bool, true, false, not, ◌&&◌, List, [], ◌∷◌, ◌++◌, filter, map, flat_map, codes}
 use Rattle.std.specs.Prelude.{Option, if◌then◌else◌, find}
 use Rattle.std.specs.Option.{is_some}
@@ -13,8 +14,8 @@ use Rattle.aadl_names.specs.declared.recognised_properties.PropertyName.TheVaria
 use Rattle.aadl_names.specs.declared.recognised_properties.PropertyHolder.{PropertyHolder}
 use Rattle.aadl_names.specs.declared.declared_name.SpelledName.{SpelledName}
 use Rattle.aadl_names.specs.DuplicateNames.{wrong_if, twice}
-use Rattle.aadl_names.specs.Spelling.{spelled_name}
-use Rattle.aadl_names.specs.ReferenceResolution.{is_thread}
+use Rattle.aadl_names.specs.QualifiedNameSpellings.{spelled_name}
+use Rattle.aadl_names.specs.NameResolution.{is_thread}
 use Rattle.aadl_names.specs.declared.recognised_properties.PropertyHolder.TheVariants as holders
 use Rattle.aadl_names.specs.PropertyValueShapes.{is_initial_text, only_text, range_of, reference_of, text_of, time_of}
 

@@ -3,7 +3,7 @@ ghost use Rattle.std.specs.Prelude.{◌≡◌, slice_get, option_map, option_cop
 ghost use Rattle.aadl_tree.specs.proof.PackageViews.{placed};
 ghost use Rattle.aadl_tree.specs.proof.DeclarationViews.{implementation_view, subcomponent_view, type_view};
 ghost use Rattle.aadl_tree.specs.proof.PlaceMaps.{kept_place};
-ghost use Rattle.aadl_names.specs.ReferenceResolution as spec;
+ghost use Rattle.aadl_names.specs.NameResolution as spec;
 
 use crate::package_names::Names;
 use aadl_tree::{Declaration, Implementation, PackageTree, Subcomponent, TypeDeclaration};

@@ -4,7 +4,7 @@ ghost use Rattle.std.specs.Prelude.{ℕ, ◌++◌, None};
 ghost use Rattle.aadl_tree.specs.Declarations.{PackageTree};
 ghost use Rattle.aadl_names.specs.FirstFaults.{FirstOf};
 ghost use Rattle.aadl_names.specs.proof.FirstFaultSoFar.{found};
-ghost use Rattle.aadl_names.specs.PackageFaults.{wrong_names, package_faults};
+ghost use Rattle.aadl_names.specs.PackageNameFaults.{wrong_names, package_faults};
 ghost use Rattle.aadl_names.specs.proof.DuplicatesBesidePorts.{beside_names};
 
 /// The first of what is looked at in a package is the first of all that is wrong with its names.

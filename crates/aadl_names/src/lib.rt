@@ -16,8 +16,8 @@ pub mod numbered_place;
 pub mod numbered_port;
 pub mod package_names;
 pub mod place_laws;
+pub mod qualified_names;
 pub mod recognised_properties;
-pub mod spelling;
 pub mod time_units;
 pub mod type_ports;
 

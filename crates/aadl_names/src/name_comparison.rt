@@ -3,7 +3,7 @@ ghost use Rattle.std.specs.Prelude.{◌≡◌, ◌++◌, ℕ, List, codes, strin
 ghost use Rattle.aadl_tree.specs.Names.{same_name};
 ghost use Rattle.aadl_tree.specs.proof.PlaceMaps.{kept_place};
 ghost use Rattle.aadl_tree.specs.proof.NameViews.{name_view};
-ghost use Rattle.aadl_names.specs.Spelling.{spelled_name};
+ghost use Rattle.aadl_names.specs.QualifiedNameSpellings.{spelled_name};
 ghost use Rattle.aadl_names.specs.proof.PiecewiseComparison.{goes_on};
 
 use aadl_tree::{Identifier, Name};

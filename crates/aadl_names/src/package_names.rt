@@ -10,12 +10,12 @@ ghost use Rattle.aadl_tree.specs.proof.DeclarationViews.{feature_view, subcompon
 ghost use Rattle.aadl_tree.specs.proof.PlaceMaps.{kept_place};
 ghost use Rattle.aadl_names.specs.proof.NameTables.{value_of};
 ghost use Rattle.aadl_names.specs.proof.MemberNumbers.{member_of};
-ghost use Rattle.aadl_names.specs.ReferenceResolution as spec;
-ghost use Rattle.aadl_names.specs.ReferenceResolution.{first_number, is_type, is_implementation, port_named, sub_named};
+ghost use Rattle.aadl_names.specs.NameResolution as spec;
+ghost use Rattle.aadl_names.specs.NameResolution.{first_number, is_type, is_implementation, port_named, sub_named};
 
 use crate::name_comparison::same_word;
 use crate::name_table::NameTable;
-use crate::spelling::spelled_implementation;
+use crate::qualified_names::spelled_implementation;
 use aadl_tree::{
     Declaration, Feature, Identifier, Implementation, PackageTree, Reference, Subcomponent,
 };
@@ -73,7 +73,7 @@ impl<'t> Names<'t> {
     }
 
     /// The number of the implementation that a reference names.
-    #[tactic(auto, unfolding(crate::specs::ReferenceResolution::referred))]
+    #[tactic(auto, unfolding(crate::specs::NameResolution::referred))]
     pub fn referred(&self, alloc: Global, x: &Reference) -> Result<Option<usize>, AllocError>
         ensures { IfOk result (λ number. number ≡ spec.referred (placed self.now.tree.now) (reference_view kept_place x.now)) }
     {

@@ -1,4 +1,5 @@
-//! Where the tokens of a tree stand. The law is the contract of a function that does nothing.
+//! The law that places rise along the tree of a text. It is the contract of a function that does
+//! nothing.
 ghost use Rattle.std.specs.Prelude.{ℕ, ◌<◌, List};
 ghost use Rattle.aadl_tree.specs.Declarations.{PackageTree, package_parts};
 ghost use Rattle.aadl_tree.specs.TextTreesAndFaults.{IsTreeOf};

@@ -1,7 +1,7 @@
 //! The ports of a component type: the number of a port by its name, and its direction.
 ghost use Rattle.std.specs.Prelude.{◌≡◌, IfOk};
 ghost use Rattle.aadl_tree.specs.proof.PackageViews.{placed};
-ghost use Rattle.aadl_names.specs.ReferenceResolution as spec;
+ghost use Rattle.aadl_names.specs.NameResolution as spec;
 
 use crate::declarations_by_number::type_numbered;
 use crate::package_names::Names;

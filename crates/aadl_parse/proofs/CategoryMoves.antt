@@ -1,4 +1,4 @@
--- An annex takes at least one terminal, and a category begins a declaration. For the loops of the parser.
+-- What the machine does at a category: it takes it, and a declaration begins with it. For the parser of declarations.
 use Rattle.std.proofs.Common.{◌≡◌, [], ◌∷◌, refl}
 use Rattle.aadl_tree.specs.declared.declarations.Category.{Category}
 use Rattle.aadl_tree.specs.declared.declarations.Category.TheVariants as categories

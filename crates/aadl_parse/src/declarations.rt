@@ -1,4 +1,4 @@
-//! Parses types, implementations, their annexes, and the package that has them.
+//! Parses declarations: types and implementations, each from its category up to its end.
 ghost use Rattle.std.specs.Prelude.{◌≡◌, [], ◌∷◌, flat_map, map};
 ghost use Rattle.aadl_tree.specs.Terminals.{mark};
 ghost use Rattle.aadl_tree.specs.SpellingParts.{token};

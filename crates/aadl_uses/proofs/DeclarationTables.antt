@@ -3,7 +3,7 @@ use Rattle.std.proofs.Common.{◌≡◌, ℕ, zero, suc, ◌<◌, List, [], ◌�
 use Rattle.std.proofs.Common.{refl, sym, ap, ◌∙◌, arith}
 use Rattle.std.proofs.lemmas.Option.{same_Some, none-some}
 use Rattle.aadl_tree.specs.Declarations.{PackageTree}
-use Rattle.aadl_names.specs.ReferenceResolution.{implementation_in}
+use Rattle.aadl_names.specs.NameResolution.{implementation_in}
 use Rattle.aadl_uses.specs.declared.connections_by_target.ConnectionPorts.{ConnectionPorts}
 use Rattle.aadl_uses.specs.PortsOfConnections.{wires_of, connection_ports_at}
 use Rattle.aadl_uses.specs.proof.ImplementationTypes.{type_number_by, type_in, type_number_at}

@@ -9,8 +9,8 @@ use Rattle.aadl_tree.specs.Declarations.{Subcomponent, ConnectionEnd, Implementa
 use Rattle.aadl_tree.specs.Declarations.{PackageTree}
 use Rattle.aadl_names.specs.proof.MemberNumbers.{member_of}
 use Rattle.aadl_names.specs.declared.numbered_port.NumberedPort.TheVariants.{Own, Inner}
-use Rattle.aadl_names.specs.ReferenceResolution.{implementation_in, implementation_at, subcomponents_of, referred}
-use Rattle.aadl_names.specs.ReferenceResolution.{target_of, port_named, sub_named, ports_at, inner_end_port, end_port_by, end_port}
+use Rattle.aadl_names.specs.NameResolution.{implementation_in, implementation_at, subcomponents_of, referred}
+use Rattle.aadl_names.specs.NameResolution.{target_of, port_named, sub_named, ports_at, inner_end_port, end_port_by, end_port}
 use Rattle.aadl_uses.specs.ContainmentAndUse.{below}
 
 member_is : (name : List ℕ) (x : Implementation ℕ) (o : Option (Declaration ℕ)) → implementation_in o ≡ Some x

@@ -13,7 +13,7 @@ use Rattle.aadl_tree.specs.Declarations.{Subcomponent, PackageTree}
 use Rattle.aadl_names.specs.declared.fault.PackageFault.{PackageFault}
 use Rattle.aadl_names.specs.declared.fault.PackageFault.TheVariants.{Recursive}
 use Rattle.aadl_names.specs.FirstFaults.{place_of, number_of, precedes}
-use Rattle.aadl_names.specs.ReferenceResolution.{referred}
+use Rattle.aadl_names.specs.NameResolution.{referred}
 use Rattle.aadl_uses.specs.ContainmentAndUse.{sub_at}
 use Rattle.aadl_uses.specs.Recursion.{ClosesCycle, IsRecursive}
 use Rattle.aadl_uses.specs.proof.PackageContainment.{containment}

@@ -8,8 +8,8 @@ use Rattle.std.proofs.lemmas.Option.{slice_get-map, none-some, option_and_then_s
 use Rattle.list_lemmas.proofs.ElementPositions.{position_from-within}
 use Rattle.aadl_tree.specs.Names.{Identifier, Reference}
 use Rattle.aadl_tree.specs.Declarations.{Declaration, PackageTree}
-use Rattle.aadl_names.specs.ReferenceResolution.{implementation_in, implementation_at, subcomponents_of, referred}
-use Rattle.aadl_names.specs.ReferenceResolution.{named_by, is_of, first_number, is_implementation}
+use Rattle.aadl_names.specs.NameResolution.{implementation_in, implementation_at, subcomponents_of, referred}
+use Rattle.aadl_names.specs.NameResolution.{named_by, is_of, first_number, is_implementation}
 use Rattle.aadl_uses.specs.ContainmentAndUse.{sub_at, below, number_at_path, IsInUse}
 use Rattle.aadl_uses.specs.proof.PackageContainment.{targets_of, targets_in, containment}
 use Rattle.aadl_uses.specs.proof.ContainmentGraphs.{below_in, reached_by, IsReached, IsWithin}

@@ -14,7 +14,7 @@ use Rattle.list_lemmas.proofs.PairwiseProperties.{AllPairs-nil}
 use Rattle.list_lemmas.proofs.Elements.{Contains-nil, Contains-cons_cases}
 use Rattle.list_lemmas.proofs.Options.{option_and_then_assoc}
 use Rattle.aadl_tree.specs.Declarations.{Implementation, Declaration, PackageTree}
-use Rattle.aadl_names.specs.ReferenceResolution.{implementation_in, implementation_at, is_thread}
+use Rattle.aadl_names.specs.NameResolution.{implementation_in, implementation_at, is_thread}
 use Rattle.aadl_uses.specs.ContainmentAndUse.{number_at_path}
 use Rattle.aadl_uses.specs.proof.PackageContainment.{targets_in, containment}
 use Rattle.aadl_uses.specs.ThreadsBelow.{Lists, MoreThan, IsThreadAt, PathBefore, path_before}

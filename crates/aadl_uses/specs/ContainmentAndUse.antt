@@ -2,7 +2,7 @@
 use Rattle.std.specs.Prelude.{◌≡◌, ℕ, List, [], ◌∷◌, Option, Some, slice_get}
 use Rattle.std.specs.Option.{option_and_then}
 use Rattle.aadl_tree.specs.Declarations.{Subcomponent, Implementation, PackageTree}
-use Rattle.aadl_names.specs.ReferenceResolution.{implementation_at, subcomponents_of, referred}
+use Rattle.aadl_names.specs.NameResolution.{implementation_at, subcomponents_of, referred}
 
 abbrev pub sub_at : PackageTree ℕ → ℕ → ℕ → Option (Subcomponent ℕ)
 sub_at tree n s = slice_get (subcomponents_of (implementation_at tree n)) s

@@ -1,7 +1,7 @@
 -- What the connections of a package join: ports by their numbers, where the ends are declared.
 use Rattle.std.specs.Prelude.{ℕ, List, [], map, Option, Some, None}
 use Rattle.aadl_tree.specs.Declarations.{Connection, Implementation, PackageTree}
-use Rattle.aadl_names.specs.ReferenceResolution.{implementation_at, end_port}
+use Rattle.aadl_names.specs.NameResolution.{implementation_at, end_port}
 use Rattle.aadl_uses.specs.declared.connections_by_target.ConnectionPorts.{ConnectionPorts}
 
 abbrev pub ports_of_connection : PackageTree ℕ → Implementation ℕ → Connection ℕ → ConnectionPorts

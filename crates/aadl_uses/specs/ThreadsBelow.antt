@@ -2,7 +2,7 @@
 use Rattle.std.specs.Prelude.{◌≡◌, ℕ, ◌<◌, true, List, length, reverse, Some, All, AllPairs, Contains, Bool, false}
 use Rattle.std.specs.Prelude.{◌&&◌, ◌||◌, nat_eq, nat_lt, [], ◌∷◌}
 use Rattle.aadl_tree.specs.Declarations.{Implementation, PackageTree}
-use Rattle.aadl_names.specs.ReferenceResolution.{is_thread}
+use Rattle.aadl_names.specs.NameResolution.{is_thread}
 use Rattle.aadl_uses.specs.ContainmentAndUse.{component_at}
 
 -- a list of all that have P, each once, in an order

@@ -4,13 +4,13 @@ ghost use Rattle.aadl_tree.specs.proof.PackageViews.{placed};
 ghost use Rattle.aadl_tree.specs.proof.DeclarationViews.{declaration_view, connection_view};
 ghost use Rattle.aadl_tree.specs.proof.PlaceMaps.{kept_place};
 ghost use Rattle.aadl_tree.specs.Declarations.{Implementation};
-ghost use Rattle.aadl_names.specs.ReferenceResolution.{implementation_at};
+ghost use Rattle.aadl_names.specs.NameResolution.{implementation_at};
 ghost use Rattle.aadl_uses.specs.PortsOfConnections as spec;
 ghost use Rattle.aadl_uses.specs.proof.IncomingConnections.{wires_in};
 
 use crate::connections_by_target::{ConnectionPorts, Connections};
-use crate::package_subcomponents::Uses;
 use crate::ports_of_ends::site_of;
+use crate::resolved_package::Uses;
 use aadl_tree::{Connection, Declaration};
 use pals_base::Items;
 use std::alloc::{AllocError, Global};

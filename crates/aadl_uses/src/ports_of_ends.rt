@@ -6,10 +6,10 @@ ghost use Rattle.aadl_tree.specs.proof.PlaceMaps.{kept_place};
 ghost use Rattle.aadl_tree.specs.proof.PackageViews.{placed};
 ghost use Rattle.aadl_tree.specs.Declarations.{Implementation};
 ghost use Rattle.aadl_names.specs.declared.numbered_port.NumberedPort.TheVariants.{Own, Inner};
-ghost use Rattle.aadl_names.specs.ReferenceResolution.{implementation_at, port_named, ports_at, end_port};
+ghost use Rattle.aadl_names.specs.NameResolution.{implementation_at, port_named, ports_at, end_port};
 ghost use Rattle.aadl_uses.specs.ContainmentAndUse.{below};
 
-use crate::package_subcomponents::Uses;
+use crate::resolved_package::Uses;
 use aadl_names::NumberedPort;
 use aadl_names::type_ports::port_number;
 use aadl_tree::{ConnectionEnd, Identifier};

@@ -4,7 +4,7 @@ ghost use Rattle.aadl_tree.specs.proof.PackageViews.{placed};
 ghost use Rattle.aadl_uses.specs.proof.FirstRecursion.{FirstIn, is_sooner, IsFirstOf, IsSooner};
 ghost use Rattle.aadl_uses.specs.Recursion.{IsRecursive};
 
-use crate::package_subcomponents::Uses;
+use crate::resolved_package::Uses;
 use crate::{leads_back, suspects};
 use aadl_names::PackageFault;
 use pals_base::Text;

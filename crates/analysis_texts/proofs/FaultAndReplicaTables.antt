@@ -1,4 +1,4 @@
--- The tables of a vote, filled item by item: which components have replicas, and the names of replicas.
+-- The tables of a vote, item by item: the faults of a round, which components have replicas, and the replicas' names.
 use Rattle.std.proofs.Common.{◌≡◌, ◌≢◌, ◌∙◌, inl, inr, ℕ, zero, suc, ◌+◌, ◌-◌, ◌<◌, ◌≤◌, Bool, true, false, cond}
 use Rattle.std.proofs.Common.{nat_eq, ◌||◌, List, [], ◌∷◌, ◌++◌, length, map, take, filter, replicate, codes, decimal}
 use Rattle.std.proofs.Common.{refl, sym, ap, ap₂, arith}

@@ -1,4 +1,4 @@
 -- What the theorem of the program does not rest on: definitions of contracts below it, of laws, and of proofs.
 pub mod ReplicaNamesAndLines
 pub mod RoundFaultTables
-pub mod SumLines
+pub mod ProcessorSumLines

@@ -5,7 +5,7 @@ ghost use Rattle.analysis_fields.specs.proof.FaultAndProcessorValidity.{IsProces
 ghost use Rattle.round_budget.specs.BudgetText.{fits_on, processor_lines, slot_line, some_is_over, budget_text};
 ghost use Rattle.round_budget.specs.proof.ReleaseAndLineValues.{line_value};
 ghost use Rattle.analysis_texts.specs.BudgetedProcessors.{processor_of};
-ghost use Rattle.analysis_texts.specs.proof.SumLines.{sum_line};
+ghost use Rattle.analysis_texts.specs.proof.ProcessorSumLines.{sum_line};
 
 use analysis_fields::Processor;
 use pals_base::{Nanos, NoMemory};

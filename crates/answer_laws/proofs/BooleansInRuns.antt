@@ -14,7 +14,7 @@ use Rattle.answer_laws.specs.proof.BooleansInRuns.{ScenariosFit, StatesOfScenari
 use Rattle.answer_laws.specs.proof.BooleansInRuns.{PartsOfScenariosFit, FaultsOfScenariosFit, VotesOfScenariosFit}
 use Rattle.answer_laws.specs.proof.BooleansInRuns.{ShownOfScenariosFit, FusedOfScenariosFit, BusesOfScenariosFit}
 use Rattle.answer_laws.proofs.InputValueKinds.{lists_to_env}
-use Rattle.answer_laws.proofs.FaultValueKinds.{each_round}
+use Rattle.answer_laws.proofs.ReplicaFaultValueKinds.{each_round}
 use Rattle.answer_laws.proofs.ScenarioValueKinds.{meant_by}
 
 pub scenarios_fit : ScenariosFit

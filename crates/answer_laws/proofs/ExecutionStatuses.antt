@@ -6,7 +6,7 @@ use Rattle.pals_top.specs.ExecutionCommands.{Execution, TimedWorld, LooseWorld, 
 use Rattle.pals_top.specs.ExecutionAnswers.{command_of, IsScenarioRefusedIn, IsExecuted, IsExecutionAnswer}
 use Rattle.answer_laws.specs.proof.BundleContents.{HasTree, MeansDesign, MeansScenario, HasLongCode, LacksScenario}
 use Rattle.answer_laws.specs.proof.BundleContents.{GivesStatus}
-use Rattle.pals_top.specs.proof.FlaggedCommands.{is_run}
+use Rattle.pals_top.specs.proof.FlaggedAndRunCommands.{is_run}
 use Rattle.answer_laws.specs.proof.UniquenessPremises.{OneDesign, ExecutionPremises}
 use Rattle.answer_laws.proofs.BundleContents.{no_tree, no_design, refused_tree, has_tree}
 use Rattle.answer_laws.proofs.UniqueBundleScenarios.{meant_or_refused}

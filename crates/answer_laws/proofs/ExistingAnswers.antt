@@ -22,7 +22,7 @@ use Rattle.pals_top.specs.ExecutionAnswers.{command_of as execution_command, ove
 use Rattle.pals_top.specs.proof.BundlesWithCodes.{HasEvents}
 use Rattle.scenario_laws.specs.proof.ScenarioOrFault.{HasScenario, HasFault}
 use Rattle.answer_laws.specs.proof.BundleContents.{HasTree}
-use Rattle.pals_top.specs.proof.FlaggedCommands.{is_run}
+use Rattle.pals_top.specs.proof.FlaggedAndRunCommands.{is_run}
 use Rattle.answer_laws.specs.proof.ExistingAnswers.{IsAnswerTo, HasAnswer, HasOneAnswer}
 use Rattle.answer_laws.specs.proof.ExistencePremises.{ExistenceLaws}
 use Rattle.answer_laws.proofs.ExistingTrees.{IsRefused, tree_or_refused}

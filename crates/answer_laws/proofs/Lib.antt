@@ -16,7 +16,7 @@ pub mod ReadStatuses
 pub mod RunEnds
 pub mod RunAnswers
 mod InputValueKinds
-mod FaultValueKinds
+mod ReplicaFaultValueKinds
 mod ScenarioValueKinds
 mod BooleansInRuns
 mod ExistingTrees

@@ -22,7 +22,7 @@ use Rattle.scenario_json.specs.Scenarios.{is_field, only_known, rounds_in, input
 use Rattle.scenario_json.specs.Scenarios.{delays_field, trace_field, properties_field, replicas_field, faults_field}
 use Rattle.scenario_json.specs.Scenarios.{plants_field, processors_field, fields_in, scen, Means}
 use Rattle.answer_laws.proofs.InputValueKinds.{ListsFit, inputs_field_fit}
-use Rattle.answer_laws.proofs.FaultValueKinds.{RoundFaultFits, faults_field_fit}
+use Rattle.answer_laws.proofs.ReplicaFaultValueKinds.{RoundFaultFits, faults_field_fit}
 
 -- the values of its inputs, and those of its faults
 pub record ValuesFit (design : DesignParts) (scenario : Scenario) : Type 0 where

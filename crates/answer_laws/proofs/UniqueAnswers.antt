@@ -21,7 +21,7 @@ use Rattle.pals_top.specs.ExecutionCommands as execution
 use Rattle.pals_top.specs.AnalysisAnswers.{command_of, Makes, IsAnalysed, IsAnalysisAnswer}
 use Rattle.pals_top.specs.ExecutionAnswers.{command_of as execution_command, IsExecutionAnswer}
 use Rattle.pals_top.specs.Answers.{IsCommandAnswer}
-use Rattle.pals_top.specs.proof.FlaggedCommands.{is_run}
+use Rattle.pals_top.specs.proof.FlaggedAndRunCommands.{is_run}
 use Rattle.answer_laws.specs.proof.UniquenessPremises.{OneDesign, OneFault, AnalysisPremises, ExecutionPremises}
 use Rattle.answer_laws.proofs.UniqueDesignsAndRefusals.{one_tree, read_or_refused, one_refused_text, one_accepted}
 use Rattle.answer_laws.proofs.UniqueDesignsAndRefusals.{accepted_or_refused, package_or_text, one_refused_package}

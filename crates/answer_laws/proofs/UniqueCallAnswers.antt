@@ -9,7 +9,7 @@ use Rattle.pals_runs.specs.declared.commands.Command.{Command}
 use Rattle.pals_runs.specs.declared.commands.Command.TheVariants.{Ring}
 use Rattle.pals_top.specs.ProgramInput.{Reading, HasRead}
 use Rattle.pals_top.specs.Answers.{reads_source, IsCommandAnswer, IsSourceAnswer, IsAnswer}
-use Rattle.pals_top.specs.proof.FlaggedCommands.{is_run}
+use Rattle.pals_top.specs.proof.FlaggedAndRunCommands.{is_run}
 
 -- a command that is no run and a bundle have one answer
 abbrev pub AnswerIsDecided : Type 0

@@ -12,7 +12,7 @@ use Rattle.pals_top.specs.ExecutionCommands.{Execution}
 use Rattle.pals_top.specs.ExecutionAnswers.{command_of, Makes, IsExecuted, IsScenarioRefusedIn, IsCodeTooLong}
 use Rattle.pals_top.specs.ExecutionAnswers.{overlong_code_line}
 use Rattle.answer_laws.specs.proof.BundleContents.{HasLongCode}
-use Rattle.pals_top.specs.proof.FlaggedCommands.{is_run}
+use Rattle.pals_top.specs.proof.FlaggedAndRunCommands.{is_run}
 use Rattle.answer_laws.specs.proof.UniquenessPremises.{OneDesign, ExecutionPremises}
 use Rattle.answer_laws.proofs.UniqueDesignsAndRefusals.{one_accepted}
 use Rattle.answer_laws.proofs.UniqueBundleScenarios.{one_meaning, one_scenario_fault, meant_or_refused}

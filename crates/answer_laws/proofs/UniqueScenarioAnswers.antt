@@ -13,7 +13,7 @@ use Rattle.pals_top.specs.AnalysisAnswers.{Makes as analyses}
 use Rattle.pals_top.specs.ExecutionAnswers.{command_of, Makes as executes}
 use Rattle.design_codes.specs.DesignBehaviours.{behaviours}
 use Rattle.pals_top.specs.Budget.{processors_of}
-use Rattle.pals_top.specs.proof.FlaggedCommands.{is_run}
+use Rattle.pals_top.specs.proof.FlaggedAndRunCommands.{is_run}
 use Rattle.answer_laws.specs.proof.UniquenessPremises.{ExecutionPremises}
 use Rattle.pals_top.specs.TimedWorlds.{world_of}
 use Rattle.answer_laws.proofs.TimedWorldAnswers.{one_timed}

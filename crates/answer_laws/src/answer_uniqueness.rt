@@ -4,7 +4,7 @@ ghost use Rattle.std.specs.Prelude.{◌≡◌, ◌<◌, ◌-◌, ◌^◌, ℕ, f
 ghost use Rattle.pals_runs.specs.declared.commands.Command.{Command};
 ghost use Rattle.pals_top.specs.Answers.{IsCommandAnswer, IsAnswer};
 ghost use Rattle.pals_top.specs.ProgramInput.{Reading};
-ghost use Rattle.pals_top.specs.proof.FlaggedCommands.{is_run};
+ghost use Rattle.pals_top.specs.proof.FlaggedAndRunCommands.{is_run};
 
 use crate::accepted_designs::accepted_designs_keep_their_rules;
 use design_laws::packages::one_design;

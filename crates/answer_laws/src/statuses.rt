@@ -9,7 +9,7 @@ ghost use Rattle.pals_top.specs.AnalysisAnswers.{command_of, IsAnalysisAnswer};
 ghost use Rattle.pals_top.specs.ExecutionAnswers.{command_of as execution_command, IsExecutionAnswer};
 ghost use Rattle.answer_laws.specs.proof.BundleContents.{HasTree, MeansDesign, MeansScenario, HasLongCode};
 ghost use Rattle.answer_laws.specs.proof.BundleContents.{LacksScenario, GivesStatus};
-ghost use Rattle.pals_top.specs.proof.FlaggedCommands.{is_run};
+ghost use Rattle.pals_top.specs.proof.FlaggedAndRunCommands.{is_run};
 
 use design_laws::packages::one_design;
 use loose_world::world_laws::one_end;

@@ -8,7 +8,7 @@ use Rattle.aadl_tree.specs.Values.{Association, Associations, associate}
 use Rattle.aadl_names.specs.declared.recognised_properties.PropertyName.{PropertyName}
 use Rattle.aadl_tree.specs.Declarations.{Implementation, PackageTree}
 use Rattle.aadl_names.specs.RecognisedProperties.{counts, is_named, name_of, association_named}
-use Rattle.aadl_names.specs.ReferenceResolution.{implementation_at, type_number, type_numbered}
+use Rattle.aadl_names.specs.NameResolution.{implementation_at, type_number, type_numbered}
 use Rattle.aadl_uses.specs.proof.ImplementationTypes.{type_number_at}
 use Rattle.component_checks.specs.PropertyLookup.{type_lists, own_lists, root_lists, first_in}
 

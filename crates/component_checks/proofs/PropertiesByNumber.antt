@@ -8,8 +8,8 @@ use Rattle.std.proofs.lemmas.Option.{slice_get-map, get_or_from_slice_get, slice
 use Rattle.aadl_tree.specs.Values.{Associations}
 use Rattle.aadl_tree.specs.Declarations.{Subcomponent, Implementation, Declaration, PackageTree}
 use Rattle.aadl_names.specs.declared.recognised_properties.PropertyName.TheVariants.{Period, Dispatch}
-use Rattle.aadl_names.specs.ReferenceResolution.{type_in, implementation_in, implementation_at, subcomponents_of}
-use Rattle.aadl_names.specs.ReferenceResolution.{connections_of, type_number, type_of, referred, target_of}
+use Rattle.aadl_names.specs.NameResolution.{type_in, implementation_in, implementation_at, subcomponents_of}
+use Rattle.aadl_names.specs.NameResolution.{connections_of, type_number, type_of, referred, target_of}
 use Rattle.aadl_uses.specs.declared.thread_locations.SubAt.{SubAt}
 use Rattle.aadl_uses.specs.ContainmentAndUse.{sub_at, below}
 use Rattle.aadl_uses.specs.proof.ImplementationTypes.{type_number_at}

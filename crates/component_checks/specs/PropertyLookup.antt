@@ -5,7 +5,7 @@ use Rattle.aadl_tree.specs.Values.{Association, Associations}
 use Rattle.aadl_tree.specs.Declarations.{Subcomponent, TypeDeclaration, Implementation, PackageTree}
 use Rattle.aadl_names.specs.declared.recognised_properties.PropertyName.{PropertyName}
 use Rattle.aadl_names.specs.RecognisedProperties.{name_of, association_named}
-use Rattle.aadl_names.specs.ReferenceResolution.{implementation_at, subcomponents_of, type_of, target_of}
+use Rattle.aadl_names.specs.NameResolution.{implementation_at, subcomponents_of, type_of, target_of}
 use Rattle.aadl_uses.specs.declared.thread_locations.SubAt.{SubAt}
 
 abbrev pub type_lists : Option (TypeDeclaration ℕ) → List (Associations ℕ)

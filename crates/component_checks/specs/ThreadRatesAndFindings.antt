@@ -6,7 +6,7 @@ use Rattle.aadl_tree.specs.Names.{Reference, same_name}
 use Rattle.aadl_tree.specs.Values.{Association}
 use Rattle.aadl_tree.specs.Declarations.{Subcomponent, PackageTree}
 use Rattle.aadl_names.specs.declared.recognised_properties.PropertyName.TheVariants.{Period, Dispatch}
-use Rattle.aadl_names.specs.Spelling.{spelled_reference}
+use Rattle.aadl_names.specs.QualifiedNameSpellings.{spelled_reference}
 use Rattle.aadl_names.specs.RecognisedProperties.{association_value}
 use Rattle.aadl_names.specs.PropertyValueShapes.{reference_of}
 use Rattle.aadl_uses.specs.declared.thread_locations.SubAt.{SubAt}

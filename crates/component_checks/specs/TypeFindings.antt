@@ -9,7 +9,7 @@ use Rattle.aadl_tree.specs.Values.{Association}
 use Rattle.aadl_tree.specs.Declarations.{Feature}
 use Rattle.aadl_tree.specs.Annexes.{VariableDeclaration, AnnexTree}
 use Rattle.aadl_names.specs.declared.recognised_properties.PropertyName.TheVariants.{Initial}
-use Rattle.aadl_names.specs.PackageFaults.{goes_in}
+use Rattle.aadl_names.specs.PackageNameFaults.{goes_in}
 use Rattle.aadl_names.specs.RecognisedProperties.{association_at, association_value, association_named, name_of}
 use Rattle.aadl_names.specs.PropertyValueShapes.{only_text}
 use Rattle.annex_resolve.specs.declared.violation.Violation.{Violation}

@@ -1,4 +1,4 @@
-//! The adaptor that a text names, and what is wrong with the adaptor of a link or a feed.
+//! What is wrong with the adaptor of a link or a feed, and with the rates at its ends.
 ghost use Rattle.std.specs.Prelude.{◌≡◌, ◌<◌, ◌++◌, OnOk};
 ghost use Rattle.annex_resolve.specs.FindingRecords.{found_if};
 ghost use Rattle.component_checks.specs.PeriodAndAdaptorFindings.{kind_suits, is_right};

@@ -3,7 +3,7 @@ ghost use Rattle.std.specs.Prelude.{◌≡◌, IfOk, map};
 ghost use Rattle.aadl_tree.specs.proof.PlaceMaps.{kept_place};
 ghost use Rattle.aadl_tree.specs.proof.PackageViews.{placed};
 ghost use Rattle.aadl_tree.specs.proof.DeclarationViews.{declaration_view};
-ghost use Rattle.aadl_names.specs.ReferenceResolution.{implementation_at, subcomponents_of};
+ghost use Rattle.aadl_names.specs.NameResolution.{implementation_at, subcomponents_of};
 ghost use Rattle.component_checks.specs.PropertyLookup.{lists_at, root_lists};
 ghost use Rattle.component_checks.specs.proof.ComponentProperties as spec;
 ghost use Rattle.component_checks.specs.proof.ComponentProperties.{timed_by};

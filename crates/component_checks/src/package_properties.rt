@@ -2,7 +2,7 @@
 ghost use Rattle.std.specs.Prelude.{◌≡◌, IfOk, map, option_map, slice_get};
 ghost use Rattle.std.proofs.Props.{props};
 ghost use Rattle.aadl_tree.specs.proof.PackageViews.{placed};
-ghost use Rattle.aadl_names.specs.ReferenceResolution.{implementation_at, connections_of};
+ghost use Rattle.aadl_names.specs.NameResolution.{implementation_at, connections_of};
 ghost use Rattle.component_checks.specs.proof.ChainProperties.{carried_by, connections_carried};
 ghost use Rattle.component_checks.specs.PropertyLookup.{lists_at, root_lists, lists_along, sub_lists, innermost};
 ghost use Rattle.component_checks.specs.proof.ComponentProperties as spec;

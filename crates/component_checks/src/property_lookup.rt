@@ -5,7 +5,7 @@ ghost use Rattle.aadl_tree.specs.proof.PackageViews.{placed};
 ghost use Rattle.aadl_tree.specs.proof.ValueViews.{association_view, associations_view};
 ghost use Rattle.aadl_tree.specs.proof.DeclarationViews.{subcomponent_view};
 ghost use Rattle.aadl_names.specs.RecognisedProperties.{name_of, counts, is_named, association_named};
-ghost use Rattle.aadl_names.specs.ReferenceResolution.{type_numbered};
+ghost use Rattle.aadl_names.specs.NameResolution.{type_numbered};
 ghost use Rattle.aadl_uses.specs.proof.ImplementationTypes.{type_number_at};
 ghost use Rattle.component_checks.specs.PropertyLookup as spec;
 

@@ -1,4 +1,4 @@
-//! The periods and rates of components, the greatest rate, and what is wrong with a component's dispatch and period.
+//! What is wrong with a component: with its dispatch and its period.
 ghost use Rattle.std.specs.Prelude.{◌≡◌, ◌++◌, OnOk};
 ghost use Rattle.aadl_tree.specs.proof.PackageViews.{placed};
 ghost use Rattle.annex_resolve.specs.FindingRecords.{found_if};

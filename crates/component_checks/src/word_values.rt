@@ -5,7 +5,7 @@ ghost use Rattle.aadl_tree.specs.proof.ValueViews.{value_view};
 ghost use Rattle.aadl_names.specs.PropertyValueShapes.{reference_of};
 ghost use Rattle.component_checks.specs.ThreadRatesAndFindings as spec;
 
-use aadl_names::spelling::spelled_reference;
+use aadl_names::qualified_names::spelled_reference;
 use aadl_tree::Value;
 use pals_base::NoMemory;
 use std::alloc::Global;

@@ -31,7 +31,7 @@ use Rattle.design_laws.proofs.DesignComponents.{components, is_small, thread_of,
 use Rattle.design_laws.proofs.DesignComponents.{components_differ, greatest_is}
 use Rattle.design_laws.proofs.ChainEndPorts.{IsComponentAt}
 use Rattle.design_laws.proofs.DesignLinksFeedsAndTaps.{links, feeds, taps, whole, links_keep, feeds_keep, taps_keep}
-use Rattle.design_laws.proofs.ShownInstances.{of_shown, to_shown}
+use Rattle.design_laws.proofs.InstancesFromParts.{of_shown, to_shown}
 
 -- ---- the design
 module _ {tree : PackageTree ℕ} {name : List ℕ} {parts : InstanceParts} (flat : IsFlat tree name parts) (used : ℕ → Bool)

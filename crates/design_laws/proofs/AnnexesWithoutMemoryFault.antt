@@ -10,7 +10,7 @@ use Rattle.aadl_names.specs.declared.name_roles.Usage.{Usage}
 use Rattle.aadl_names.specs.declared.name_roles.Usage.TheVariants.{Set, Send}
 use Rattle.aadl_names.specs.NameUseFaults as u
 use Rattle.aadl_names.specs.BehaviourAnnexes.{states_of}
-use Rattle.aadl_names.specs.PackageFaults as p
+use Rattle.aadl_names.specs.PackageNameFaults as p
 use Rattle.design_laws.proofs.ListsWithoutMemoryFault.{NoneIsMemory, none, both, each, either, kind, unknown, second}
 
 use_named : (usage : Usage) (x : Identifier ℕ) (o : Option Role) → NoneIsMemory (u.use_as usage x o)

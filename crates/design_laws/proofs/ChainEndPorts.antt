@@ -12,8 +12,8 @@ use Rattle.aadl_tree.specs.declared.declarations.Direction.{Direction}
 use Rattle.aadl_tree.specs.declared.declarations.Direction.TheVariants as directions
 use Rattle.aadl_tree.specs.Annexes.{AnnexTree}
 use Rattle.aadl_tree.specs.Declarations.{Feature, Implementation, PackageTree}
-use Rattle.aadl_names.specs.ReferenceResolution.{implementation_at, ports_of, ports_at}
-use Rattle.aadl_names.specs.PackageFaults.{goes_in}
+use Rattle.aadl_names.specs.NameResolution.{implementation_at, ports_of, ports_at}
+use Rattle.aadl_names.specs.PackageNameFaults.{goes_in}
 use Rattle.aadl_uses.specs.ContainmentAndUse.{component_at}
 use Rattle.aadl_uses.specs.ThreadLocations.{thread_at}
 use Rattle.aadl_chains.specs.Chains.{Port, port_of, is_in}

@@ -14,9 +14,9 @@ use Rattle.aadl_tree.specs.Names.{Identifier, same_name}
 use Rattle.aadl_tree.specs.Declarations.{Feature, Subcomponent, ConnectionEnd, Implementation, PackageTree}
 use Rattle.aadl_names.specs.declared.numbered_port.NumberedPort.{NumberedPort}
 use Rattle.aadl_names.specs.declared.numbered_port.NumberedPort.TheVariants.{Own, Inner}
-use Rattle.aadl_names.specs.ReferenceResolution.{implementation_at, subcomponents_of, referred, target_of, ports_of}
-use Rattle.aadl_names.specs.ReferenceResolution.{ports_at, port_named, sub_named, inner_ports, inner_end_port, end_port_by}
-use Rattle.aadl_names.specs.ReferenceResolution.{end_port}
+use Rattle.aadl_names.specs.NameResolution.{implementation_at, subcomponents_of, referred, target_of, ports_of}
+use Rattle.aadl_names.specs.NameResolution.{ports_at, port_named, sub_named, inner_ports, inner_end_port, end_port_by}
+use Rattle.aadl_names.specs.NameResolution.{end_port}
 use Rattle.aadl_uses.specs.ContainmentAndUse.{sub_at, below, number_at_path, component_at}
 use Rattle.aadl_chains.specs.Chains.{Port, ConnectionAt, port_at, Goes, Leads, port_of}
 use Rattle.aadl_instance.specs.InstancesByPaths.{InstanceParts, IsFlat}

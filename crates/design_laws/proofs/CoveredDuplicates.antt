@@ -13,14 +13,14 @@ use Rattle.aadl_tree.specs.Declarations.{Declaration, type, implementation, Pack
 use Rattle.aadl_names.specs.declared.fault.PackageFault.{PackageFault}
 use Rattle.aadl_names.specs.declared.fault.PackageFault.TheVariants.{Twice}
 use Rattle.aadl_names.specs.declared.declared_name.SpelledName.{SpelledName}
-use Rattle.aadl_names.specs.Spelling.{spelled_implementation}
+use Rattle.aadl_names.specs.QualifiedNameSpellings.{spelled_implementation}
 use Rattle.aadl_names.specs.DuplicateNames.{entry_of}
 use Rattle.aadl_names.specs.BehaviourAnnexes.{behaviours, variables_of, states_of}
-use Rattle.aadl_names.specs.ReferenceResolution.{is_thread, type_in, type_numbered, type_number, features_of, ports_of}
+use Rattle.aadl_names.specs.NameResolution.{is_thread, type_in, type_numbered, type_number, features_of, ports_of}
 use Rattle.aadl_names.specs.DuplicatesByNamespace.{port_entries, variable_entries, state_entries, twice_in_behaviour}
 use Rattle.aadl_names.specs.DuplicatesByNamespace.{twice_in_first, member_entries, twice_in, type_entry}
 use Rattle.aadl_names.specs.DuplicatesByNamespace.{implementation_entry, twice_names}
-use Rattle.aadl_names.specs.PackageFaults.{behaviour_faults, unknown_reference, unknown_end}
+use Rattle.aadl_names.specs.PackageNameFaults.{behaviour_faults, unknown_reference, unknown_end}
 use Rattle.aadl_names.proofs.ListMembers.{is_here, among_all, from_all}
 use Rattle.design_laws.proofs.FaultCoverageRules.{Covered, covered_none, covered_append, covered_if, covered_each, Named}
 use Rattle.design_laws.proofs.FaultCoverageRules.{named_append, named_map, named_filter_map, covered_twice}

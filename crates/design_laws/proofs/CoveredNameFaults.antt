@@ -18,10 +18,10 @@ use Rattle.aadl_names.specs.declared.recognised_properties.PropertyHolder.{Prope
 use Rattle.aadl_names.specs.declared.recognised_properties.PropertyHolder.TheVariants as holders
 use Rattle.aadl_names.specs.declared.numbered_port.NumberedPort.{NumberedPort}
 use Rattle.aadl_names.specs.BehaviourAnnexes.{behaviour_in, behaviours}
-use Rattle.aadl_names.specs.ReferenceResolution.{target_of, is_thread}
+use Rattle.aadl_names.specs.NameResolution.{target_of, is_thread}
 use Rattle.aadl_names.specs.RecognisedProperties.{listed, association_name, association_at, counts, counted, misshapen}
 use Rattle.aadl_names.specs.RecognisedProperties.{association_entry, shape_fault, property_entries, list_faults}
-use Rattle.aadl_names.specs.PackageFaults as p
+use Rattle.aadl_names.specs.PackageNameFaults as p
 use Rattle.aadl_names.proofs.ListMembers.{is_here, among_all}
 use Rattle.design_laws.proofs.FaultCoverageRules.{from_filter, from_filter_map, Covered, covered_among, covered_none}
 use Rattle.design_laws.proofs.FaultCoverageRules.{covered_itself, covered_kind, covered_wrong, covered_kinds}

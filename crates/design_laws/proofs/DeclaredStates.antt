@@ -15,8 +15,8 @@ use Rattle.aadl_names.specs.declared.fault.PackageFault.{PackageFault}
 use Rattle.aadl_names.specs.declared.fault.PackageFault.TheVariants.{Unknown}
 use Rattle.aadl_names.specs.NameUseFaults.{NameRoles}
 use Rattle.aadl_names.specs.BehaviourAnnexes as names
-use Rattle.aadl_names.specs.PackageFaults.{is_among, known_in, state_uses, guard_uses, effect_uses, transition_uses}
-use Rattle.aadl_names.specs.PackageFaults.{behaviour_faults}
+use Rattle.aadl_names.specs.PackageNameFaults.{is_among, known_in, state_uses, guard_uses, effect_uses, transition_uses}
+use Rattle.aadl_names.specs.PackageNameFaults.{behaviour_faults}
 use Rattle.aadl_names.proofs.DuplicatesBesidePorts.{same_name-swapped}
 use Rattle.annex_resolve.specs.declared.states.StateAt.{StateAt}
 use Rattle.annex_resolve.specs.BehavioursAndFindings.{states_of, first_number, state_number, transitions_of}

@@ -19,7 +19,7 @@ use Rattle.pals_model.specs.DesignRules as model
 use Rattle.aadl_tree.specs.Annexes.{VariableDeclaration, StateDeclaration, AnnexTree}
 use Rattle.aadl_tree.specs.Declarations.{Implementation, PackageTree}
 use Rattle.aadl_names.specs.BehaviourAnnexes as names
-use Rattle.aadl_names.specs.ReferenceResolution.{implementation_at, ports_of}
+use Rattle.aadl_names.specs.NameResolution.{implementation_at, ports_of}
 use Rattle.aadl_uses.specs.ContainmentAndUse.{number_at_path}
 use Rattle.aadl_uses.specs.ThreadsBelow.{IsThreadOf, IsThreadAt, PathBefore}
 use Rattle.aadl_names.specs.BehaviourAnnexes.{first_behaviour}

@@ -36,8 +36,8 @@ use Rattle.design_laws.proofs.SoundInstanceParts.{names_clean, not_over, declare
 use Rattle.design_laws.proofs.InstanceBoundsAndRates.{root_there}
 use Rattle.design_laws.proofs.MatchedLists.{Zipped, Made, all_made, zipped_length, all_zipped, pairs_zipped}
 use Rattle.design_laws.proofs.ChainEndPorts.{IsComponentAt}
-use Rattle.design_laws.proofs.LinksFromChains.{not_root, end_goes_in, link_joins, feed_joins, tap_joins, link_of}
-use Rattle.design_laws.proofs.LinksFromChains.{feed_of, tap_of, link_is, feed_is, tap_is, in_kind_is}
+use Rattle.design_laws.proofs.CarriedChainsInDesigns.{not_root, end_goes_in, link_joins, feed_joins, tap_joins, link_of}
+use Rattle.design_laws.proofs.CarriedChainsInDesigns.{feed_of, tap_of, link_is, feed_is, tap_is, in_kind_is}
 use Rattle.design_laws.proofs.LinkFeedAndTapRules.{link_keeps, feed_keeps, tap_keeps}
 use Rattle.design_laws.proofs.LinkOrderAndRootPortNames.{InPort, other_target, targets_rise, one_port, other_name, one_named}
 use Rattle.design_laws.proofs.UniqueChainStarts.{one_start}

@@ -18,11 +18,11 @@ use Rattle.aadl_tree.specs.Annexes.{content_parts, annex_parts}
 use Rattle.aadl_tree.specs.Declarations.{Implementation, PackageTree}
 use Rattle.aadl_names.specs.declared.fault.PackageFault.{PackageFault}
 use Rattle.aadl_names.specs.declared.fault.PackageFault.TheVariants.{Unknown, Twice}
-use Rattle.aadl_names.specs.Spelling.{spelled_name}
+use Rattle.aadl_names.specs.QualifiedNameSpellings.{spelled_name}
 use Rattle.aadl_names.specs.BehaviourAnnexes.{states_of}
 use Rattle.aadl_names.specs.NameUseFaults.{NameRoles}
-use Rattle.aadl_names.specs.PackageFaults.{is_among, known_in, state_uses, guard_uses, effect_uses, transition_uses}
-use Rattle.aadl_names.specs.PackageFaults.{behaviour_faults}
+use Rattle.aadl_names.specs.PackageNameFaults.{is_among, known_in, state_uses, guard_uses, effect_uses, transition_uses}
+use Rattle.aadl_names.specs.PackageNameFaults.{behaviour_faults}
 use Rattle.aadl_names.proofs.ListMembers.{is_here}
 use Rattle.design_laws.proofs.DistinctFaultPlaces.{OnePerPlace, clear_none, clear_one, clear_front, clear_back, clear_tail}
 use Rattle.design_laws.proofs.DistinctFaultPlaces.{clear_append, clear_flat, clear_unless, clear_four, clear_turned}

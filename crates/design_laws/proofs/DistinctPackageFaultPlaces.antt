@@ -15,8 +15,8 @@ use Rattle.aadl_tree.specs.Declarations.{direction_mark, feature_parts, subcompo
 use Rattle.aadl_tree.specs.Declarations.{ending_parts, type_parts, implementation_name_parts, implementation_parts}
 use Rattle.aadl_tree.specs.Declarations.{declaration_parts, with_parts, package_parts}
 use Rattle.aadl_names.specs.declared.fault.PackageFault.TheVariants.{Unknown, Twice}
-use Rattle.aadl_names.specs.Spelling.{spelled_reference, spelled_implementation, spelled_end}
-use Rattle.aadl_names.specs.PackageFaults.{behaviour_faults, reference_at, unknown_reference, unknown_end}
+use Rattle.aadl_names.specs.QualifiedNameSpellings.{spelled_reference, spelled_implementation, spelled_end}
+use Rattle.aadl_names.specs.PackageNameFaults.{behaviour_faults, reference_at, unknown_reference, unknown_end}
 use Rattle.aadl_names.proofs.ListMembers.{is_here}
 use Rattle.aadl_names.specs.proof.PlaceOrder.{places_of}
 use Rattle.design_laws.proofs.DistinctFaultPlaces.{OnePerPlace, clear_none, clear_one, clear_front, clear_back, clear_tail}

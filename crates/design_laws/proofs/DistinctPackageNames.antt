@@ -20,11 +20,11 @@ use Rattle.aadl_tree.specs.proof.GivenTrees.{IsGiven}
 use Rattle.aadl_names.specs.declared.declared_name.SpelledName.{SpelledName}
 use Rattle.aadl_names.specs.DuplicateNames.{entry_of, twice}
 use Rattle.aadl_names.specs.BehaviourAnnexes.{behaviours, variables_of, states_of}
-use Rattle.aadl_names.specs.ReferenceResolution.{is_thread, type_in, type_numbered, type_number, features_of, ports_of}
+use Rattle.aadl_names.specs.NameResolution.{is_thread, type_in, type_numbered, type_number, features_of, ports_of}
 use Rattle.aadl_names.specs.DuplicatesByNamespace.{port_entries, variable_entries, state_entries, twice_in_behaviour}
 use Rattle.aadl_names.specs.DuplicatesByNamespace.{twice_in_first, member_entries, twice_in, type_entry}
 use Rattle.aadl_names.specs.DuplicatesByNamespace.{implementation_entry, twice_names}
-use Rattle.aadl_names.specs.PackageFaults.{wrong_names, package_faults}
+use Rattle.aadl_names.specs.PackageNameFaults.{wrong_names, package_faults}
 use Rattle.aadl_names.specs.proof.PlaceOrder.{places_of}
 use Rattle.aadl_names.proofs.RisingPlaces.{places_rise}
 use Rattle.design_laws.specs.proof.PackageNames.{NamesDiffer}

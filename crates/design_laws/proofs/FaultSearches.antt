@@ -6,7 +6,7 @@ use Rattle.aadl_names.specs.declared.fault.PackageFault.{PackageFault}
 use Rattle.aadl_names.specs.proof.FirstFaultSoFar.{found}
 use Rattle.aadl_names.proofs.ListMembers.{is_here, only_here}
 use Rattle.aadl_uses.specs.proof.FirstRecursion.{FirstIn}
-use Rattle.aadl_chains.specs.proof.ConnectionEndFaults.{FindsAll}
+use Rattle.aadl_chains.specs.proof.FoundChainFaults.{FindsAll}
 use Rattle.aadl_chains.proofs.AccumulatedFaults.{finds_nothing, finds_both, finds_same, first_found}
 
 -- all that have P are found, after what was found before

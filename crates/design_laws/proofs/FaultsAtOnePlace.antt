@@ -6,7 +6,7 @@ use Rattle.aadl_names.specs.declared.fault.PackageFault.{PackageFault}
 use Rattle.aadl_names.specs.declared.fault.PackageFault.TheVariants.{NoRoot, Unknown, Twice, WrongKind, Recursive}
 use Rattle.aadl_names.specs.declared.fault.PackageFault.TheVariants.{DeadEnd, TwoSources, TooMany, Memory}
 use Rattle.aadl_names.specs.FirstFaults.{place_of, number_of}
-use Rattle.aadl_names.specs.PackageFaults.{package_faults}
+use Rattle.aadl_names.specs.PackageNameFaults.{package_faults}
 use Rattle.aadl_names.proofs.RisingPlaces.{places_rise}
 use Rattle.design_laws.proofs.PlacedNames.{Rise}
 use Rattle.design_laws.proofs.FaultCoverageRules.{IsWrongKind, Covered, covered_append}

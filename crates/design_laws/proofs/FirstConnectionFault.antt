@@ -9,7 +9,7 @@ use Rattle.aadl_tree.specs.Declarations.{Connection, PackageTree}
 use Rattle.aadl_names.specs.declared.fault.PackageFault.{PackageFault}
 use Rattle.aadl_names.specs.declared.numbered_port.NumberedPort.{NumberedPort}
 use Rattle.aadl_names.specs.proof.FirstFaultSoFar.{found}
-use Rattle.aadl_names.specs.ReferenceResolution.{implementation_at, connections_of}
+use Rattle.aadl_names.specs.NameResolution.{implementation_at, connections_of}
 use Rattle.aadl_uses.specs.proof.PackageContainment.{containment}
 use Rattle.aadl_uses.specs.proof.FirstRecursion.{FirstIn}
 use Rattle.aadl_uses.specs.ContainmentAndUse.{IsInUse}
@@ -24,12 +24,12 @@ use Rattle.aadl_chains.proofs.JoinedOutsideByConnection.{leads_to, leads_found}
 use Rattle.aadl_chains.specs.ChainFaults.{IsEndFault}
 use Rattle.aadl_chains.specs.proof.PermittedConnections.{ArePermitted}
 use Rattle.aadl_chains.specs.proof.ConnectionsOnChains.{IsOnChain}
-use Rattle.aadl_chains.specs.proof.ConnectionEndFaults.{IsFoundAt, IsFoundIn, dead_end, second}
-use Rattle.aadl_chains.proofs.ConnectionEndFaults.{both_found, nothing_at, ways_tell, no_source, no_target, end_fault}
-use Rattle.aadl_chains.proofs.ConnectionEndFaults.{found_fault, wire_if}
+use Rattle.aadl_chains.specs.proof.FoundChainFaults.{IsFoundAt, IsFoundIn, dead_end, second}
+use Rattle.aadl_chains.proofs.FoundChainFaults.{both_found, nothing_at, ways_tell, no_source, no_target, end_fault}
+use Rattle.aadl_chains.proofs.FoundChainFaults.{found_fault, wire_if}
 use Rattle.design_laws.proofs.FaultSearches.{Finds, none_found, alike_found, Below, found_below, first_in}
-use Rattle.design_laws.proofs.ExistingPortsJoinedInside.{inside}
-use Rattle.design_laws.proofs.ExistingPortsJoinedOutside.{is_used, outside}
+use Rattle.design_laws.proofs.InsidePortSetExistence.{inside}
+use Rattle.design_laws.proofs.OutsidePortSetExistence.{is_used, outside}
 
 record Told (P : Type 0) : Type 0 where
   answer : Bool

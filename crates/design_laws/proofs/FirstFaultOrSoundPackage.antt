@@ -7,8 +7,8 @@ use Rattle.aadl_names.specs.declared.fault.PackageFault.{PackageFault}
 use Rattle.aadl_names.specs.declared.fault.PackageFault.TheVariants.{NoRoot}
 use Rattle.aadl_names.specs.FirstFaults.{FirstOf}
 use Rattle.aadl_names.specs.proof.FirstFaultSoFar.{found}
-use Rattle.aadl_names.specs.ReferenceResolution.{root_number}
-use Rattle.aadl_names.specs.PackageFaults.{package_faults}
+use Rattle.aadl_names.specs.NameResolution.{root_number}
+use Rattle.aadl_names.specs.PackageNameFaults.{package_faults}
 use Rattle.aadl_names.proofs.SameFirstFaults.{found_is_first}
 use Rattle.aadl_uses.specs.proof.PackageContainment.{containment, targets_in}
 use Rattle.aadl_uses.specs.proof.FirstRecursion.{FirstIn}

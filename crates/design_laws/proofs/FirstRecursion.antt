@@ -5,7 +5,7 @@ use Rattle.std.proofs.lemmas.Option.{none-some, same_Some, slice_get_within}
 use Rattle.aadl_tree.specs.Declarations.{Subcomponent, PackageTree}
 use Rattle.aadl_names.specs.declared.fault.PackageFault.{PackageFault}
 use Rattle.aadl_names.specs.declared.fault.PackageFault.TheVariants.{Recursive}
-use Rattle.aadl_names.specs.ReferenceResolution.{implementation_at, subcomponents_of}
+use Rattle.aadl_names.specs.NameResolution.{implementation_at, subcomponents_of}
 use Rattle.aadl_uses.specs.ContainmentAndUse.{sub_at}
 use Rattle.aadl_uses.specs.Recursion.{IsRecursive}
 use Rattle.aadl_uses.specs.proof.PackageContainment.{containment, targets_in}

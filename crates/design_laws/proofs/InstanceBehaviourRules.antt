@@ -12,7 +12,7 @@ use Rattle.design_laws.proofs.InstanceBehaviours.{ThreadLaw}
 use Rattle.std.proofs.Props.{props}
 use Rattle.std.proofs.Math.Logic.{∥∥₁_elim}
 use Rattle.pals_base.specs.BehaviourRules.{IsAcyclic}
-use Rattle.design_laws.proofs.ShownInstances.{of_shown, to_shown}
+use Rattle.design_laws.proofs.InstancesFromParts.{of_shown, to_shown}
 
 pub have_rules : ThreadLaw → (tree : PackageTree ℕ) (s : ShownInstance) → AreNamed tree → IsShown tree s → NothingFound tree s
     → All (HasRules tree) s.threads

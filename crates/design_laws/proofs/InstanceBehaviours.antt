@@ -16,10 +16,10 @@ use Rattle.pals_base.specs.BehaviourRules.{IsBehaviour}
 use Rattle.aadl_tree.specs.declared.declarations.Category.{Category}
 use Rattle.aadl_tree.specs.declared.declarations.Category.TheVariants as categories
 use Rattle.aadl_tree.specs.Declarations.{Declaration, type, Implementation, implementation, Subcomponent, PackageTree}
-use Rattle.aadl_names.specs.ReferenceResolution.{is_thread, is_system, is_root, implementation_at, features_of, type_in}
-use Rattle.aadl_names.specs.ReferenceResolution.{type_numbered, type_number, ports_of, target_of, referred}
-use Rattle.aadl_names.specs.PackageFaults.{package_faults}
-use Rattle.aadl_names.specs.Spelling.{spelled_implementation}
+use Rattle.aadl_names.specs.NameResolution.{is_thread, is_system, is_root, implementation_at, features_of, type_in}
+use Rattle.aadl_names.specs.NameResolution.{type_numbered, type_number, ports_of, target_of, referred}
+use Rattle.aadl_names.specs.PackageNameFaults.{package_faults}
+use Rattle.aadl_names.specs.QualifiedNameSpellings.{spelled_implementation}
 use Rattle.aadl_uses.specs.ContainmentAndUse.{sub_at, below, number_at_path, component_at}
 use Rattle.aadl_uses.specs.ThreadsBelow.{IsThreadAt}
 use Rattle.aadl_uses.specs.declared.thread_locations.SubAt.{SubAt}

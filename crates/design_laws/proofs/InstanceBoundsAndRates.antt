@@ -26,12 +26,12 @@ use Rattle.aadl_names.specs.declared.recognised_properties.PropertyHolder.TheVar
 use Rattle.aadl_names.specs.DuplicateNames.{wrong_if}
 use Rattle.aadl_names.specs.BehaviourAnnexes.{behaviours}
 use Rattle.aadl_names.specs.RecognisedProperties.{recognised, list_faults}
-use Rattle.aadl_names.specs.ReferenceResolution.{implementation_in, implementation_at, subcomponents_of, type_in}
-use Rattle.aadl_names.specs.ReferenceResolution.{type_numbered, type_number, referred, target_of, is_root}
-use Rattle.aadl_names.specs.PackageFaults.{may_contain, names_faults, subcomponent_faults, connection_faults}
-use Rattle.aadl_names.specs.PackageFaults.{heading_faults, variables_faults, stray_faults, port_faults, outer_faults}
-use Rattle.aadl_names.specs.PackageFaults.{annex_faults, is_same_number, package_faults}
-use Rattle.aadl_names.specs.PackageFaults as naming
+use Rattle.aadl_names.specs.NameResolution.{implementation_in, implementation_at, subcomponents_of, type_in}
+use Rattle.aadl_names.specs.NameResolution.{type_numbered, type_number, referred, target_of, is_root}
+use Rattle.aadl_names.specs.PackageNameFaults.{may_contain, names_faults, subcomponent_faults, connection_faults}
+use Rattle.aadl_names.specs.PackageNameFaults.{heading_faults, variables_faults, stray_faults, port_faults, outer_faults}
+use Rattle.aadl_names.specs.PackageNameFaults.{annex_faults, is_same_number, package_faults}
+use Rattle.aadl_names.specs.PackageNameFaults as naming
 use Rattle.aadl_uses.specs.ContainmentAndUse.{sub_at, below, number_at_path}
 use Rattle.aadl_uses.specs.declared.thread_locations.SubAt.{SubAt}
 use Rattle.aadl_uses.specs.ThreadLocations.{sub_in, subs_along, thread_at}

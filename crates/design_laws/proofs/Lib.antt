@@ -25,7 +25,7 @@ pub mod PathTexts
 pub mod MatchedLists
 pub mod DesignComponents
 pub mod NoViolations
-pub mod ShownInstances
+pub mod InstancesFromParts
 pub mod UniqueLists
 pub mod AsymmetricOrders
 pub mod UniqueSorts
@@ -35,7 +35,7 @@ pub mod AcceptedPackageDesigns
 pub mod PortAndThreadNumbers
 pub mod ChainTypes
 pub mod ChainEndPorts
-pub mod LinksFromChains
+pub mod CarriedChainsInDesigns
 pub mod LinkFeedAndTapRules
 pub mod LinkOrderAndRootPortNames
 pub mod UniqueChainStarts
@@ -61,8 +61,8 @@ mod ContainmentOrders
 mod MarkedPaths
 mod FaultSearches
 mod FirstRecursion
-mod ExistingPortsJoinedInside
-mod ExistingPortsJoinedOutside
+mod InsidePortSetExistence
+mod OutsidePortSetExistence
 mod FirstConnectionFault
 mod FirstFaultOrSoundPackage
 mod IncomingLinkOrFeed

@@ -3,7 +3,7 @@ use Rattle.std.proofs.Common.{◌≡◌, ◌⊎◌, inl, inr, ℕ, zero, suc, �
 use Rattle.std.proofs.Common.{length, slice_get, Some, refl, subst, arith}
 use Rattle.list_lemmas.proofs.ElementPositions.{slice_get-some}
 use Rattle.aadl_tree.specs.Declarations.{PackageTree}
-use Rattle.aadl_names.specs.ReferenceResolution.{implementation_at, ports_at}
+use Rattle.aadl_names.specs.NameResolution.{implementation_at, ports_at}
 use Rattle.aadl_uses.specs.proof.PackageContainment.{containment}
 use Rattle.aadl_uses.specs.ThreadsBelow.{Lists, IsThreadAt, PathBefore}
 use Rattle.aadl_uses.specs.proof.ContainmentOrders.{IsOrder}

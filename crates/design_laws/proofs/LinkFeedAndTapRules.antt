@@ -12,7 +12,7 @@ use Rattle.pals_model.specs.declared.design.DesignParts.{DesignParts}
 use Rattle.pals_model.specs.PortKinds.{rate_of}
 use Rattle.pals_model.specs.DesignRules as model
 use Rattle.aadl_tree.specs.Declarations.{Feature, Connection, PackageTree}
-use Rattle.aadl_names.specs.ReferenceResolution.{ports_at, type_number}
+use Rattle.aadl_names.specs.NameResolution.{ports_at, type_number}
 use Rattle.aadl_uses.specs.ContainmentAndUse.{component_at}
 use Rattle.aadl_uses.specs.ThreadsBelow.{IsThreadAt}
 use Rattle.aadl_uses.specs.ThreadLocations.{thread_at}
@@ -36,10 +36,10 @@ use Rattle.model_violations.specs.Violations.{shown_by, used_findings, rates_of}
 use Rattle.design_laws.specs.InstanceDesigns.{chain_adaptor}
 use Rattle.design_laws.proofs.MatchedLists.{Zipped}
 use Rattle.design_laws.proofs.ChainEndPorts.{IsComponentAt, in_seen, rate_at}
-use Rattle.design_laws.proofs.LinksFromChains.{rated_fits, thread_end, root_end, start_goes_out, end_goes_in}
-use Rattle.design_laws.proofs.LinksFromChains.{link_joins, feed_joins, tap_joins, connection_is, adaptor_is, node_of}
-use Rattle.design_laws.proofs.LinksFromChains.{link_of, feed_of, tap_of, is_target, in_kind_is, is_source, out_kind_is}
-use Rattle.design_laws.proofs.LinksFromChains.{rate_is}
+use Rattle.design_laws.proofs.CarriedChainsInDesigns.{rated_fits, thread_end, root_end, start_goes_out, end_goes_in}
+use Rattle.design_laws.proofs.CarriedChainsInDesigns.{link_joins, feed_joins, tap_joins, connection_is, adaptor_is, node_of}
+use Rattle.design_laws.proofs.CarriedChainsInDesigns.{link_of, feed_of, tap_of, is_target, in_kind_is, is_source, out_kind_is}
+use Rattle.design_laws.proofs.CarriedChainsInDesigns.{rate_is}
 
 module _ {tree : PackageTree ℕ} {name : List ℕ} {parts : InstanceParts} (flat : IsFlat tree name parts) (used : ℕ → Bool)
     (is_use : IsUse tree parts.root used) (none : used_findings tree (shown_by tree parts) used ≡ [])

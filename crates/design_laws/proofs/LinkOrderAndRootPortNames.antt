@@ -14,7 +14,7 @@ use Rattle.pals_model.specs.declared.design.DesignParts.{DesignParts}
 use Rattle.pals_model.specs.DesignRules as model
 use Rattle.aadl_tree.specs.Declarations.{Feature, Implementation, PackageTree}
 use Rattle.aadl_names.specs.DuplicateNames.{entry_of}
-use Rattle.aadl_names.specs.ReferenceResolution.{implementation_at, ports_at, ports_of}
+use Rattle.aadl_names.specs.NameResolution.{implementation_at, ports_at, ports_of}
 use Rattle.aadl_names.specs.DuplicatesByNamespace.{port_entries, member_entries}
 use Rattle.aadl_uses.specs.ContainmentAndUse.{component_at}
 use Rattle.aadl_uses.specs.ThreadsBelow.{IsThreadAt, path_before}
@@ -31,7 +31,7 @@ use Rattle.design_laws.proofs.MatchedLists.{Zipped}
 use Rattle.design_laws.proofs.PathTexts.{before_other}
 use Rattle.design_laws.proofs.PortAndThreadNumbers.{count_less, numbers_rise}
 use Rattle.design_laws.proofs.ChainEndPorts.{IsComponentAt, in_port, in_number, port_is, in_way}
-use Rattle.design_laws.proofs.LinksFromChains.{node_of}
+use Rattle.design_laws.proofs.CarriedChainsInDesigns.{node_of}
 
 -- ---- places of in ports
 place_rises : (m n a b : ℕ) → m < n → a < PORTS → PORTS * m + a < PORTS * n + b

@@ -8,7 +8,7 @@ use Rattle.std.specs.Option.{option_and_then}
 use Rattle.aadl_tree.specs.Declarations.{Implementation, PackageTree}
 use Rattle.aadl_names.specs.declared.numbered_port.NumberedPort.{NumberedPort}
 use Rattle.aadl_names.specs.declared.numbered_port.NumberedPort.TheVariants.{Own}
-use Rattle.aadl_names.specs.ReferenceResolution.{implementation_at}
+use Rattle.aadl_names.specs.NameResolution.{implementation_at}
 use Rattle.aadl_uses.specs.ContainmentAndUse.{number_at_path}
 use Rattle.aadl_uses.specs.proof.PackageContainment.{containment}
 use Rattle.aadl_uses.specs.ThreadsBelow.{IsThreadAt}

@@ -18,9 +18,9 @@ use Rattle.aadl_names.specs.declared.numbered_port.NumberedPort.{NumberedPort}
 use Rattle.aadl_names.specs.BehaviourAnnexes.{behaviours, variables_in}
 use Rattle.aadl_names.specs.RecognisedProperties.{listed, association_at, counts, misshapen, shape_fault}
 use Rattle.aadl_names.specs.RecognisedProperties.{property_entries, list_faults}
-use Rattle.aadl_names.specs.ReferenceResolution.{is_thread, target_of, ports_of}
+use Rattle.aadl_names.specs.NameResolution.{is_thread, target_of, ports_of}
 use Rattle.aadl_names.specs.DuplicatesByNamespace as s
-use Rattle.aadl_names.specs.PackageFaults as p
+use Rattle.aadl_names.specs.PackageNameFaults as p
 use Rattle.aadl_uses.specs.Recursion.{IsRecursive}
 use Rattle.aadl_chains.specs.ChainFaults.{IsEndFault}
 use Rattle.aadl_instance.specs.Faults.{FoundIn, Found, IsFault}

@@ -17,7 +17,7 @@ use Rattle.pals_base.specs.declared.limits.TheConstants.{NAME_BYTES}
 use Rattle.pals_base.specs.Names.{is_word_byte, is_led_by_letter, is_word, is_dot, is_path}
 use Rattle.aadl_tree.specs.Declarations.{Subcomponent, Connection, Implementation, PackageTree}
 use Rattle.aadl_names.specs.DuplicateNames.{entry_of}
-use Rattle.aadl_names.specs.ReferenceResolution.{implementation_at, subcomponents_of, referred, ports_of}
+use Rattle.aadl_names.specs.NameResolution.{implementation_at, subcomponents_of, referred, ports_of}
 use Rattle.aadl_names.specs.DuplicatesByNamespace.{port_entries, member_entries}
 use Rattle.aadl_uses.specs.ContainmentAndUse.{sub_at, below, number_at_path}
 use Rattle.aadl_uses.specs.ThreadsBelow.{path_before}

@@ -10,9 +10,9 @@ use Rattle.aadl_tree.specs.Declarations.{Feature, Subcomponent, Connection, Type
 use Rattle.aadl_tree.specs.Declarations.{Declaration, type, implementation, PackageTree}
 use Rattle.aadl_names.specs.declared.fault.PackageFault.{PackageFault}
 use Rattle.aadl_names.specs.declared.fault.PackageFault.TheVariants.{Twice}
-use Rattle.aadl_names.specs.Spelling.{spelled_implementation}
+use Rattle.aadl_names.specs.QualifiedNameSpellings.{spelled_implementation}
 use Rattle.aadl_names.specs.RecognisedProperties.{listed, association_name, association_at}
-use Rattle.aadl_names.specs.PackageFaults.{behaviour_faults, unknown_reference, unknown_end}
+use Rattle.aadl_names.specs.PackageNameFaults.{behaviour_faults, unknown_reference, unknown_end}
 
 abbrev pub of_identifier : Identifier ℕ → List PackageFault
 of_identifier x = Twice x.spelling x.at ∷ []

@@ -22,7 +22,7 @@ use Rattle.aadl_names.specs.RecognisedProperties.{association_at, association_va
 use Rattle.aadl_names.specs.RecognisedProperties.{association_named, name_of, recognised, has_shape, misshapen}
 use Rattle.aadl_names.specs.RecognisedProperties.{shape_fault, property_entries, list_faults}
 use Rattle.aadl_names.specs.PropertyValueShapes.{time_of, range_of}
-use Rattle.aadl_names.specs.ReferenceResolution.{is_thread}
+use Rattle.aadl_names.specs.NameResolution.{is_thread}
 use Rattle.aadl_names.proofs.FirstFaultSoFar.{wrong_none}
 use Rattle.aadl_uses.specs.proof.OrderedLists.{Among}
 use Rattle.aadl_uses.proofs.MarkedPathCounts.{among_left, among_right}

@@ -12,9 +12,9 @@ use Rattle.aadl_tree.specs.Declarations.{type, TypeDeclaration, Implementation, 
 use Rattle.aadl_tree.specs.Declarations.{Declaration}
 use Rattle.aadl_names.specs.declared.fault.PackageFault.{PackageFault}
 use Rattle.aadl_names.specs.declared.fault.PackageFault.TheVariants.{TooMany, WrongKind}
-use Rattle.aadl_names.specs.ReferenceResolution.{implementation_at, type_number, is_thread}
-use Rattle.aadl_names.specs.PackageFaults.{package_faults, behaviour_faults, annex_faults, declaration_faults}
-use Rattle.aadl_names.specs.PackageFaults.{wrong_names}
+use Rattle.aadl_names.specs.NameResolution.{implementation_at, type_number, is_thread}
+use Rattle.aadl_names.specs.PackageNameFaults.{package_faults, behaviour_faults, annex_faults, declaration_faults}
+use Rattle.aadl_names.specs.PackageNameFaults.{wrong_names}
 use Rattle.aadl_uses.specs.ContainmentAndUse.{number_at_path, component_at}
 use Rattle.aadl_chains.proofs.PermittedConnections.{implementation_in-some}
 use Rattle.aadl_instance.specs.Faults.{IsOver, FoundIn}

@@ -6,8 +6,8 @@ use Rattle.list_lemmas.proofs.ListOperations.{append_is_nil_right, append_is_nil
 use Rattle.pals_base.specs.BehaviourRules.{IsBehaviour}
 use Rattle.aadl_tree.specs.Annexes.{AnnexTree}
 use Rattle.aadl_tree.specs.Declarations.{Declaration, type, Implementation, implementation, PackageTree}
-use Rattle.aadl_names.specs.ReferenceResolution.{is_thread, features_of, type_in, type_numbered, type_number, ports_of}
-use Rattle.aadl_names.specs.PackageFaults.{package_faults}
+use Rattle.aadl_names.specs.NameResolution.{is_thread, features_of, type_in, type_numbered, type_number, ports_of}
+use Rattle.aadl_names.specs.PackageNameFaults.{package_faults}
 use Rattle.annex_resolve.specs.declared.ports_and_variables.DeclaredValues.{DeclaredValues}
 use Rattle.annex_resolve.specs.declared.scope.Scope.{Scope}
 use Rattle.annex_resolve.specs.BehavioursAndFindings.{annex_findings, behaviour_of}

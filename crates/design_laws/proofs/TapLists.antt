@@ -5,7 +5,7 @@ use Rattle.std.proofs.lemmas.Option.{same_Some}
 use Rattle.aadl_tree.specs.Declarations.{PackageTree}
 use Rattle.aadl_names.specs.declared.numbered_port.NumberedPort.{NumberedPort}
 use Rattle.aadl_names.specs.declared.numbered_port.NumberedPort.TheVariants.{Own, Inner}
-use Rattle.aadl_names.specs.ReferenceResolution.{implementation_at, ports_at}
+use Rattle.aadl_names.specs.NameResolution.{implementation_at, ports_at}
 use Rattle.aadl_uses.specs.proof.PackageContainment.{containment}
 use Rattle.aadl_uses.specs.ThreadsBelow.{Lists}
 use Rattle.aadl_uses.specs.proof.IncomingConnections.{connection_into}
@@ -18,7 +18,7 @@ use Rattle.aadl_chains.specs.LinksFeedsAndTaps.{CarriedChain, IsTap, PortBefore}
 use Rattle.aadl_chains.specs.proof.Walks.{OneEach}
 use Rattle.aadl_chains.specs.proof.TracedChains.{IsGiver}
 use Rattle.aadl_chains.proofs.FirstIncomingConnections.{entered, inner_of}
-use Rattle.aadl_chains.proofs.LinksByWalks.{tap_from, tap_met}
+use Rattle.aadl_chains.proofs.CarriedChainsByWalks.{tap_from, tap_met}
 use Rattle.aadl_chains.proofs.TracedChains.{no_tap, no_tap_over, ends_by}
 use Rattle.aadl_instance.specs.declared.chain.Chain.{Chain}
 use Rattle.aadl_instance.specs.InstancesByNumbers.{chain_in}

@@ -7,7 +7,7 @@ use Rattle.std.proofs.lemmas.Option.{slice_get-map}
 use Rattle.aadl_tree.specs.Declarations.{Connection, Implementation, PackageTree}
 use Rattle.aadl_names.specs.declared.fault.PackageFault.TheVariants.{TwoSources}
 use Rattle.aadl_names.specs.declared.numbered_port.NumberedPort.{NumberedPort}
-use Rattle.aadl_names.specs.ReferenceResolution.{implementation_at, connections_of}
+use Rattle.aadl_names.specs.NameResolution.{implementation_at, connections_of}
 use Rattle.aadl_uses.specs.ContainmentAndUse.{IsInUse}
 use Rattle.aadl_uses.specs.declared.connections_by_target.ConnectionPorts.{ConnectionPorts}
 use Rattle.aadl_uses.specs.PortsOfConnections.{ports_of_connection, wires_of, connection_ports_at}
@@ -16,7 +16,7 @@ use Rattle.aadl_chains.specs.Chains.{Port, ConnectionAt, Leads, IsStart}
 use Rattle.aadl_chains.specs.ChainFaults.{IsSecondEnd}
 use Rattle.aadl_chains.proofs.PermittedConnections.{declared}
 use Rattle.aadl_chains.specs.proof.FaultlessConnections.{AreFaultless}
-use Rattle.aadl_chains.proofs.ChainsFromEnds.{one_into, none_into_start}
+use Rattle.aadl_chains.proofs.UniqueIncomingChains.{one_into, none_into_start}
 use Rattle.aadl_chains.proofs.FaultlessConnections.{sound_by}
 use Rattle.aadl_instance.specs.InstancesByPaths.{InstanceParts, IsFlat}
 use Rattle.design_laws.proofs.SoundInstanceParts.{not_found, names_clean}

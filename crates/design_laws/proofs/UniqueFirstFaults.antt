@@ -11,7 +11,7 @@ use Rattle.aadl_tree.specs.Declarations.{package_parts}
 use Rattle.aadl_names.specs.declared.fault.PackageFault.{PackageFault}
 use Rattle.aadl_names.specs.declared.fault.PackageFault.TheVariants.{Twice, Recursive, DeadEnd, TwoSources, TooMany}
 use Rattle.aadl_names.specs.FirstFaults.{place_of, number_of, IsFirstByLine}
-use Rattle.aadl_names.specs.ReferenceResolution.{implementation_in, subcomponents_of, connections_of}
+use Rattle.aadl_names.specs.NameResolution.{implementation_in, subcomponents_of, connections_of}
 use Rattle.aadl_uses.specs.Recursion.{IsRecursive}
 use Rattle.aadl_chains.specs.ChainFaults.{IsEndFault}
 use Rattle.aadl_instance.specs.Faults.{IsOver, FoundIn, Found, IsFault}

@@ -5,7 +5,7 @@ ghost use Rattle.aadl_tree.specs.declared.package.PackageTree as source;
 ghost use Rattle.aadl_tree.specs.Declarations.{PackageTree, Implementation, implementation};
 ghost use Rattle.aadl_tree.specs.proof.GivenTrees.{IsGiven};
 ghost use Rattle.aadl_tree.specs.proof.PackageViews.{placed};
-ghost use Rattle.aadl_names.specs.PackageFaults.{package_faults};
+ghost use Rattle.aadl_names.specs.PackageNameFaults.{package_faults};
 ghost use Rattle.design_laws.specs.proof.PackageNames.{HasWords, NamesDiffer, AreNamed};
 
 /// The names of ports, subcomponents, variables and states are words: a letter, and letters, digits

@@ -1,8 +1,8 @@
 //! A thread in which nothing is found has a behaviour. The law is the contract of a function that does nothing.
 ghost use Rattle.std.specs.Prelude.{◌≡◌, ℕ, [], true, flat_map, Some, slice_get};
 ghost use Rattle.aadl_tree.specs.Declarations.{PackageTree, Implementation, implementation};
-ghost use Rattle.aadl_names.specs.PackageFaults.{package_faults};
-ghost use Rattle.aadl_names.specs.ReferenceResolution.{is_thread, ports_of};
+ghost use Rattle.aadl_names.specs.PackageNameFaults.{package_faults};
+ghost use Rattle.aadl_names.specs.NameResolution.{is_thread, ports_of};
 ghost use Rattle.component_checks.specs.TypeFindings.{port_findings};
 ghost use Rattle.model_violations.specs.ThreadBehaviours.{implementation_findings};
 ghost use Rattle.design_laws.specs.proof.PackageNames.{HasWords, NamesDiffer};

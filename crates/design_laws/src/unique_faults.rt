@@ -5,7 +5,7 @@ ghost use Rattle.aadl_tree.specs.Declarations.{PackageTree};
 ghost use Rattle.aadl_tree.specs.TextTreesAndFaults.{IsTreeOf};
 ghost use Rattle.aadl_names.specs.declared.fault.PackageFault.{PackageFault};
 ghost use Rattle.aadl_names.specs.FirstFaults.{place_of, number_of};
-ghost use Rattle.aadl_names.specs.PackageFaults.{package_faults};
+ghost use Rattle.aadl_names.specs.PackageNameFaults.{package_faults};
 ghost use Rattle.aadl_instance.specs.Faults.{IsFault};
 
 /// The package of a text has one first fault at most below a root, so an answer that names it is one

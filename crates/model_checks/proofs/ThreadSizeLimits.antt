@@ -7,7 +7,7 @@ use Rattle.std.proofs.Props.{props}
 use Rattle.std.proofs.Math.Logic.{∥∥₁_elim}
 use Rattle.std.proofs.lemmas.List.Elements.{All-map, All-same, All-weaker}
 use Rattle.aadl_tree.specs.Declarations.{Implementation, PackageTree}
-use Rattle.aadl_names.specs.ReferenceResolution.{implementation_at, is_thread}
+use Rattle.aadl_names.specs.NameResolution.{implementation_at, is_thread}
 use Rattle.aadl_uses.specs.ContainmentAndUse.{below, number_at_path, component_at}
 use Rattle.aadl_uses.specs.ThreadsBelow.{IsThreadAt}
 use Rattle.aadl_uses.specs.declared.thread_locations.ThreadAt.{ThreadAt}

@@ -5,7 +5,7 @@ ghost use Rattle.pals_base.specs.declared.behaviour.BehaviourParts.{BehaviourPar
 ghost use Rattle.pals_base.specs.BehaviourRules.{IsBehaviour};
 ghost use Rattle.aadl_tree.specs.Declarations.{Implementation};
 ghost use Rattle.aadl_tree.specs.proof.PackageViews.{placed};
-ghost use Rattle.aadl_names.specs.ReferenceResolution.{implementation_at};
+ghost use Rattle.aadl_names.specs.NameResolution.{implementation_at};
 ghost use Rattle.model_violations.specs.ThreadBehaviours.{IsSmall};
 ghost use Rattle.design_laws.specs.InstanceDesigns.{HasRules, thread_behaviour};
 ghost use Rattle.model_checks.specs.proof.ThreadSizeLimits.{IsWithinLimits};

@@ -6,8 +6,8 @@ use Rattle.std.proofs.lemmas.Option.{same_Some, slice_get-map}
 use Rattle.list_lemmas.proofs.Options.{option_and_then_assoc}
 use Rattle.aadl_tree.specs.Declarations.{Subcomponent, Connection, Implementation, PackageTree}
 use Rattle.aadl_names.specs.declared.numbered_port.NumberedPort.TheVariants.{Own, Inner}
-use Rattle.aadl_names.specs.ReferenceResolution.{features_of, implementation_at, subcomponents_of, referred, target_of}
-use Rattle.aadl_names.specs.ReferenceResolution.{type_number, type_numbered}
+use Rattle.aadl_names.specs.NameResolution.{features_of, implementation_at, subcomponents_of, referred, target_of}
+use Rattle.aadl_names.specs.NameResolution.{type_number, type_numbered}
 use Rattle.aadl_uses.specs.declared.connections_by_target.ConnectionPorts.{ConnectionPorts}
 use Rattle.aadl_uses.specs.ContainmentAndUse.{below}
 use Rattle.aadl_uses.specs.PortsOfConnections.{ports_of_connection, wires_of, connection_ports_at}

@@ -3,7 +3,7 @@
 use Rattle.std.proofs.Common.{◌≡◌, ◌∙◌, ℕ, List, ap, ◌+◌, not, length, filter, refl, arith}
 use Rattle.aadl_tree.specs.Annexes.{AnnexTree}
 use Rattle.aadl_tree.specs.Declarations.{Feature, Implementation, PackageTree}
-use Rattle.aadl_names.specs.ReferenceResolution.{ports_of}
+use Rattle.aadl_names.specs.NameResolution.{ports_of}
 use Rattle.model_violations.specs.declared.port_or_variable.Declared.{Declared}
 use Rattle.model_violations.specs.PortsAndVariables.{ins_in, outs_in, variables_of, port_of}
 use Rattle.std.proofs.lemmas.List.{length-map}

@@ -15,7 +15,7 @@ use Rattle.aadl_tree.specs.Annexes.{VariableDeclaration, AnnexTree}
 use Rattle.aadl_tree.specs.Declarations.{Implementation, PackageTree}
 use Rattle.aadl_names.specs.declared.fault.PackageFault.TheVariants.{TooMany}
 use Rattle.aadl_names.specs.BehaviourAnnexes as names
-use Rattle.aadl_names.specs.ReferenceResolution.{is_root, is_thread, first_number, implementation_at, ports_of}
+use Rattle.aadl_names.specs.NameResolution.{is_root, is_thread, first_number, implementation_at, ports_of}
 use Rattle.aadl_names.specs.BehaviourAnnexes.{first_behaviour}
 use Rattle.aadl_instance.specs.BehaviourSizes.{count_in, variable_count}
 use Rattle.aadl_uses.specs.ContainmentAndUse.{number_at_path, component_at, IsInUse}

@@ -4,7 +4,7 @@ use Rattle.std.specs.Prelude.{ℕ, List, [], ◌++◌, codes, filter, Option, So
 use Rattle.std.specs.Option.{option_and_then}
 use Rattle.pals_base.specs.declared.behaviour.Kind.{Kind}
 use Rattle.aadl_tree.specs.Declarations.{Feature, Implementation, PackageTree}
-use Rattle.aadl_names.specs.ReferenceResolution.{ports_at, target_of}
+use Rattle.aadl_names.specs.NameResolution.{ports_at, target_of}
 use Rattle.aadl_uses.specs.declared.thread_locations.ThreadAt.{ThreadAt}
 use Rattle.aadl_instance.specs.declared.chain.ChainEnd.{ChainEnd}
 use Rattle.aadl_instance.specs.declared.chain.ChainEnd.TheVariants.{Thread, Root}

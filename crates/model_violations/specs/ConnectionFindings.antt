@@ -8,7 +8,7 @@ use Rattle.aadl_tree.specs.Names.{Identifier}
 use Rattle.aadl_tree.specs.Declarations.{Feature, Connection, ConnectionEnd, Implementation, PackageTree}
 use Rattle.aadl_names.specs.declared.numbered_port.NumberedPort.{NumberedPort}
 use Rattle.aadl_names.specs.declared.numbered_port.NumberedPort.TheVariants.{Own, Inner}
-use Rattle.aadl_names.specs.ReferenceResolution.{port_named, ports_of, inner_ports, end_port}
+use Rattle.aadl_names.specs.NameResolution.{port_named, ports_of, inner_ports, end_port}
 use Rattle.annex_resolve.specs.declared.violation.Violation.{Violation}
 use Rattle.annex_resolve.specs.declared.violation.TheConstants.{DELAYED_ROOT, STRAY_ADAPTOR}
 use Rattle.annex_resolve.specs.FindingRecords.{found_if}

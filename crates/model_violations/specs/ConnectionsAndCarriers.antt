@@ -6,7 +6,7 @@ use Rattle.aadl_tree.specs.Declarations.{Connection, PackageTree}
 use Rattle.aadl_names.specs.declared.recognised_properties.PropertyName.TheVariants.{Timing, Adaptor}
 use Rattle.aadl_names.specs.RecognisedProperties.{association_named, association_value, name_of}
 use Rattle.aadl_names.specs.PropertyValueShapes.{text_of}
-use Rattle.aadl_names.specs.ReferenceResolution.{implementation_at, connections_of}
+use Rattle.aadl_names.specs.NameResolution.{implementation_at, connections_of}
 use Rattle.aadl_instance.specs.declared.chain.ConnectionAt.{ConnectionAt}
 use Rattle.component_checks.specs.ThreadRatesAndFindings.{says}
 

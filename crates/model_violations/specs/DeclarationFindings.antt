@@ -3,7 +3,7 @@ use Rattle.std.specs.Prelude.{◌≡◌, ℕ, nat_eq, Bool, true, List, [], ◌+
 use Rattle.std.specs.List.{enumerate_from}
 use Rattle.aadl_tree.specs.Declarations.{Subcomponent, TypeDeclaration, Implementation, Declaration, type}
 use Rattle.aadl_tree.specs.Declarations.{implementation, PackageTree}
-use Rattle.aadl_names.specs.ReferenceResolution.{is_thread, implementation_at}
+use Rattle.aadl_names.specs.NameResolution.{is_thread, implementation_at}
 use Rattle.annex_resolve.specs.declared.violation.Violation.{Violation}
 use Rattle.component_checks.specs.Times.{list_big}
 use Rattle.component_checks.specs.TypeFindings.{port_findings}

@@ -11,7 +11,7 @@ use Rattle.aadl_tree.specs.Declarations.{Declaration, type, implementation, Pack
 use Rattle.aadl_names.specs.declared.recognised_properties.PropertyHolder.{PropertyHolder}
 use Rattle.aadl_names.specs.BehaviourAnnexes.{variables_in}
 use Rattle.aadl_names.specs.RecognisedProperties.{listed, counts, is_named, name_of, recognised, association_name}
-use Rattle.aadl_names.specs.ReferenceResolution.{implementation_at, type_number}
+use Rattle.aadl_names.specs.NameResolution.{implementation_at, type_number}
 use Rattle.aadl_names.specs.declared.recognised_properties.PropertyHolder.TheVariants as holders
 
 -- it applies elsewhere, or is not recognised at such a place

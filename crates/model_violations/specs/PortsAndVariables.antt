@@ -16,7 +16,7 @@ use Rattle.aadl_tree.specs.Annexes.{VariableDeclaration, AnnexTree}
 use Rattle.aadl_names.specs.declared.recognised_properties.PropertyName.TheVariants.{Initial}
 use Rattle.aadl_names.specs.RecognisedProperties.{association_named, association_value, name_of}
 use Rattle.aadl_names.specs.PropertyValueShapes.{only_text}
-use Rattle.aadl_names.specs.ReferenceResolution.{ports_of}
+use Rattle.aadl_names.specs.NameResolution.{ports_of}
 use Rattle.component_checks.specs.TypeFindings.{is_in}
 use Rattle.annex_resolve.specs.declared.ports_and_variables.DeclaredValues.{DeclaredValues}
 use Rattle.annex_resolve.specs.declared.scope.Scope.{Scope}

@@ -5,7 +5,7 @@ use Rattle.pals_base.specs.declared.behaviour.BehaviourParts.{BehaviourParts}
 use Rattle.aadl_tree.specs.Declarations.{Implementation, PackageTree}
 use Rattle.aadl_tree.specs.Annexes.{AnnexTree}
 use Rattle.aadl_names.specs.BehaviourAnnexes.{behaviours}
-use Rattle.aadl_names.specs.ReferenceResolution.{ports_of}
+use Rattle.aadl_names.specs.NameResolution.{ports_of}
 use Rattle.annex_resolve.specs.declared.violation.Violation.{Violation}
 use Rattle.annex_resolve.specs.declared.violation.TheConstants.{NO_INITIAL}
 use Rattle.annex_resolve.specs.FindingRecords.{finding}

@@ -3,7 +3,7 @@ use Rattle.std.specs.Prelude.{◌≡◌, ◌↔◌, ℕ, nat_eq, Bool, true, ◌
 use Rattle.std.specs.List.{list_any, enumerate_from}
 use Rattle.std.specs.Option.{option_and_then}
 use Rattle.aadl_tree.specs.Declarations.{Declaration, PackageTree}
-use Rattle.aadl_names.specs.ReferenceResolution.{implementation_in, type_number}
+use Rattle.aadl_names.specs.NameResolution.{implementation_in, type_number}
 use Rattle.aadl_uses.specs.ContainmentAndUse.{IsInUse}
 use Rattle.model_violations.specs.IgnoredProperties.{is_number}
 

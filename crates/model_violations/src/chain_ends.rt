@@ -4,7 +4,7 @@ ghost use Rattle.std.specs.Option.{option_and_then};
 ghost use Rattle.aadl_tree.specs.proof.PlaceMaps.{kept_place};
 ghost use Rattle.aadl_tree.specs.proof.PackageViews.{placed};
 ghost use Rattle.aadl_tree.specs.proof.DeclarationViews.{feature_view};
-ghost use Rattle.aadl_names.specs.ReferenceResolution.{implementation_at};
+ghost use Rattle.aadl_names.specs.NameResolution.{implementation_at};
 ghost use Rattle.component_checks.specs.TypeFindings.{is_in};
 ghost use Rattle.model_violations.specs.ChainEnds as spec;
 

@@ -7,7 +7,7 @@ ghost use Rattle.aadl_tree.specs.Declarations.{implementation};
 ghost use Rattle.aadl_tree.specs.proof.NameViews.{identifier_view};
 ghost use Rattle.aadl_tree.specs.proof.PackageViews.{placed};
 ghost use Rattle.aadl_tree.specs.proof.DeclarationViews.{connection_view, implementation_view};
-ghost use Rattle.aadl_names.specs.ReferenceResolution.{features_of, implementation_at, type_numbered};
+ghost use Rattle.aadl_names.specs.NameResolution.{features_of, implementation_at, type_numbered};
 ghost use Rattle.aadl_uses.specs.PortsOfConnections.{ports_of_connection};
 ghost use Rattle.component_checks.specs.proof.ChainProperties.{carried_by};
 ghost use Rattle.model_violations.specs.ConnectionsAndCarriers.{carries};

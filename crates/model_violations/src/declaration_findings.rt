@@ -5,7 +5,7 @@ ghost use Rattle.aadl_tree.specs.proof.PackageViews.{placed};
 ghost use Rattle.aadl_tree.specs.Declarations.{implementation};
 ghost use Rattle.aadl_tree.specs.proof.DeclarationViews.{declaration_view, implementation_view, subcomponent_view};
 ghost use Rattle.aadl_tree.specs.proof.DeclarationViews.{type_view};
-ghost use Rattle.aadl_names.specs.ReferenceResolution.{implementation_at, is_thread};
+ghost use Rattle.aadl_names.specs.NameResolution.{implementation_at, is_thread};
 ghost use Rattle.model_violations.specs.ThreadBehaviours.{IsSmall};
 ghost use Rattle.model_violations.specs.IgnoredProperties.{is_root_type};
 ghost use Rattle.model_violations.specs.ConnectionsAndCarriers.{carries};

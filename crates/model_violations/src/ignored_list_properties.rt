@@ -1,4 +1,4 @@
-//! The names of properties of a list, and of the variables of annexes, that mean nothing where they stand.
+//! The names of properties of a list that mean nothing where they stand.
 ghost use Rattle.std.specs.Prelude.{◌≡◌, ◌++◌, OnOk};
 ghost use Rattle.aadl_tree.specs.Names.{same_name};
 ghost use Rattle.std.specs.List.{list_any};
@@ -6,12 +6,12 @@ ghost use Rattle.aadl_tree.specs.proof.PlaceMaps.{kept_place};
 ghost use Rattle.aadl_tree.specs.proof.NameViews.{name_view};
 ghost use Rattle.aadl_tree.specs.proof.ValueViews.{association_view, associations_view};
 ghost use Rattle.aadl_names.specs.RecognisedProperties.{name_of, recognised};
-ghost use Rattle.aadl_names.specs.Spelling.{spelled_name};
+ghost use Rattle.aadl_names.specs.QualifiedNameSpellings.{spelled_name};
 ghost use Rattle.model_violations.specs.IgnoredProperties as spec;
 
 use aadl_names::PropertyHolder;
 use aadl_names::name_comparison::is_spelled;
-use aadl_names::spelling::spelled_name;
+use aadl_names::qualified_names::spelled_name;
 use aadl_tree::{Association, Name};
 use pals_base::{Items, NoMemory, Text};
 use std::alloc::Global;

@@ -3,7 +3,6 @@
 #![tactic(auto)]
 
 pub mod all_violations;
-pub mod behaviour_values_and_scope;
 pub mod carriers;
 pub mod chain_ends;
 pub mod chain_findings;
@@ -16,6 +15,7 @@ pub mod ignored_declaration_properties;
 pub mod ignored_list_properties;
 pub mod ignored_package_properties;
 pub mod port_or_variable;
+pub mod ports_variables_and_scope;
 pub mod sorted_findings;
 pub mod thread_behaviour;
 pub mod used_declarations;

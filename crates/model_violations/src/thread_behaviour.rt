@@ -8,13 +8,13 @@ ghost use Rattle.aadl_tree.specs.Declarations as trees;
 ghost use Rattle.aadl_tree.specs.proof.DeclarationViews.{implementation_view};
 ghost use Rattle.aadl_tree.specs.proof.AnnexViews.{annex_view, annex_tree_view};
 ghost use Rattle.aadl_names.specs.BehaviourAnnexes.{behaviour_in, behaviours};
-ghost use Rattle.aadl_names.specs.ReferenceResolution.{implementation_at, ports_of};
+ghost use Rattle.aadl_names.specs.NameResolution.{implementation_at, ports_of};
 ghost use Rattle.model_violations.specs.ThreadBehaviours as spec;
 ghost use Rattle.model_violations.specs.PortsAndVariables.{variables_of, values_of, scope_of};
 
-use crate::behaviour_values_and_scope::values_and_scope_by;
 use crate::declared_ports::{ins_in, outs_in};
 use crate::declared_variables::variables_of;
+use crate::ports_variables_and_scope::values_and_scope_by;
 use aadl_tree::{Annex, AnnexContent, AnnexTree, Implementation};
 use aadl_uses::Uses;
 use annex_resolve::violation::NO_INITIAL;

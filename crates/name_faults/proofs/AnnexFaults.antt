@@ -10,8 +10,8 @@ use Rattle.aadl_names.specs.declared.fault.PackageFault.{PackageFault}
 use Rattle.aadl_names.specs.declared.fault.PackageFault.TheVariants.{WrongKind}
 use Rattle.aadl_names.specs.BehaviourAnnexes.{behaviours}
 use Rattle.aadl_names.specs.proof.FirstFaultSoFar.{found}
-use Rattle.aadl_names.specs.ReferenceResolution.{is_thread}
-use Rattle.aadl_names.specs.PackageFaults.{behaviour_faults, annex_faults}
+use Rattle.aadl_names.specs.NameResolution.{is_thread}
+use Rattle.aadl_names.specs.PackageNameFaults.{behaviour_faults, annex_faults}
 use Rattle.aadl_names.proofs.FirstFaultSoFar.{found_append}
 use Rattle.name_faults.specs.proof.AnnexFaults.{annex_uses, still_expected, behaviours_left}
 

@@ -6,6 +6,6 @@ pub mod PortEntries
 pub mod TypePortNames
 pub mod FirstBehaviours
 pub mod AnnexFaults
-pub mod NameUses
+pub mod EqualNameUses
 pub mod FaultsByDeclaration
 pub mod NumberedImplementations

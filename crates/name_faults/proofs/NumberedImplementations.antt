@@ -8,11 +8,11 @@ use Rattle.aadl_tree.specs.declared.declarations.Direction.{Direction}
 use Rattle.aadl_names.specs.declared.fault.PackageFault.{PackageFault}
 use Rattle.aadl_names.specs.declared.numbered_port.NumberedPort.{NumberedPort}
 use Rattle.aadl_names.specs.declared.numbered_port.NumberedPort.TheVariants.{Own, Inner}
-use Rattle.aadl_names.specs.ReferenceResolution.{implementation_in, implementation_at, subcomponents_of, type_number}
-use Rattle.aadl_names.specs.ReferenceResolution.{type_numbered, referred, target_of, features_of, direction_in}
-use Rattle.aadl_names.specs.ReferenceResolution.{direction_of, with_direction}
+use Rattle.aadl_names.specs.NameResolution.{implementation_in, implementation_at, subcomponents_of, type_number}
+use Rattle.aadl_names.specs.NameResolution.{type_numbered, referred, target_of, features_of, direction_in}
+use Rattle.aadl_names.specs.NameResolution.{direction_of, with_direction}
 use Rattle.aadl_names.specs.proof.FirstFaultSoFar.{found}
-use Rattle.aadl_names.specs.PackageFaults.{root_type, directed_end_port, joined_faults, connection_faults}
+use Rattle.aadl_names.specs.PackageNameFaults.{root_type, directed_end_port, joined_faults, connection_faults}
 use Rattle.aadl_uses.specs.declared.connections_by_target.ConnectionPorts.{ConnectionPorts}
 use Rattle.aadl_uses.specs.ContainmentAndUse.{below}
 use Rattle.aadl_uses.specs.PortsOfConnections.{ports_of_connection, wires_of, connection_ports_at}

@@ -1,4 +1,4 @@
--- For the functions of `variable_and_state_names`: a table of names and their roles that a loop fills, one name
+-- For `behaviour_name_tables` and `port_name_tables`: a table of names and their roles that a loop fills, one name
 -- after the other.
 use Rattle.std.proofs.Common.{◌≡◌, ℕ, ◌+◌, ◌<◌, ◌≤◌, Bool, true, false, ◌||◌, List, [], ◌∷◌, length, drop, get_or}
 use Rattle.std.proofs.Common.{Option, None, refl, sym, ap, ◌∙◌}

@@ -7,8 +7,8 @@ use Rattle.std.specs.Option.{option_or}
 use Rattle.std.proofs.lemmas.List.{map_more}
 use Rattle.aadl_tree.specs.Declarations.{Feature, Declaration, Implementation, PackageTree}
 use Rattle.aadl_names.specs.proof.NameTables.{value_of}
-use Rattle.aadl_names.specs.ReferenceResolution.{features_of, type_in, type_numbered, type_number, ports_of}
-use Rattle.aadl_names.specs.PackageFaults.{role_in, port_roles}
+use Rattle.aadl_names.specs.NameResolution.{features_of, type_in, type_numbered, type_number, ports_of}
+use Rattle.aadl_names.specs.PackageNameFaults.{role_in, port_roles}
 use Rattle.name_faults.specs.declared.port_name_tables.PortNames.{PortNames}
 use Rattle.name_faults.specs.declared.port_name_tables.AllPortNames.{AllPortNames}
 use Rattle.name_faults.specs.proof.TypePortNames.{AreNamesOf, names_at, AreAllNamesOf}

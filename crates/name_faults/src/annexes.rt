@@ -6,7 +6,7 @@ ghost use Rattle.aadl_tree.specs.proof.AnnexViews.{variable_view, annex_view};
 ghost use Rattle.aadl_tree.specs.proof.PlaceMaps.{kept_place};
 ghost use Rattle.aadl_names.specs.proof.FirstFaultSoFar.{found};
 ghost use Rattle.aadl_names.specs.BehaviourAnnexes.{variables_in};
-ghost use Rattle.aadl_names.specs.PackageFaults as spec;
+ghost use Rattle.aadl_names.specs.PackageNameFaults as spec;
 
 use crate::check_properties;
 use aadl_names::{FaultFinder, PropertyHolder};

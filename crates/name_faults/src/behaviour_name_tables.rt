@@ -7,7 +7,7 @@ ghost use Rattle.aadl_tree.specs.proof.AnnexViews.{annex_tree_view};
 ghost use Rattle.aadl_tree.specs.proof.PlaceMaps.{kept_place};
 ghost use Rattle.aadl_names.specs.proof.NameTables.{value_of};
 ghost use Rattle.aadl_names.specs.BehaviourAnnexes.{variables_of, states_of};
-ghost use Rattle.aadl_names.specs.PackageFaults.{is_among, variable_roles};
+ghost use Rattle.aadl_names.specs.PackageNameFaults.{is_among, variable_roles};
 ghost use Rattle.name_faults.specs.proof.ConditionalValues.{value_if, is_marked};
 
 use crate::behaviour_sections::{states_in, variables_in};

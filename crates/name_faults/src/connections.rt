@@ -7,12 +7,12 @@ ghost use Rattle.aadl_tree.specs.proof.PackageViews.{placed};
 ghost use Rattle.aadl_tree.specs.proof.DeclarationViews.{implementation_view, connection_view, end_view};
 ghost use Rattle.aadl_tree.specs.proof.PlaceMaps.{kept_place};
 ghost use Rattle.aadl_names.specs.proof.FirstFaultSoFar.{found};
-ghost use Rattle.aadl_names.specs.ReferenceResolution as resolving;
-ghost use Rattle.aadl_names.specs.PackageFaults as spec;
+ghost use Rattle.aadl_names.specs.NameResolution as resolving;
+ghost use Rattle.aadl_names.specs.PackageNameFaults as spec;
 ghost use Rattle.name_faults.specs.proof.NumberedImplementations.{StandsAt};
 
 use crate::check_properties;
-use aadl_names::spelling::spelled_end;
+use aadl_names::qualified_names::spelled_end;
 use aadl_names::type_ports::port_direction;
 use aadl_names::{FaultFinder, NumberedPort, PropertyHolder};
 use aadl_tree::{Connection, ConnectionEnd, Direction, Implementation};

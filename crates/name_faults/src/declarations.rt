@@ -8,9 +8,9 @@ ghost use Rattle.aadl_tree.specs.proof.DeclarationViews.{implementation_view, de
 ghost use Rattle.aadl_tree.specs.proof.PlaceMaps.{kept_place};
 ghost use Rattle.aadl_names.specs.proof.FirstFaultSoFar.{found};
 ghost use Rattle.aadl_names.specs.DuplicateNames.{wrong_if};
-ghost use Rattle.aadl_names.specs.Spelling.{spelled_name};
-ghost use Rattle.aadl_names.specs.ReferenceResolution.{implementation_at};
-ghost use Rattle.aadl_names.specs.PackageFaults as spec;
+ghost use Rattle.aadl_names.specs.QualifiedNameSpellings.{spelled_name};
+ghost use Rattle.aadl_names.specs.NameResolution.{implementation_at};
+ghost use Rattle.aadl_names.specs.PackageNameFaults as spec;
 ghost use Rattle.name_faults.specs.proof.TypePortNames.{AreAllNamesOf};
 ghost use Rattle.name_faults.specs.proof.NumberedImplementations.{StandsAt};
 
@@ -19,7 +19,7 @@ use crate::implementations::check_outside_behaviours;
 use crate::types::check_type;
 use crate::{AllPortNames, names_at};
 use aadl_names::FaultFinder;
-use aadl_names::spelling::spelled_name;
+use aadl_names::qualified_names::spelled_name;
 use aadl_tree::{Declaration, Implementation, PackageTree};
 use aadl_uses::{PackageConnections, Uses};
 use std::alloc::AllocError;

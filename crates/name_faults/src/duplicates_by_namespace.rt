@@ -8,7 +8,7 @@ ghost use Rattle.aadl_tree.specs.proof.AnnexViews.{annex_tree_view, annex_view};
 ghost use Rattle.aadl_tree.specs.proof.PlaceMaps.{kept_place};
 ghost use Rattle.aadl_names.specs.proof.FirstFaultSoFar.{found};
 ghost use Rattle.aadl_names.specs.BehaviourAnnexes.{behaviours, first_behaviour};
-ghost use Rattle.aadl_names.specs.ReferenceResolution.{type_number};
+ghost use Rattle.aadl_names.specs.NameResolution.{type_number};
 ghost use Rattle.aadl_names.specs.proof.DuplicatesBesidePorts as spec;
 ghost use Rattle.name_faults.specs.proof.TypePortNames.{AreAllNamesOf};
 

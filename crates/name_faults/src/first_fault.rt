@@ -2,7 +2,7 @@
 ghost use Rattle.std.specs.Prelude.{IfOk};
 ghost use Rattle.aadl_tree.specs.proof.PackageViews.{placed};
 ghost use Rattle.aadl_names.specs.FirstFaults.{FirstOf};
-ghost use Rattle.aadl_names.specs.PackageFaults.{package_faults};
+ghost use Rattle.aadl_names.specs.PackageNameFaults.{package_faults};
 
 use crate::declarations::check_declarations;
 use crate::{all_port_names, check_duplicates};

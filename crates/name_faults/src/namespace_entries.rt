@@ -14,7 +14,7 @@ ghost use Rattle.aadl_names.specs.DuplicatesByNamespace as spec;
 use crate::behaviour_sections::{states_in, variables_in};
 use aadl_names::SpelledName;
 use aadl_names::declared_name::entry_of;
-use aadl_names::spelling::spelled_implementation;
+use aadl_names::qualified_names::spelled_implementation;
 use aadl_tree::{
     AnnexTree, Connection, Declaration, Feature, Identifier, Identifiers, Implementation,
     PackageTree, Subcomponent,

@@ -9,8 +9,8 @@ ghost use Rattle.aadl_names.specs.proof.FirstFaultSoFar.{found};
 ghost use Rattle.aadl_names.specs.proof.NameTables.{value_of};
 ghost use Rattle.aadl_names.specs.DuplicateNames.{twice};
 ghost use Rattle.aadl_names.specs.DuplicatesByNamespace.{port_entries};
-ghost use Rattle.aadl_names.specs.ReferenceResolution.{features_of, type_in, type_numbered};
-ghost use Rattle.aadl_names.specs.PackageFaults.{role_in, port_roles};
+ghost use Rattle.aadl_names.specs.NameResolution.{features_of, type_in, type_numbered};
+ghost use Rattle.aadl_names.specs.PackageNameFaults.{role_in, port_roles};
 ghost use Rattle.name_faults.specs.proof.TypePortNames.{AreNamesOf, AreAllNamesOf, HasRolesOf, names_at};
 
 use crate::namespace_entries::port_entries;

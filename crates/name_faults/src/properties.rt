@@ -11,13 +11,13 @@ ghost use Rattle.aadl_tree.specs.proof.PlaceMaps.{kept_place};
 ghost use Rattle.aadl_names.specs.proof.FirstFaultSoFar.{found};
 ghost use Rattle.aadl_names.specs.RecognisedProperties as spec;
 ghost use Rattle.aadl_names.specs.RecognisedProperties.{property_entries};
-ghost use Rattle.aadl_names.specs.Spelling as spelling;
+ghost use Rattle.aadl_names.specs.QualifiedNameSpellings as spelling;
 ghost use Rattle.aadl_names.specs.DuplicateNames.{twice};
 
 use crate::property_value_shapes::has_shape;
 use aadl_names::duplicate_names::check_twice;
 use aadl_names::name_comparison::is_spelled;
-use aadl_names::spelling::spelled_name;
+use aadl_names::qualified_names::spelled_name;
 use aadl_names::{FaultFinder, PropertyHolder, SpelledName};
 use aadl_tree::{Association, Name, Value};
 use pals_base::Items;

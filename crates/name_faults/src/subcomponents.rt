@@ -8,13 +8,13 @@ ghost use Rattle.aadl_tree.specs.proof.NameViews.{reference_view};
 ghost use Rattle.aadl_tree.specs.proof.DeclarationViews.{implementation_view, subcomponent_view};
 ghost use Rattle.aadl_tree.specs.proof.PlaceMaps.{kept_place};
 ghost use Rattle.aadl_names.specs.proof.FirstFaultSoFar.{found};
-ghost use Rattle.aadl_names.specs.ReferenceResolution.{implementation_at, referred};
-ghost use Rattle.aadl_names.specs.PackageFaults as spec;
+ghost use Rattle.aadl_names.specs.NameResolution.{implementation_at, referred};
+ghost use Rattle.aadl_names.specs.PackageNameFaults as spec;
 ghost use Rattle.name_faults.specs.proof.NumberedImplementations.{StandsAt};
 
 use crate::check_properties;
 use aadl_names::declarations_by_number::implementation_at;
-use aadl_names::spelling::spelled_reference;
+use aadl_names::qualified_names::spelled_reference;
 use aadl_names::{FaultFinder, PropertyHolder};
 use aadl_tree::{Category, Implementation, PackageTree, Reference, Subcomponent};
 use aadl_uses::Uses;

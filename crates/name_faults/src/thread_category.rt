@@ -1,6 +1,6 @@
 //! Whether a category is that of threads.
 ghost use Rattle.std.specs.Prelude.{◌≡◌};
-ghost use Rattle.aadl_names.specs.ReferenceResolution.{is_thread};
+ghost use Rattle.aadl_names.specs.NameResolution.{is_thread};
 
 use aadl_tree::Category;
 

@@ -7,7 +7,7 @@ ghost use Rattle.aadl_tree.specs.proof.ActionViews.{block_view};
 ghost use Rattle.aadl_tree.specs.proof.AnnexViews.{guard_view, transition_view};
 ghost use Rattle.aadl_tree.specs.proof.PlaceMaps.{kept_place};
 ghost use Rattle.aadl_names.specs.proof.FirstFaultSoFar.{found};
-ghost use Rattle.aadl_names.specs.PackageFaults as spec;
+ghost use Rattle.aadl_names.specs.PackageNameFaults as spec;
 ghost use Rattle.name_faults.specs.proof.BehaviourScopes.{known_by, is_state_by};
 
 use crate::actions_and_expressions::{check_block, check_expression};

@@ -5,7 +5,7 @@ ghost use Rattle.std.specs.Prelude.{◌≡◌, OnOk, map, flat_map};
 ghost use Rattle.aadl_tree.specs.proof.DeclarationViews.{type_view, feature_view};
 ghost use Rattle.aadl_tree.specs.proof.PlaceMaps.{kept_place};
 ghost use Rattle.aadl_names.specs.proof.FirstFaultSoFar.{found};
-ghost use Rattle.aadl_names.specs.PackageFaults as spec;
+ghost use Rattle.aadl_names.specs.PackageNameFaults as spec;
 
 use crate::annexes::{check_no_behaviour, check_variables};
 use crate::check_properties;

@@ -16,7 +16,7 @@ mod periods;
 mod port_and_adaptor_names;
 mod round_parts;
 mod row;
-mod row_output;
+mod row_tap_line;
 mod scenario_faults;
 mod sent_messages;
 mod tap_places;

@@ -9,7 +9,7 @@ ghost use Rattle.pals_report.specs.proof.RowLines.{component_lines_from, tap_lin
 
 use crate::component_state::add_part_line;
 use crate::round_parts::RoundParts;
-use crate::row_output::add_line_at_place;
+use crate::row_tap_line::add_line_at_place;
 use crate::tap_places::TapPlaces;
 use itoa::Buffer;
 use pals_base::{NoMemory, NodeNo};

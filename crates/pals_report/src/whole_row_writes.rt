@@ -10,7 +10,7 @@ ghost use Rattle.pals_report.specs.proof.RowLines.{ArePartsOf};
 use crate::component_state::{add_component_line, add_part_line};
 use crate::round_parts::RoundParts;
 use crate::row::{add_lines, add_round_line};
-use crate::row_output::{add_line_at_place, add_tap_line, place_of_tap};
+use crate::row_tap_line::{add_line_at_place, add_tap_line, place_of_tap};
 use crate::tap_places::TapPlaces;
 use crate::whole_or_none;
 use pals_base::{BehaviourParts, Frame, Kind, NoMemory, PortValue, Text};

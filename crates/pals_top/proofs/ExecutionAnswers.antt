@@ -8,7 +8,7 @@ use Rattle.pals_runs.specs.declared.commands.Command.{Command}
 use Rattle.scenario_json.specs.declared.scenario.Scenario.{Scenario}
 use Rattle.scenario_json.specs.Scenarios.{Means}
 use Rattle.design_codes.specs.OverlongCodes.{AreShort, IsFirstTooLong}
-use Rattle.scenario_laws.specs.proof.EventsAndTraces.{EventsAreFew, TracesAreFew}
+use Rattle.scenario_laws.specs.proof.EventAndTraceLimits.{EventsAreFew, TracesAreFew}
 use Rattle.scenario_laws.specs.proof.LooseEvents.{EventsAreLoose, loose_world_command}
 use Rattle.bundle_designs.specs.AcceptedAndRefusedPackages.{IsAccepted}
 use Rattle.pals_top.specs.declared.answer.Answer.{Answer}

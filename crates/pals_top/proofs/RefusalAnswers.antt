@@ -8,7 +8,7 @@ use Rattle.bundle_designs.specs.proof.Refusals.{IsTextRefusal, IsRefusal}
 use Rattle.pals_top.specs.declared.answer.Answer.{Answer}
 use Rattle.pals_top.specs.declared.status.TheConstants.{TEXT_REFUSED}
 use Rattle.pals_top.specs.RefusalAnswers.{IsBundleRefused}
-use Rattle.pals_top.specs.proof.RefusalLines.{SaysWhy}
+use Rattle.pals_top.specs.proof.RefusalStatusAndText.{SaysWhy}
 use Rattle.pals_top.specs.proof.StatusAndText.{status_of, text_of}
 
 pub text_refused : (bundle : List ℕ) (refusal : Refusal) (a : Answer) → IsTextRefusal bundle refusal → SaysWhy refusal a

@@ -1,7 +1,7 @@
 //! Answers: what is written, and with which status.
 ghost use Rattle.std.specs.Prelude.{◌≡◌, if◌then◌else◌, IfOk, OnErr};
 ghost use Rattle.bundle_designs.specs.declared.refusal.Refusal.{Refusal};
-ghost use Rattle.pals_top.specs.proof.RefusalLines.{SaysWhy};
+ghost use Rattle.pals_top.specs.proof.RefusalStatusAndText.{SaysWhy};
 ghost use Rattle.pals_top.specs.declared.status.TheConstants.{DONE, NOT_SO};
 ghost use Rattle.pals_top.specs.proof.StatusAndText.{status_of, text_of, Says};
 

@@ -4,7 +4,7 @@ ghost use Rattle.pals_io.specs.SourcesAndSinks.{GivesWithin, after_taking, Takes
 ghost use Rattle.pals_top.specs.CommandWords.{command_of_words, IsWithinRingLimits};
 ghost use Rattle.pals_top.specs.ProgramInput.{reading};
 ghost use Rattle.pals_top.specs.Answers.{reads_source, IsAnswer, IsFormAnswer, IsSourceAnswer, IsCommandAnswer};
-ghost use Rattle.pals_top.specs.proof.FlaggedCommands.{is_run};
+ghost use Rattle.pals_top.specs.proof.FlaggedAndRunCommands.{is_run};
 ghost use Rattle.pals_top.specs.proof.StatusAndText.{status_of, text_of, IsWritten};
 
 use crate::analysis::answer_analysis;

@@ -5,7 +5,7 @@ mod TraceLineLimit
 mod FusiblePairs
 mod SuitableScenarios
 mod OutcomesWithoutMemoryFault
-mod ValueFaults
-mod RunFieldFaults
-mod AnalysisFieldFaults
+mod ValueFaultsExceptMemory
+mod RunFaultsExceptMemory
+mod AnalysisFaultsExceptMemory
 mod ScenarioOrFault

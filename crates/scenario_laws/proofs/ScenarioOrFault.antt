@@ -25,10 +25,10 @@ use Rattle.scenario_json.specs.Scenarios.{only_known, field, needs_events, needs
 use Rattle.scenario_json.specs.Scenarios.{needs_processors, rounds_in, fields_in, scen}
 use Rattle.scenario_laws.specs.proof.ScenarioOrFault.{HasScenario, HasFault}
 use Rattle.scenario_laws.proofs.OutcomesWithoutMemoryFault.{IsNotMemory, ok, strange, lacking, big, bind, only}
-use Rattle.scenario_laws.proofs.ValueFaults.{entries_named, whole_named}
-use Rattle.scenario_laws.proofs.RunFieldFaults.{inputs_named, delays_named, trace_named, clocks_named, events_named}
-use Rattle.scenario_laws.proofs.AnalysisFieldFaults.{properties_named, replicas_named, faults_named, plants_named}
-use Rattle.scenario_laws.proofs.AnalysisFieldFaults.{processors_named}
+use Rattle.scenario_laws.proofs.ValueFaultsExceptMemory.{entries_named, whole_named}
+use Rattle.scenario_laws.proofs.RunFaultsExceptMemory.{inputs_named, delays_named, trace_named, clocks_named, events_named}
+use Rattle.scenario_laws.proofs.AnalysisFaultsExceptMemory.{properties_named, replicas_named, faults_named, plants_named}
+use Rattle.scenario_laws.proofs.AnalysisFaultsExceptMemory.{processors_named}
 
 by_need : {A : Type 0} (name : List ℕ) (needed : Bool) (otherwise : A) (read : Data → Result A ScenarioFault)
     → IsNotMemory (field name needed otherwise read None)

@@ -1,5 +1,5 @@
 -- What the theorem of the program does not rest on: definitions of contracts below it, of laws, and of proofs.
-pub mod EventsAndTraces
+pub mod EventAndTraceLimits
 pub mod ScenarioSuitability
 pub mod ScenarioOrFault
 pub mod FusiblePairs

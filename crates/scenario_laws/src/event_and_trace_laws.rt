@@ -1,5 +1,5 @@
 //! Laws of the events and the traces of scenarios. The functions do nothing: their contracts are the laws.
-ghost use Rattle.scenario_laws.specs.proof.EventsAndTraces.{EventsAreFew, TracesAreFew};
+ghost use Rattle.scenario_laws.specs.proof.EventAndTraceLimits.{EventsAreFew, TracesAreFew};
 ghost use Rattle.scenario_laws.specs.proof.LooseEvents.{EventsAreLoose};
 
 /// Each event of a scenario of a loose world names a node or a link of the design and is no passing of

@@ -1,4 +1,4 @@
--- An entry tells the round that its event has on the bus, or breaks rule `Order`; and which stop it owes behind it.
+-- Where an entry breaks no rule, the stop that it owes is the second entry that its event makes on the bus.
 use Rattle.std.proofs.Common.{◌≡◌, ℕ, Bool, true, false, ◌&&◌, List, ◌∷◌, Option, Some, None, refl, sym, ap, ◌∙◌}
 use Rattle.std.specs.Prelude.{is_none, option_and_then}
 use Rattle.std.specs.Option.{option_map_or}

@@ -1,4 +1,4 @@
--- The lines of a text, cut off one after the other, for reading a trace.
+-- The lines of a text, cut off one after the other: for the lines of a row that an audit compares lines with.
 use Rattle.std.proofs.Common.{◌≡◌, ◌≢◌, ℕ, suc, ◌+◌, ◌≤◌, cond, List, [], ◌∷◌, ◌++◌, length, take, drop, Some, refl}
 use Rattle.std.proofs.Common.{sym, ap, ap₂, ◌∙◌, arith, append_assoc, length-append}
 use Rattle.std.specs.Prelude.{bytes_eq, min, position}

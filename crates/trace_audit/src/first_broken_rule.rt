@@ -1,4 +1,4 @@
-//! The first rule that an event breaks, and whether a message is due and two entries have one line.
+//! The first rule that an event breaks, from what each rule says of it.
 ghost use Rattle.std.specs.Prelude.{◌≡◌, Bool, Some, None, true};
 ghost use Rattle.trace_audit.specs.proof.FirstBrokenRule.{first_rule};
 

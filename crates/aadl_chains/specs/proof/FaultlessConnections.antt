@@ -2,7 +2,7 @@
 use Rattle.std.specs.Prelude.{◌≡◌, ℕ, true, Some, slice_get}
 use Rattle.aadl_tree.specs.Declarations.{Connection, Implementation, PackageTree}
 use Rattle.aadl_names.specs.declared.numbered_port.NumberedPort.{NumberedPort}
-use Rattle.aadl_names.specs.ReferenceResolution.{implementation_at, is_thread, end_port}
+use Rattle.aadl_names.specs.NameResolution.{implementation_at, is_thread, end_port}
 use Rattle.aadl_uses.specs.ContainmentAndUse.{IsInUse}
 use Rattle.aadl_chains.specs.proof.PermittedConnections.{MayEnter}
 

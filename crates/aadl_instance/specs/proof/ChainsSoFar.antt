@@ -4,7 +4,7 @@ use Rattle.std.specs.declared.vec.Vec.{Vec}
 use Rattle.std.specs.declared.alloc.Global.{Global}
 use Rattle.pals_base.specs.declared.limits.TheConstants.{COMPONENTS, PORTS}
 use Rattle.aadl_tree.specs.Declarations.{PackageTree}
-use Rattle.aadl_names.specs.ReferenceResolution.{ports_of, ports_at}
+use Rattle.aadl_names.specs.NameResolution.{ports_of, ports_at}
 use Rattle.aadl_uses.specs.proof.PackageContainment.{containment}
 use Rattle.aadl_uses.specs.ContainmentAndUse.{component_at}
 use Rattle.aadl_uses.specs.ThreadsBelow.{Lists, IsThreadAt, PathBefore}

@@ -2,7 +2,7 @@
 use Rattle.std.specs.Prelude.{ℕ, ◌<◌, List, length, codes, Option, Some, None}
 use Rattle.pals_base.specs.declared.limits.TheConstants.{COMPONENTS, LINKS, PORTS, VARIABLES, STATES, PATH_BYTES}
 use Rattle.aadl_tree.specs.Declarations.{PackageTree}
-use Rattle.aadl_names.specs.ReferenceResolution.{ports_of}
+use Rattle.aadl_names.specs.NameResolution.{ports_of}
 use Rattle.aadl_uses.specs.ThreadsBelow.{MoreThan, IsThreadAt, PathBefore}
 use Rattle.aadl_uses.specs.ThreadLocations.{ThreadWith, spelled_path}
 use Rattle.aadl_instance.specs.BehaviourSizes.{variable_count, state_count}

@@ -3,7 +3,7 @@
 use Rattle.std.specs.Prelude.{ℕ, ◌+◌, nat_lt, Bool, false, List, map, length, Option, Some, None}
 use Rattle.pals_base.specs.declared.limits.TheConstants.{PATH_BYTES}
 use Rattle.aadl_tree.specs.Declarations.{Subcomponent, Declaration, PackageTree}
-use Rattle.aadl_names.specs.ReferenceResolution.{implementation_in, subcomponents_of}
+use Rattle.aadl_names.specs.NameResolution.{implementation_in, subcomponents_of}
 
 -- a name with the dot before it
 abbrev pub weight_of : Subcomponent ℕ → ℕ

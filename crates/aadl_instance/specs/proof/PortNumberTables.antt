@@ -2,7 +2,7 @@
 use Rattle.std.specs.Prelude.{◌≡◌, ℕ, ◌+◌, ◌<◌, List, [], Option, Some, None, length, slice_index_or}
 use Rattle.aadl_tree.specs.declared.declarations.Direction.{Direction}
 use Rattle.aadl_tree.specs.Declarations.{Feature, PackageTree}
-use Rattle.aadl_names.specs.ReferenceResolution.{features_of, type_numbered}
+use Rattle.aadl_names.specs.NameResolution.{features_of, type_numbered}
 use Rattle.aadl_instance.specs.InstancesByNumbers.{number_among}
 use Rattle.aadl_instance.specs.declared.port_numbers.SeenPorts.{SeenPorts}
 use Rattle.aadl_tree.specs.declared.declarations.Direction.TheVariants as directions

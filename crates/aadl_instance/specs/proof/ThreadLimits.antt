@@ -3,7 +3,7 @@ use Rattle.std.specs.Prelude.{◌≡◌, ℕ, ◌<◌, true, List, length, Some,
 use Rattle.std.specs.Option.{option_map_or}
 use Rattle.pals_base.specs.declared.limits.TheConstants.{PORTS, VARIABLES, STATES}
 use Rattle.aadl_tree.specs.Declarations.{Implementation, PackageTree}
-use Rattle.aadl_names.specs.ReferenceResolution.{implementation_at, is_thread, ports_of}
+use Rattle.aadl_names.specs.NameResolution.{implementation_at, is_thread, ports_of}
 use Rattle.aadl_instance.specs.declared.thread_limits.ThreadPart.{ThreadPart}
 use Rattle.aadl_instance.specs.declared.thread_limits.ThreadPart.TheVariants.{Ports, Variables, States}
 use Rattle.aadl_instance.specs.BehaviourSizes.{state_count, variable_count}

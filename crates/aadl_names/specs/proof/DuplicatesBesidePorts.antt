@@ -12,7 +12,7 @@ use Rattle.aadl_names.specs.declared.numbered_place.NumberedPlace.{NumberedPlace
 use Rattle.aadl_names.specs.proof.FirstFaultSoFar.{found, as_list}
 use Rattle.aadl_names.specs.DuplicateNames.{twice}
 use Rattle.aadl_names.specs.proof.EarliestDeclarations.{earliest, is_before}
-use Rattle.aadl_names.specs.ReferenceResolution.{is_thread, ports_of}
+use Rattle.aadl_names.specs.NameResolution.{is_thread, ports_of}
 use Rattle.aadl_names.specs.BehaviourAnnexes.{behaviours, first_behaviour}
 use Rattle.aadl_names.specs.DuplicatesByNamespace.{port_entries, variable_entries, state_entries, member_entries}
 use Rattle.aadl_names.specs.DuplicatesByNamespace.{type_entry, implementation_entry}

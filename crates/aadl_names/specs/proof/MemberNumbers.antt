@@ -1,7 +1,7 @@
 -- The numbers of what a declaration has: the ports of a type, or the subcomponents of an implementation.
 use Rattle.std.specs.Prelude.{ℕ, List, Option, Some, None}
 use Rattle.aadl_tree.specs.Declarations.{Declaration, type, implementation}
-use Rattle.aadl_names.specs.ReferenceResolution.{port_named, sub_named}
+use Rattle.aadl_names.specs.NameResolution.{port_named, sub_named}
 
 abbrev pub member_of : Option (Declaration ℕ) → List ℕ → Option ℕ
 member_of None name = None

@@ -1,7 +1,7 @@
 -- Which connection is the first into a port.
 use Rattle.std.specs.Prelude.{ℕ, Bool, false, nat_lt, List, Option, Some, None}
 use Rattle.aadl_names.specs.declared.numbered_port.NumberedPort.{NumberedPort}
-use Rattle.aadl_names.specs.ReferenceResolution.{first_number}
+use Rattle.aadl_names.specs.NameResolution.{first_number}
 use Rattle.aadl_uses.specs.declared.connections_by_target.ConnectionPorts.{ConnectionPorts}
 use Rattle.aadl_uses.specs.proof.NumbersByPort.{is_port}
 

@@ -2,7 +2,7 @@
 use Rattle.std.specs.Prelude.{ℕ, Option, Some}
 use Rattle.std.specs.Option.{option_and_then}
 use Rattle.aadl_tree.specs.Declarations.{Implementation, Declaration, PackageTree}
-use Rattle.aadl_names.specs.ReferenceResolution.{implementation_in, implementation_at, type_number}
+use Rattle.aadl_names.specs.NameResolution.{implementation_in, implementation_at, type_number}
 
 abbrev pub type_number_by : PackageTree ℕ → Option (Implementation ℕ) → Option ℕ
 type_number_by tree x = option_and_then (type_number tree) x

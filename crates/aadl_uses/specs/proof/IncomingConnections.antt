@@ -3,7 +3,7 @@ use Rattle.std.specs.Prelude.{ℕ, List, Option, Some, None, slice_get}
 use Rattle.std.specs.Option.{option_and_then, option_map_or}
 use Rattle.aadl_tree.specs.Declarations.{Declaration, PackageTree}
 use Rattle.aadl_names.specs.declared.numbered_port.NumberedPort.{NumberedPort}
-use Rattle.aadl_names.specs.ReferenceResolution.{implementation_in}
+use Rattle.aadl_names.specs.NameResolution.{implementation_in}
 use Rattle.aadl_uses.specs.declared.connections_by_target.ConnectionPorts.{ConnectionPorts}
 use Rattle.aadl_uses.specs.proof.FirstConnections.{first_into}
 use Rattle.aadl_uses.specs.PortsOfConnections.{wires_of, connection_ports_at}

@@ -1,7 +1,7 @@
 -- The containment of a package as a graph: the numbers of the declarations that subcomponents name.
 use Rattle.std.specs.Prelude.{ℕ, List, map, Option, Some}
 use Rattle.aadl_tree.specs.Declarations.{Implementation, Declaration, PackageTree}
-use Rattle.aadl_names.specs.ReferenceResolution.{implementation_in, subcomponents_of, referred}
+use Rattle.aadl_names.specs.NameResolution.{implementation_in, subcomponents_of, referred}
 use Rattle.aadl_uses.specs.proof.ContainmentGraphs.{Graph}
 
 -- ---- the numbers that subcomponents name

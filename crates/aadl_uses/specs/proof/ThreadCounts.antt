@@ -1,7 +1,7 @@
 -- Which declarations are threads, and how many threads stand below an implementation.
 use Rattle.std.specs.Prelude.{◌≡◌, ℕ, Bool, false, List, length, map, min, Option, Some, None}
 use Rattle.aadl_tree.specs.Declarations.{Implementation, Declaration, PackageTree}
-use Rattle.aadl_names.specs.ReferenceResolution.{implementation_in, is_thread}
+use Rattle.aadl_names.specs.NameResolution.{implementation_in, is_thread}
 use Rattle.aadl_uses.specs.ThreadsBelow.{IsThreadAt, Lists, PathBefore}
 
 -- which declarations are implementations of threads

@@ -12,7 +12,7 @@ use Rattle.pals_model.specs.DesignRules.{IsDesign}
 use Rattle.design_laws.specs.PackageDesigns.{IsDesignIn}
 use Rattle.pals_runs.specs.declared.commands.Command.{Command}
 use Rattle.step_compiler.specs.proof.LayoutLaws.{HasLayout}
-use Rattle.scenario_laws.specs.proof.EventsAndTraces.{EventsAreFew, TracesAreFew}
+use Rattle.scenario_laws.specs.proof.EventAndTraceLimits.{EventsAreFew, TracesAreFew}
 use Rattle.scenario_laws.specs.proof.LooseEvents.{EventsAreLoose}
 use Rattle.aadl_grammar.specs.proof.TokensTreesAndFaults.{HasTree, HasLexFault, Stops, NestsTooDeep}
 use Rattle.design_laws.specs.proof.FirstFaultOrInstance.{HasFirstFault, HasInstance, HasList}

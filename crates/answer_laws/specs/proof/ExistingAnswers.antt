@@ -5,7 +5,7 @@ use Rattle.pals_runs.specs.declared.commands.Command.TheVariants.{Ring}
 use Rattle.pals_top.specs.CommandWords.{IsWithinRingLimits}
 use Rattle.pals_top.specs.SelfRingAnswer.{IsRingAnswer}
 use Rattle.pals_top.specs.Answers.{IsCommandAnswer}
-use Rattle.pals_top.specs.proof.FlaggedCommands.{is_run}
+use Rattle.pals_top.specs.proof.FlaggedAndRunCommands.{is_run}
 
 -- The answer of a command to a bundle. A ring needs none, so its answer is the same to each.
 abbrev pub IsAnswerTo : Command → List ℕ → ℕ → List ℕ → Type 0

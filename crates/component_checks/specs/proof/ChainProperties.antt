@@ -6,7 +6,7 @@ use Rattle.aadl_tree.specs.Values.{Association, Associations}
 use Rattle.aadl_tree.specs.Declarations.{Declaration}
 use Rattle.aadl_names.specs.RecognisedProperties.{association_named, association_value, name_of}
 use Rattle.aadl_names.specs.PropertyValueShapes.{text_of}
-use Rattle.aadl_names.specs.ReferenceResolution.{implementation_in, connections_of}
+use Rattle.aadl_names.specs.NameResolution.{implementation_in, connections_of}
 use Rattle.component_checks.specs.declared.chain_properties.ChainProperties.{ChainProperties}
 use Rattle.component_checks.specs.AdaptorTexts.{adaptor_named}
 use Rattle.component_checks.specs.ThreadRatesAndFindings.{says}

@@ -7,7 +7,7 @@ use Rattle.aadl_tree.specs.Declarations.{Subcomponent, Declaration, PackageTree}
 use Rattle.aadl_names.specs.declared.recognised_properties.PropertyName.TheVariants.{Period, Dispatch}
 use Rattle.aadl_names.specs.RecognisedProperties.{association_value}
 use Rattle.aadl_names.specs.PropertyValueShapes.{reference_of, time_of}
-use Rattle.aadl_names.specs.ReferenceResolution.{type_in, implementation_in, subcomponents_of}
+use Rattle.aadl_names.specs.NameResolution.{type_in, implementation_in, subcomponents_of}
 use Rattle.component_checks.specs.declared.component_properties.ComponentProperties.{ComponentProperties}
 use Rattle.component_checks.specs.BoundsAndRates.{within_hour}
 use Rattle.component_checks.specs.ThreadRatesAndFindings.{is_word}

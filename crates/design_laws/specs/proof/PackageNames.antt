@@ -7,8 +7,8 @@ use Rattle.aadl_tree.specs.Declarations.{Feature, Subcomponent, TypeDeclaration,
 use Rattle.aadl_tree.specs.Declarations.{PackageTree}
 use Rattle.aadl_names.specs.declared.declared_name.SpelledName.{SpelledName}
 use Rattle.aadl_names.specs.BehaviourAnnexes.{behaviours, variables_of, states_of}
-use Rattle.aadl_names.specs.ReferenceResolution.{is_thread, ports_of}
-use Rattle.aadl_names.specs.PackageFaults.{package_faults}
+use Rattle.aadl_names.specs.NameResolution.{is_thread, ports_of}
+use Rattle.aadl_names.specs.PackageNameFaults.{package_faults}
 use Rattle.aadl_names.specs.DuplicatesByNamespace.{port_entries, variable_entries, state_entries, member_entries}
 
 -- ---- words

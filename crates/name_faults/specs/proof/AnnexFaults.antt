@@ -5,7 +5,7 @@ use Rattle.aadl_tree.specs.Annexes.{AnnexTree, foreign, behaviour, Annex}
 use Rattle.aadl_tree.specs.Declarations.{Implementation, PackageTree}
 use Rattle.aadl_names.specs.declared.fault.PackageFault.{PackageFault}
 use Rattle.aadl_names.specs.declared.fault.PackageFault.TheVariants.{WrongKind}
-use Rattle.aadl_names.specs.PackageFaults.{behaviour_faults}
+use Rattle.aadl_names.specs.PackageNameFaults.{behaviour_faults}
 
 abbrev pub annex_uses : PackageTree ℕ → Implementation ℕ → Bool → Annex ℕ → List PackageFault
 annex_uses tree x expected annex =

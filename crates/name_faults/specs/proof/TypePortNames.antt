@@ -7,8 +7,8 @@ use Rattle.aadl_names.specs.proof.FirstFaultSoFar.{found}
 use Rattle.aadl_names.specs.DuplicateNames.{twice}
 use Rattle.aadl_names.specs.DuplicatesByNamespace.{port_entries}
 use Rattle.aadl_names.specs.proof.EarliestDeclarations.{earliest}
-use Rattle.aadl_names.specs.ReferenceResolution.{features_of, type_numbered}
-use Rattle.aadl_names.specs.PackageFaults.{port_roles}
+use Rattle.aadl_names.specs.NameResolution.{features_of, type_numbered}
+use Rattle.aadl_names.specs.PackageNameFaults.{port_roles}
 use Rattle.name_faults.specs.declared.port_name_tables.PortNames.{PortNames}
 use Rattle.name_faults.specs.declared.port_name_tables.AllPortNames.{AllPortNames}
 

@@ -1,5 +1,4 @@
--- That a bundle means a design, a scenario and the design's step codes, and where the events of the scenario come
--- from.
+-- That a bundle means a design, its step codes and a scenario, with what is kept of events and trace; or is refused.
 use Rattle.std.specs.Prelude.{ℕ, ◌≤◌, List, length, ◌⊎◌}
 use Rattle.pals_base.specs.declared.limits.TheConstants.{LIST_ITEMS}
 use Rattle.pals_model.specs.declared.design.DesignParts.{DesignParts}

@@ -2,9 +2,9 @@ use Rattle.std.proofs.Common.{◌∙◌, ◌∷◌, [], ap, refl, reverse, subst
 use Rattle.std.proofs.lemmas.List.{reverse-append}
 use Rattle.aadl_tree.specs.proof.PackageViews.{placed}
 use Rattle.aadl_chains.specs.Chains.{Port}
-use Rattle.aadl_chains.specs.proof.OutermostFirstWalks.{crossing}
+use Rattle.aadl_chains.specs.proof.WalkResults.{crossing}
 use Rattle.aadl_chains.specs.proof.TracedChains.{Traces}
-use Rattle.aadl_chains.proofs.OutermostFirstWalks.{crossing_from}
+use Rattle.aadl_chains.proofs.WalkResults.{crossing_from}
 use Rattle.aadl_chains.proofs.TracedChains.{traces_nothing}
 use Rattle.aadl_chains.proofs.WalksUpAndDown.{root_route, over_route}
 use Rattle.aadl_chains.proofs.chain_tracing.trace_back.Goals as goal

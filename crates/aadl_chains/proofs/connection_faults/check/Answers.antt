@@ -3,7 +3,7 @@ use Rattle.std.proofs.lemmas.Result.{on_ok_weaker}
 use Rattle.aadl_tree.specs.proof.PackageViews.{placed}
 use Rattle.aadl_tree.specs.proof.DeclarationViews.{connection_view}
 use Rattle.aadl_tree.specs.proof.PlaceMaps.{kept_place}
-use Rattle.aadl_chains.proofs.ConnectionEndFaults.{both_found, nothing_at}
+use Rattle.aadl_chains.proofs.FoundChainFaults.{both_found, nothing_at}
 use Rattle.aadl_chains.proofs.connection_faults.check.Goals as goal
 
 pub returns-in-Some : goal.returns-in-Some

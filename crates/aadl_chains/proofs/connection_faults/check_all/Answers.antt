@@ -2,7 +2,7 @@ use Rattle.std.proofs.Common.{◌∙◌, ap, arith, length, slice_get, sym, None
 use Rattle.std.proofs.lemmas.Option.{slice_get-get_or}
 use Rattle.aadl_tree.specs.proof.PackageViews.{placed}
 use Rattle.aadl_uses.specs.declared.connections_by_target.ConnectionPorts.{ConnectionPorts}
-use Rattle.aadl_chains.proofs.ConnectionEndFaults.{found_none, found_more, found_all}
+use Rattle.aadl_chains.proofs.FoundChainFaults.{found_none, found_more, found_all}
 use Rattle.aadl_chains.proofs.connection_faults.check_all.Goals as goal
 
 pub check-requires-clause-wire : goal.check-requires-clause-wire

@@ -1,6 +1,6 @@
 use Rattle.aadl_tree.specs.proof.PackageViews.{placed}
-use Rattle.aadl_chains.specs.proof.ConnectionEndFaults.{FindsAll}
-use Rattle.aadl_chains.proofs.ConnectionEndFaults.{FoundBelow}
+use Rattle.aadl_chains.specs.proof.FoundChainFaults.{FindsAll}
+use Rattle.aadl_chains.proofs.FoundChainFaults.{FoundBelow}
 use Rattle.aadl_chains.proofs.connection_faults.check_all.Given as goal
 
 abbrev pub invariant-loop-at : goal.invariant-loop-at

@@ -2,8 +2,8 @@ use Rattle.std.proofs.Common.{◌+◌, None, arith, subst, sym}
 use Rattle.aadl_tree.specs.proof.PackageViews.{placed}
 use Rattle.aadl_uses.specs.proof.FirstRecursion.{FirstIn}
 use Rattle.aadl_chains.specs.ChainFaults.{IsEndFault}
-use Rattle.aadl_chains.specs.proof.ConnectionEndFaults.{FindsAll}
-use Rattle.aadl_chains.proofs.ConnectionEndFaults.{FoundAmong, among_none, among_more, among_past, first_end}
+use Rattle.aadl_chains.specs.proof.FoundChainFaults.{FindsAll}
+use Rattle.aadl_chains.proofs.FoundChainFaults.{FoundAmong, among_none, among_more, among_past, first_end}
 use Rattle.aadl_chains.proofs.connection_faults.first_end_fault.Goals.{in-Some+in_ok-check_all, in_default}
 use Rattle.aadl_chains.proofs.connection_faults.first_end_fault.Goals as goal
 

@@ -1,7 +1,7 @@
 use Rattle.std.proofs.Common.{None}
 use Rattle.aadl_tree.specs.proof.PackageViews.{placed}
-use Rattle.aadl_chains.specs.proof.ConnectionEndFaults.{FindsAll}
-use Rattle.aadl_chains.proofs.ConnectionEndFaults.{FoundAmong}
+use Rattle.aadl_chains.specs.proof.FoundChainFaults.{FindsAll}
+use Rattle.aadl_chains.proofs.FoundChainFaults.{FoundAmong}
 use Rattle.aadl_chains.proofs.connection_faults.first_end_fault.Given as goal
 
 abbrev pub invariant-loop-at : goal.invariant-loop-at

@@ -1,7 +1,7 @@
 use Rattle.std.proofs.Common.{◌∙◌, ap, reverse, subst}
 use Rattle.std.proofs.lemmas.Result.{on_ok_weaker}
 use Rattle.aadl_tree.specs.proof.PackageViews.{placed}
-use Rattle.aadl_names.specs.ReferenceResolution.{ports_at}
+use Rattle.aadl_names.specs.NameResolution.{ports_at}
 use Rattle.aadl_uses.specs.ContainmentAndUse.{component_at}
 use Rattle.aadl_chains.proofs.ConnectionsOnChains.{port, is_in-at}
 use Rattle.aadl_chains.specs.proof.TracedChains.{Traces}

@@ -3,7 +3,7 @@ use Rattle.std.proofs.lemmas.List.{length-map}
 use Rattle.aadl_tree.specs.proof.PlaceMaps.{kept_place}
 use Rattle.aadl_tree.specs.proof.PackageViews.{placed}
 use Rattle.aadl_tree.specs.proof.DeclarationViews.{feature_view}
-use Rattle.aadl_names.specs.ReferenceResolution.{implementation_at, ports_at}
+use Rattle.aadl_names.specs.NameResolution.{implementation_at, ports_at}
 use Rattle.aadl_instance.specs.proof.ChainsSoFar.{paths_of, AreTapsTo}
 use Rattle.aadl_instance.proofs.ChainsSoFar.{taps_none, taps_whole}
 use Rattle.aadl_instance.proofs.chain_search.taps_of.Goals as goal

@@ -1,7 +1,7 @@
 use Rattle.std.proofs.Common.{inr, subst}
 use Rattle.aadl_tree.specs.proof.PackageViews.{placed}
 use Rattle.aadl_names.specs.FirstFaults.{FirstOf}
-use Rattle.aadl_names.specs.PackageFaults.{package_faults}
+use Rattle.aadl_names.specs.PackageNameFaults.{package_faults}
 use Rattle.aadl_instance.proofs.FaultPrecedence.{name_fault}
 use Rattle.aadl_instance.proofs.checked_package.check_names.Goals as goal
 

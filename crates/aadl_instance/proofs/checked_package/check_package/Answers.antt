@@ -4,7 +4,7 @@ use Rattle.aadl_tree.specs.proof.PackageViews.{placed}
 use Rattle.aadl_names.specs.declared.fault.PackageFault.{PackageFault}
 use Rattle.aadl_names.specs.declared.fault.PackageFault.TheVariants.{Memory}
 use Rattle.aadl_names.specs.FirstFaults.{IsFirstByLine}
-use Rattle.aadl_names.specs.ReferenceResolution.{root_number}
+use Rattle.aadl_names.specs.NameResolution.{root_number}
 use Rattle.aadl_instance.specs.declared.checked_package.Checked.{Checked}
 use Rattle.aadl_instance.specs.Faults.{FoundIn, IsFault, IsRoot}
 use Rattle.aadl_instance.specs.proof.CheckedPackages.{IsChecked}

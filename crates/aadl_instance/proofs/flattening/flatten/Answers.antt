@@ -1,7 +1,7 @@
 use Rattle.std.proofs.Common.{◌≡◌, Some, subst, sym}
 use Rattle.aadl_tree.specs.declared.package.PackageTree as source
 use Rattle.aadl_tree.specs.proof.PackageViews.{placed}
-use Rattle.aadl_names.specs.ReferenceResolution.{root_number}
+use Rattle.aadl_names.specs.NameResolution.{root_number}
 use Rattle.aadl_instance.specs.InstancesByNumbers.{IsInstance}
 use Rattle.aadl_instance.proofs.flattening.flatten.Goals as goal
 

@@ -1,7 +1,7 @@
 use Rattle.std.proofs.Common.{◌∙◌, arith, sym}
 use Rattle.aadl_tree.specs.proof.PlaceMaps.{kept_place}
 use Rattle.aadl_tree.specs.proof.DeclarationViews.{declaration_view}
-use Rattle.aadl_names.specs.ReferenceResolution.{is_root}
+use Rattle.aadl_names.specs.NameResolution.{is_root}
 use Rattle.aadl_instance.proofs.RootSearch.{mapped_here, mapped_next, mapped_none}
 use Rattle.aadl_instance.proofs.root.first_root.Goals as goal
 

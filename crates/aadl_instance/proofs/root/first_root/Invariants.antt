@@ -2,7 +2,7 @@ use Rattle.std.proofs.Common.{◌≡◌, drop, map}
 use Rattle.std.specs.List.{position_from}
 use Rattle.aadl_tree.specs.proof.PlaceMaps.{kept_place}
 use Rattle.aadl_tree.specs.proof.DeclarationViews.{declaration_view}
-use Rattle.aadl_names.specs.ReferenceResolution.{is_root}
+use Rattle.aadl_names.specs.NameResolution.{is_root}
 use Rattle.aadl_instance.proofs.root.first_root.Given as goal
 
 -- it is among those that are left

@@ -2,7 +2,7 @@ use Rattle.std.proofs.Common.{◌∙◌, arith, refl, sym}
 use Rattle.std.proofs.lemmas.Bool.{true≢false}
 use Rattle.aadl_tree.specs.proof.PackageViews.{placed}
 use Rattle.aadl_uses.proofs.ContainmentOrders.{of_any}
-use Rattle.aadl_instance.proofs.ThreadsInUse.{used_or_below, some_over, none_over}
+use Rattle.aadl_instance.proofs.ThreadLimits.{used_or_below, some_over, none_over}
 use Rattle.aadl_instance.proofs.thread_limits.has_too_many.Goals as goal
 
 pub returns-then-has_over-clause-used : goal.returns-then-has_over-clause-used

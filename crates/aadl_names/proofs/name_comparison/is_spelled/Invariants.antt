@@ -3,7 +3,7 @@ use Rattle.aadl_tree.specs.Names.{same_name}
 use Rattle.std.specs.Prelude.{flat_map}
 use Rattle.aadl_tree.specs.proof.PlaceMaps.{kept_place}
 use Rattle.aadl_tree.specs.proof.NameViews.{identifier_view, name_view}
-use Rattle.aadl_names.specs.Spelling.{spelled_name}
+use Rattle.aadl_names.specs.QualifiedNameSpellings.{spelled_name}
 use Rattle.aadl_names.proofs.name_comparison.is_spelled.Given as goal
 
 -- the words that are left decide

@@ -1,7 +1,7 @@
 use Rattle.std.proofs.Common.{◌≡◌, map, drop}
 use Rattle.aadl_tree.specs.proof.NameViews.{identifier_view}
 use Rattle.aadl_tree.specs.proof.PlaceMaps.{kept_place}
-use Rattle.aadl_names.specs.ReferenceResolution.{same_words}
+use Rattle.aadl_names.specs.NameResolution.{same_words}
 use Rattle.aadl_names.proofs.package_names.same_words.Given as goal
 
 -- what is left decides

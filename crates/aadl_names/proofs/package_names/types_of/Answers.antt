@@ -1,7 +1,7 @@
 use Rattle.std.proofs.Common.{arith}
 use Rattle.aadl_tree.specs.proof.DeclarationViews.{declaration_view}
 use Rattle.aadl_tree.specs.proof.PlaceMaps.{kept_place}
-use Rattle.aadl_names.specs.ReferenceResolution.{is_type}
+use Rattle.aadl_names.specs.NameResolution.{is_type}
 use Rattle.aadl_names.proofs.FirstMatches.{next_first, last_first}
 use Rattle.aadl_names.proofs.package_names.types_of.Goals as goal
 

@@ -2,7 +2,7 @@ use Rattle.std.proofs.Common.{◌≡◌, ℕ, List, map, take}
 use Rattle.aadl_tree.specs.proof.DeclarationViews.{declaration_view}
 use Rattle.aadl_tree.specs.proof.PlaceMaps.{kept_place}
 use Rattle.aadl_names.specs.proof.NameTables.{value_of}
-use Rattle.aadl_names.specs.ReferenceResolution.{first_number, is_type}
+use Rattle.aadl_names.specs.NameResolution.{first_number, is_type}
 use Rattle.aadl_names.proofs.package_names.types_of.Given as goal
 
 abbrev pub invariant-loop-number : goal.invariant-loop-number

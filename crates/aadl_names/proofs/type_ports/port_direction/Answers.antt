@@ -3,7 +3,7 @@ use Rattle.std.specs.Prelude.{option_map}
 use Rattle.aadl_tree.specs.Declarations.{Feature}
 use Rattle.aadl_tree.specs.proof.DeclarationViews.{feature_view}
 use Rattle.aadl_tree.specs.proof.PlaceMaps.{kept_place}
-use Rattle.aadl_names.specs.ReferenceResolution.{features_of, direction_in}
+use Rattle.aadl_names.specs.NameResolution.{features_of, direction_in}
 use Rattle.aadl_names.proofs.NumberedDeclarations.{view_lent}
 use Rattle.aadl_names.proofs.type_ports.port_direction.Goals as goal
 

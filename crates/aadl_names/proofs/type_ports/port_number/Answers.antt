@@ -2,7 +2,7 @@ use Rattle.std.proofs.Common.{◌∙◌, sym, ap}
 use Rattle.aadl_tree.specs.proof.PackageViews.{placed}
 use Rattle.aadl_tree.specs.proof.DeclarationViews.{type_view}
 use Rattle.aadl_tree.specs.proof.PlaceMaps.{kept_place}
-use Rattle.aadl_names.specs.ReferenceResolution.{port_named, features_of, type_numbered}
+use Rattle.aadl_names.specs.NameResolution.{port_named, features_of, type_numbered}
 use Rattle.aadl_names.proofs.MemberNumbers.{ok_as}
 use Rattle.aadl_names.proofs.NumberedDeclarations.{members_there}
 use Rattle.aadl_names.proofs.type_ports.port_number.Goals as goal

@@ -1,7 +1,7 @@
 use Rattle.std.proofs.Common.{◌∙◌, map, ap, refl, arith}
 use Rattle.std.proofs.lemmas.List.{take_all}
 use Rattle.aadl_tree.specs.proof.PackageViews.{placed}
-use Rattle.aadl_names.specs.ReferenceResolution.{implementation_in, subcomponents_of}
+use Rattle.aadl_names.specs.NameResolution.{implementation_in, subcomponents_of}
 use Rattle.component_checks.specs.proof.ComponentProperties.{sub_timed, subs_timed}
 use Rattle.component_checks.proofs.EnumeratedLists.{made_next}
 use Rattle.component_checks.proofs.component_property_tables.all_of_subs.Goals as goal

@@ -1,7 +1,7 @@
 use Rattle.std.proofs.Common.{◌∙◌, map, ap, refl, arith}
 use Rattle.std.proofs.lemmas.List.{take_all}
 use Rattle.aadl_tree.specs.proof.PackageViews.{placed}
-use Rattle.aadl_names.specs.ReferenceResolution.{implementation_in}
+use Rattle.aadl_names.specs.NameResolution.{implementation_in}
 use Rattle.component_checks.specs.PropertyLookup.{own_lists}
 use Rattle.component_checks.specs.proof.ComponentProperties.{timed_by, own_timed}
 use Rattle.component_checks.proofs.EnumeratedLists.{made_next}

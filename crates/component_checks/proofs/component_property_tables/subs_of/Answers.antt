@@ -2,7 +2,7 @@ use Rattle.std.proofs.Common.{◌∙◌, ℕ, length, map, ap, refl, arith}
 use Rattle.std.proofs.lemmas.List.{length-map, take_all}
 use Rattle.aadl_tree.specs.Declarations.{Subcomponent}
 use Rattle.aadl_tree.specs.proof.PackageViews.{placed}
-use Rattle.aadl_names.specs.ReferenceResolution.{implementation_at, subcomponents_of, referred}
+use Rattle.aadl_names.specs.NameResolution.{implementation_at, subcomponents_of, referred}
 use Rattle.component_checks.specs.PropertyLookup.{sub_lists}
 use Rattle.component_checks.specs.proof.ComponentProperties.{timed_by, sub_timed}
 use Rattle.component_checks.proofs.EnumeratedLists.{made_next}

@@ -1,6 +1,6 @@
 use Rattle.std.proofs.Common.{◌≡◌, map, take}
 use Rattle.aadl_tree.specs.proof.PackageViews.{placed}
-use Rattle.aadl_names.specs.ReferenceResolution.{implementation_at, subcomponents_of}
+use Rattle.aadl_names.specs.NameResolution.{implementation_at, subcomponents_of}
 use Rattle.component_checks.specs.proof.ComponentProperties.{sub_timed}
 use Rattle.component_checks.proofs.component_property_tables.subs_of.Given as goal
 

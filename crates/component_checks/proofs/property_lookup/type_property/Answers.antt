@@ -3,7 +3,7 @@ use Rattle.aadl_tree.specs.proof.PlaceMaps.{kept_place}
 use Rattle.aadl_tree.specs.proof.PackageViews.{placed}
 use Rattle.aadl_tree.specs.proof.ValueViews.{associations_view}
 use Rattle.aadl_names.specs.RecognisedProperties.{association_named, name_of}
-use Rattle.aadl_names.specs.ReferenceResolution.{type_numbered}
+use Rattle.aadl_names.specs.NameResolution.{type_numbered}
 use Rattle.component_checks.specs.PropertyLookup.{type_lists, first_in}
 use Rattle.component_checks.proofs.NamedAssociations.{first_of_one}
 use Rattle.component_checks.proofs.property_lookup.type_property.Goals as goal

@@ -1,7 +1,7 @@
 use Rattle.std.proofs.Common.{◌∙◌, ◌-◌, length, slice_get, ap}
 use Rattle.std.specs.Option.{option_and_then}
 use Rattle.aadl_tree.specs.proof.PackageViews.{placed}
-use Rattle.aadl_names.specs.ReferenceResolution.{implementation_at, target_of}
+use Rattle.aadl_names.specs.NameResolution.{implementation_at, target_of}
 use Rattle.component_checks.specs.PropertyLookup.{sub_of}
 use Rattle.model_violations.proofs.ConnectionEndTypes.{target_below}
 use Rattle.model_violations.proofs.chain_ends.component_number.Goals as goal

@@ -1,6 +1,6 @@
 use Rattle.std.proofs.Common.{◌∙◌, filter, slice_get, ap}
 use Rattle.aadl_tree.specs.proof.PackageViews.{placed}
-use Rattle.aadl_names.specs.ReferenceResolution.{ports_at}
+use Rattle.aadl_names.specs.NameResolution.{ports_at}
 use Rattle.component_checks.specs.TypeFindings.{is_in}
 use Rattle.model_violations.proofs.chain_ends.thread_in.Goals as goal
 

@@ -4,7 +4,7 @@ use Rattle.std.proofs.lemmas.Option.{slice_get-map, slice_get_read}
 use Rattle.aadl_tree.specs.proof.DeclarationViews.{connection_view, implementation_view}
 use Rattle.aadl_tree.specs.proof.PlaceMaps.{kept_place}
 use Rattle.aadl_tree.specs.proof.PackageViews.{placed}
-use Rattle.aadl_names.specs.ReferenceResolution.{implementation_in}
+use Rattle.aadl_names.specs.NameResolution.{implementation_in}
 use Rattle.model_violations.specs.ConnectionsAndCarriers.{carries}
 use Rattle.model_violations.specs.ConnectionFindings.{connection_findings}
 use Rattle.component_checks.proofs.EnumeratedLists.{one_more}

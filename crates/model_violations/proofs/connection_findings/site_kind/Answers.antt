@@ -1,6 +1,6 @@
 use Rattle.std.proofs.Common.{◌∙◌, sym, ap}
 use Rattle.aadl_tree.specs.proof.PackageViews.{placed}
-use Rattle.aadl_names.specs.ReferenceResolution.{features_of, type_numbered}
+use Rattle.aadl_names.specs.NameResolution.{features_of, type_numbered}
 use Rattle.model_violations.specs.ConnectionFindings.{kind_numbered, site_kind}
 use Rattle.model_violations.proofs.ConnectionEndTypes.{own_kind, inner_kind}
 use Rattle.model_violations.proofs.connection_findings.site_kind.Goals as goal

@@ -4,7 +4,7 @@ use Rattle.aadl_tree.specs.Declarations.{implementation}
 use Rattle.aadl_tree.specs.proof.PlaceMaps.{kept_place}
 use Rattle.aadl_tree.specs.proof.PackageViews.{placed}
 use Rattle.aadl_tree.specs.proof.DeclarationViews.{declaration_view, implementation_view}
-use Rattle.aadl_names.specs.ReferenceResolution.{implementation_in}
+use Rattle.aadl_names.specs.NameResolution.{implementation_in}
 use Rattle.model_violations.proofs.declaration_findings.add_declaration_findings.Goals as goal
 
 pub add_implementation_findings-requires-clause-number : goal.add_implementation_findings-requires-clause-number

@@ -4,7 +4,7 @@ use Rattle.std.proofs.lemmas.Option.{same_Some}
 use Rattle.aadl_tree.specs.proof.PlaceMaps.{kept_place}
 use Rattle.aadl_tree.specs.proof.PackageViews.{placed}
 use Rattle.aadl_tree.specs.proof.DeclarationViews.{implementation_view}
-use Rattle.aadl_names.specs.ReferenceResolution.{is_thread}
+use Rattle.aadl_names.specs.NameResolution.{is_thread}
 use Rattle.model_violations.specs.ThreadBehaviours.{IsSmall, implementation_findings}
 use Rattle.model_violations.proofs.declaration_findings.add_thread_findings.Goals as goal
 

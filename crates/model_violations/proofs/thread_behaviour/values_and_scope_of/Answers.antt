@@ -3,7 +3,7 @@ use Rattle.aadl_tree.specs.proof.PlaceMaps.{kept_place}
 use Rattle.aadl_tree.specs.proof.PackageViews.{placed}
 use Rattle.aadl_tree.specs.proof.DeclarationViews.{feature_view, implementation_view}
 use Rattle.aadl_tree.specs.proof.AnnexViews.{annex_tree_view}
-use Rattle.aadl_names.specs.ReferenceResolution.{ports_at}
+use Rattle.aadl_names.specs.NameResolution.{ports_at}
 use Rattle.model_violations.specs.PortsAndVariables.{ins_in, outs_in, variables_of, values_by, scope_by}
 use Rattle.model_violations.proofs.PortAndVariableLists.{ports_both, of_lists}
 use Rattle.model_violations.proofs.thread_behaviour.values_and_scope_of.Goals as goal

@@ -3,7 +3,7 @@ use Rattle.std.specs.List.{list_any, enumerate_from}
 use Rattle.std.specs.Option.{option_and_then}
 use Rattle.std.proofs.lemmas.List.{take_all}
 use Rattle.aadl_tree.specs.proof.PackageViews.{placed}
-use Rattle.aadl_names.specs.ReferenceResolution.{implementation_in, type_number}
+use Rattle.aadl_names.specs.NameResolution.{implementation_in, type_number}
 use Rattle.model_violations.specs.IgnoredProperties.{is_number}
 use Rattle.model_violations.specs.UsedDeclarations.{has, uses_type}
 use Rattle.model_violations.proofs.NumberSets.{one_more_passes}

@@ -2,7 +2,7 @@ use Rattle.std.proofs.Common.{refl, map}
 use Rattle.std.specs.List.{flat_map}
 use Rattle.aadl_tree.specs.proof.AnnexViews.{variable_view}
 use Rattle.aadl_tree.specs.proof.PlaceMaps.{kept_place}
-use Rattle.aadl_names.specs.PackageFaults as spec
+use Rattle.aadl_names.specs.PackageNameFaults as spec
 use Rattle.aadl_names.proofs.FirstFaultSoFar.{next_found}
 use Rattle.name_faults.proofs.annexes.check_variable_list.Goals as goal
 

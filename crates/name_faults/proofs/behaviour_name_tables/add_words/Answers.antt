@@ -4,7 +4,7 @@ use Rattle.std.specs.Option.{option_or}
 use Rattle.aadl_tree.specs.proof.NameViews.{identifier_view}
 use Rattle.aadl_tree.specs.proof.PlaceMaps.{kept_place}
 use Rattle.aadl_names.specs.proof.NameTables.{value_of}
-use Rattle.aadl_names.specs.PackageFaults.{is_among}
+use Rattle.aadl_names.specs.PackageNameFaults.{is_among}
 use Rattle.name_faults.specs.proof.ConditionalValues.{value_if}
 use Rattle.name_faults.proofs.RoleTables.{next_role, last_role, value_or, added_twice}
 use Rattle.name_faults.proofs.behaviour_name_tables.add_words.Goals as goal

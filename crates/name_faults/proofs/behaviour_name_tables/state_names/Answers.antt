@@ -6,7 +6,7 @@ use Rattle.std.proofs.lemmas.List.Folds.{list_any-append}
 use Rattle.aadl_tree.specs.declared.annex.StateDeclaration.{StateDeclaration}
 use Rattle.aadl_tree.specs.proof.AnnexViews.{state_view}
 use Rattle.aadl_tree.specs.proof.PlaceMaps.{kept_place}
-use Rattle.aadl_names.specs.PackageFaults.{is_among}
+use Rattle.aadl_names.specs.PackageNameFaults.{is_among}
 use Rattle.name_faults.specs.proof.ConditionalValues.{value_if, is_marked}
 use Rattle.name_faults.proofs.RoleTables.{next_role, last_role, value_or, marked_if}
 use Rattle.name_faults.proofs.behaviour_name_tables.state_names.Goals as goal

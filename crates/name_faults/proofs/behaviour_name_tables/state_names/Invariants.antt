@@ -5,7 +5,7 @@ use Rattle.std.specs.Option.{option_or}
 use Rattle.aadl_tree.specs.proof.AnnexViews.{state_view}
 use Rattle.aadl_tree.specs.proof.PlaceMaps.{kept_place}
 use Rattle.aadl_names.specs.proof.NameTables.{value_of}
-use Rattle.aadl_names.specs.PackageFaults.{is_among}
+use Rattle.aadl_names.specs.PackageNameFaults.{is_among}
 use Rattle.name_faults.specs.proof.ConditionalValues.{value_if}
 use Rattle.name_faults.proofs.behaviour_name_tables.state_names.Given as goal
 

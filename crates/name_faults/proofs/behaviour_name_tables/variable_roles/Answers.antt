@@ -7,7 +7,7 @@ use Rattle.aadl_tree.specs.declared.annex.VariableDeclaration.{VariableDeclarati
 use Rattle.aadl_tree.specs.proof.AnnexViews.{variable_view}
 use Rattle.aadl_tree.specs.proof.PlaceMaps.{kept_place}
 use Rattle.aadl_names.specs.declared.name_roles.Role.TheVariants.{Varies}
-use Rattle.aadl_names.specs.PackageFaults.{is_among}
+use Rattle.aadl_names.specs.PackageNameFaults.{is_among}
 use Rattle.name_faults.specs.proof.ConditionalValues.{value_if}
 use Rattle.name_faults.proofs.RoleTables.{next_role, last_role, value_or}
 use Rattle.name_faults.proofs.behaviour_name_tables.variable_roles.Goals as goal

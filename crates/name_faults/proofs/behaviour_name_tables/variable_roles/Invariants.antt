@@ -6,7 +6,7 @@ use Rattle.aadl_tree.specs.proof.AnnexViews.{variable_view}
 use Rattle.aadl_tree.specs.proof.PlaceMaps.{kept_place}
 use Rattle.aadl_names.specs.declared.name_roles.Role.TheVariants.{Varies}
 use Rattle.aadl_names.specs.proof.NameTables.{value_of}
-use Rattle.aadl_names.specs.PackageFaults.{is_among}
+use Rattle.aadl_names.specs.PackageNameFaults.{is_among}
 use Rattle.name_faults.specs.proof.ConditionalValues.{value_if}
 use Rattle.name_faults.proofs.behaviour_name_tables.variable_roles.Given as goal
 

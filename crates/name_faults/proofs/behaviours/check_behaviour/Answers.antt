@@ -4,9 +4,9 @@ use Rattle.aadl_tree.specs.proof.PackageViews.{placed}
 use Rattle.aadl_tree.specs.proof.DeclarationViews.{implementation_view}
 use Rattle.aadl_tree.specs.proof.PlaceMaps.{kept_place}
 use Rattle.aadl_names.specs.proof.FirstFaultSoFar.{found}
-use Rattle.aadl_names.specs.ReferenceResolution.{type_numbered}
-use Rattle.aadl_names.specs.PackageFaults.{comes_first, behaviour_faults}
-use Rattle.name_faults.proofs.NameUses.{for_all, same_uses, same_order}
+use Rattle.aadl_names.specs.NameResolution.{type_numbered}
+use Rattle.aadl_names.specs.PackageNameFaults.{comes_first, behaviour_faults}
+use Rattle.name_faults.proofs.EqualNameUses.{for_all, same_uses, same_order}
 use Rattle.name_faults.proofs.behaviours.check_behaviour.Goals as goal
 
 pub returns : goal.returns

@@ -5,7 +5,7 @@ use Rattle.aadl_tree.specs.proof.AnnexViews.{annex_view}
 use Rattle.aadl_tree.specs.proof.PlaceMaps.{kept_place}
 use Rattle.aadl_names.specs.proof.FirstFaultSoFar.{found}
 use Rattle.aadl_names.specs.BehaviourAnnexes.{behaviours}
-use Rattle.aadl_names.specs.PackageFaults.{annex_faults}
+use Rattle.aadl_names.specs.PackageNameFaults.{annex_faults}
 use Rattle.name_faults.proofs.AnnexFaults.{next_annex, last_annex, as_annexes}
 use Rattle.name_faults.proofs.behaviours.check_behaviours.Goals as goal
 

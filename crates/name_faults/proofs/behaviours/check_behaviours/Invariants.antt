@@ -5,7 +5,7 @@ use Rattle.aadl_tree.specs.proof.AnnexViews.{annex_view}
 use Rattle.aadl_tree.specs.proof.PlaceMaps.{kept_place}
 use Rattle.aadl_names.specs.proof.FirstFaultSoFar.{found}
 use Rattle.aadl_names.specs.BehaviourAnnexes.{behaviours}
-use Rattle.aadl_names.specs.ReferenceResolution.{is_thread}
+use Rattle.aadl_names.specs.NameResolution.{is_thread}
 use Rattle.name_faults.specs.proof.AnnexFaults.{behaviours_left}
 use Rattle.name_faults.proofs.behaviours.check_behaviours.Given as goal
 

@@ -7,7 +7,7 @@ use Rattle.std.proofs.lemmas.Slice.Zip.{zip_turn, zip_end}
 use Rattle.aadl_tree.specs.proof.PackageViews.{placed}
 use Rattle.aadl_tree.specs.proof.DeclarationViews.{implementation_view, connection_view}
 use Rattle.aadl_tree.specs.proof.PlaceMaps.{kept_place}
-use Rattle.aadl_names.specs.PackageFaults.{connection_faults}
+use Rattle.aadl_names.specs.PackageNameFaults.{connection_faults}
 use Rattle.aadl_names.proofs.FirstFaultSoFar.{next_found, last_found}
 use Rattle.aadl_uses.specs.PortsOfConnections.{ports_of_connection}
 use Rattle.name_faults.proofs.FaultsByDeclaration.{made_of}

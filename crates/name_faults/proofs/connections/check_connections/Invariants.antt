@@ -4,7 +4,7 @@ use Rattle.aadl_tree.specs.proof.PackageViews.{placed}
 use Rattle.aadl_tree.specs.proof.DeclarationViews.{implementation_view, connection_view}
 use Rattle.aadl_tree.specs.proof.PlaceMaps.{kept_place}
 use Rattle.aadl_names.specs.proof.FirstFaultSoFar.{found}
-use Rattle.aadl_names.specs.PackageFaults.{connection_faults}
+use Rattle.aadl_names.specs.PackageNameFaults.{connection_faults}
 use Rattle.name_faults.proofs.connections.check_connections.Given as goal
 
 -- what is left is still to be looked at

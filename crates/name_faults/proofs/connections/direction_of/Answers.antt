@@ -1,6 +1,6 @@
 use Rattle.std.proofs.Common.{◌∙◌, sym, ap}
 use Rattle.aadl_tree.specs.proof.PackageViews.{placed}
-use Rattle.aadl_names.specs.ReferenceResolution.{direction_in, features_of, type_numbered, direction_of}
+use Rattle.aadl_names.specs.NameResolution.{direction_in, features_of, type_numbered, direction_of}
 use Rattle.name_faults.proofs.NumberedImplementations.{own_direction, inner_direction}
 use Rattle.name_faults.proofs.connections.direction_of.Goals as goal
 

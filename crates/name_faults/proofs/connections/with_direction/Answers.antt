@@ -2,7 +2,7 @@ use Rattle.std.proofs.Common.{◌∙◌, Option, Some, sym, ap, option_map}
 use Rattle.aadl_tree.specs.declared.declarations.Direction.{Direction}
 use Rattle.aadl_tree.specs.proof.PackageViews.{placed}
 use Rattle.aadl_names.specs.declared.numbered_port.NumberedPort.{NumberedPort}
-use Rattle.aadl_names.specs.ReferenceResolution.{with_direction}
+use Rattle.aadl_names.specs.NameResolution.{with_direction}
 use Rattle.name_faults.proofs.connections.with_direction.Goals as goal
 
 pub returns : goal.returns

@@ -7,8 +7,8 @@ use Rattle.aadl_tree.specs.proof.DeclarationViews.{declaration_view}
 use Rattle.aadl_tree.specs.proof.PlaceMaps.{kept_place}
 use Rattle.aadl_names.specs.DuplicateNames.{wrong_if}
 use Rattle.aadl_names.specs.proof.FirstFaultSoFar.{found}
-use Rattle.aadl_names.specs.Spelling.{spelled_name}
-use Rattle.aadl_names.specs.PackageFaults.{declaration_faults, wrong_names}
+use Rattle.aadl_names.specs.QualifiedNameSpellings.{spelled_name}
+use Rattle.aadl_names.specs.PackageNameFaults.{declaration_faults, wrong_names}
 use Rattle.aadl_names.proofs.FirstFaultSoFar.{found_append}
 use Rattle.name_faults.proofs.FaultsByDeclaration.{next_numbered, last_numbered, numbered}
 use Rattle.name_faults.proofs.declarations.check_declarations.Goals as goal

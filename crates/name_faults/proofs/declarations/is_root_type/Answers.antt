@@ -1,7 +1,7 @@
 use Rattle.std.proofs.Common.{◌∙◌, ap}
 use Rattle.aadl_tree.specs.proof.PackageViews.{placed}
-use Rattle.aadl_names.specs.ReferenceResolution.{implementation_at}
-use Rattle.aadl_names.specs.PackageFaults.{is_same_number}
+use Rattle.aadl_names.specs.NameResolution.{implementation_at}
+use Rattle.aadl_names.specs.PackageNameFaults.{is_same_number}
 use Rattle.name_faults.proofs.NumberedImplementations.{of_root}
 use Rattle.name_faults.proofs.declarations.is_root_type.Goals as goal
 

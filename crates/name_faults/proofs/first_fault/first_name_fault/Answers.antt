@@ -1,7 +1,7 @@
 use Rattle.std.proofs.Common.{None, sym, ap, ◌∙◌}
 use Rattle.aadl_tree.specs.proof.PackageViews.{placed}
 use Rattle.aadl_names.specs.proof.FirstFaultSoFar.{found}
-use Rattle.aadl_names.specs.PackageFaults.{wrong_names}
+use Rattle.aadl_names.specs.PackageNameFaults.{wrong_names}
 use Rattle.aadl_names.proofs.FirstFaultSoFar.{found_append}
 use Rattle.aadl_names.specs.proof.DuplicatesBesidePorts.{beside_names}
 use Rattle.aadl_names.proofs.FirstPackageFault.{first_fault}

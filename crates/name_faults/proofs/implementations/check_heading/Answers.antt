@@ -8,9 +8,9 @@ use Rattle.aadl_tree.specs.proof.DeclarationViews.{implementation_view}
 use Rattle.aadl_tree.specs.proof.PlaceMaps.{kept_place}
 use Rattle.aadl_names.specs.DuplicateNames.{wrong_if}
 use Rattle.aadl_names.specs.proof.FirstFaultSoFar.{found}
-use Rattle.aadl_names.specs.Spelling.{spelled_implementation}
-use Rattle.aadl_names.specs.ReferenceResolution.{type_numbered, type_of}
-use Rattle.aadl_names.specs.PackageFaults.{has_type}
+use Rattle.aadl_names.specs.QualifiedNameSpellings.{spelled_implementation}
+use Rattle.aadl_names.specs.NameResolution.{type_numbered, type_of}
+use Rattle.aadl_names.specs.PackageNameFaults.{has_type}
 use Rattle.aadl_names.proofs.FirstFaultSoFar.{found_append}
 use Rattle.name_faults.proofs.implementations.check_heading.Goals as goal
 

@@ -3,7 +3,7 @@ use Rattle.aadl_tree.specs.Names.{same_name}
 use Rattle.std.specs.Option.{option_or}
 use Rattle.aadl_tree.specs.proof.DeclarationViews.{feature_view}
 use Rattle.aadl_tree.specs.proof.PlaceMaps.{kept_place}
-use Rattle.aadl_names.specs.PackageFaults.{role_in, port_roles}
+use Rattle.aadl_names.specs.PackageNameFaults.{role_in, port_roles}
 use Rattle.name_faults.proofs.RoleTables.{next_role, last_role}
 use Rattle.name_faults.proofs.TypePortNames.{roles-cons}
 use Rattle.name_faults.proofs.port_name_tables.port_roles.Goals as goal

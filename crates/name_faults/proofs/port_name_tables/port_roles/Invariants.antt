@@ -3,7 +3,7 @@ use Rattle.std.specs.Option.{option_or}
 use Rattle.aadl_tree.specs.proof.DeclarationViews.{feature_view}
 use Rattle.aadl_tree.specs.proof.PlaceMaps.{kept_place}
 use Rattle.aadl_names.specs.proof.NameTables.{value_of}
-use Rattle.aadl_names.specs.PackageFaults.{port_roles}
+use Rattle.aadl_names.specs.PackageNameFaults.{port_roles}
 use Rattle.name_faults.proofs.port_name_tables.port_roles.Given as goal
 
 -- what is left is still to be added

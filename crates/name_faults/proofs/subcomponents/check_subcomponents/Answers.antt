@@ -5,7 +5,7 @@ use Rattle.aadl_tree.specs.proof.PackageViews.{placed}
 use Rattle.aadl_tree.specs.proof.DeclarationViews.{implementation_view, subcomponent_view}
 use Rattle.aadl_tree.specs.proof.PlaceMaps.{kept_place}
 use Rattle.aadl_names.specs.proof.FirstFaultSoFar.{found}
-use Rattle.aadl_names.specs.PackageFaults.{subcomponent_faults}
+use Rattle.aadl_names.specs.PackageNameFaults.{subcomponent_faults}
 use Rattle.aadl_names.proofs.FirstFaultSoFar.{next_found, last_found}
 use Rattle.name_faults.proofs.FaultsByDeclaration.{numbered}
 use Rattle.name_faults.proofs.NumberedImplementations.{below_is}

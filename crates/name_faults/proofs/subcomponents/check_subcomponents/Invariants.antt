@@ -4,7 +4,7 @@ use Rattle.aadl_tree.specs.proof.PackageViews.{placed}
 use Rattle.aadl_tree.specs.proof.DeclarationViews.{subcomponent_view}
 use Rattle.aadl_tree.specs.proof.PlaceMaps.{kept_place}
 use Rattle.aadl_names.specs.proof.FirstFaultSoFar.{found}
-use Rattle.aadl_names.specs.PackageFaults.{subcomponent_faults}
+use Rattle.aadl_names.specs.PackageNameFaults.{subcomponent_faults}
 use Rattle.name_faults.proofs.subcomponents.check_subcomponents.Given as goal
 
 -- what is left is still to be looked at

@@ -6,8 +6,8 @@ use Rattle.aadl_tree.specs.proof.NameViews.{identifier_view}
 use Rattle.aadl_tree.specs.proof.DeclarationViews.{subcomponent_view}
 use Rattle.aadl_tree.specs.proof.PlaceMaps.{kept_place}
 use Rattle.aadl_names.specs.proof.FirstFaultSoFar.{found}
-use Rattle.aadl_names.specs.ReferenceResolution.{implementation_at}
-use Rattle.aadl_names.specs.PackageFaults.{target_faults, names_faults}
+use Rattle.aadl_names.specs.NameResolution.{implementation_at}
+use Rattle.aadl_names.specs.PackageNameFaults.{target_faults, names_faults}
 use Rattle.name_faults.proofs.subcomponents.check_target.Goals as goal
 
 pub returns-in-Some : goal.returns-in-Some

@@ -1,7 +1,7 @@
 use Rattle.std.proofs.Common.{◌∙◌, sym, ap}
 use Rattle.std.specs.Option.{option_and_then}
 use Rattle.aadl_tree.specs.proof.PackageViews.{placed}
-use Rattle.aadl_names.specs.ReferenceResolution.{implementation_at}
+use Rattle.aadl_names.specs.NameResolution.{implementation_at}
 use Rattle.name_faults.proofs.subcomponents.implementation_of.Goals as goal
 
 pub returns : goal.returns

@@ -2,7 +2,7 @@ use Rattle.std.proofs.Common.{refl, map}
 use Rattle.std.specs.List.{flat_map}
 use Rattle.aadl_tree.specs.proof.AnnexViews.{transition_view}
 use Rattle.aadl_tree.specs.proof.PlaceMaps.{kept_place}
-use Rattle.aadl_names.specs.PackageFaults.{transition_uses}
+use Rattle.aadl_names.specs.PackageNameFaults.{transition_uses}
 use Rattle.aadl_names.proofs.FirstFaultSoFar.{next_found}
 use Rattle.name_faults.specs.proof.BehaviourScopes.{known_by, is_state_by}
 use Rattle.name_faults.proofs.transitions.check_transitions.Goals as goal

@@ -3,7 +3,7 @@ use Rattle.std.specs.List.{flat_map}
 use Rattle.aadl_tree.specs.proof.DeclarationViews.{feature_view}
 use Rattle.aadl_tree.specs.proof.PlaceMaps.{kept_place}
 use Rattle.aadl_names.specs.proof.FirstFaultSoFar.{found}
-use Rattle.aadl_names.specs.PackageFaults as spec
+use Rattle.aadl_names.specs.PackageNameFaults as spec
 use Rattle.name_faults.proofs.types.check_ports.Given as goal
 
 -- what is left is still to be looked at

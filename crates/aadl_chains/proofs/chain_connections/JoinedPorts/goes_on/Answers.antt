@@ -1,9 +1,9 @@
 use Rattle.std.proofs.Common.{◌↔◌, IsTrue, subst, sym}
 use Rattle.aadl_tree.specs.proof.PackageViews.{placed}
-use Rattle.aadl_chains.specs.declared.outer_joins.PortSearch.{PortSearch}
+use Rattle.aadl_chains.specs.declared.ports_joined_outside.PortSearch.{PortSearch}
 use Rattle.aadl_chains.specs.proof.PortsJoinedOutside.{LeadsFrom}
 use Rattle.aadl_chains.specs.proof.ConnectionsOnChains.{IsOnChain}
-use Rattle.aadl_chains.proofs.ConnectionEndFaults.{ways_tell, no_target}
+use Rattle.aadl_chains.proofs.FoundChainFaults.{ways_tell, no_target}
 use Rattle.aadl_chains.proofs.chain_connections.JoinedPorts.goes_on.Goals as goal
 
 pub returns-in-Some : goal.returns-in-Some

@@ -1,5 +1,5 @@
 use Rattle.aadl_tree.specs.proof.PackageViews.{placed}
-use Rattle.aadl_chains.proofs.ConnectionEndFaults.{no_source}
+use Rattle.aadl_chains.proofs.FoundChainFaults.{no_source}
 use Rattle.aadl_chains.proofs.chain_connections.JoinedPorts.has.Goals as goal
 
 pub returns-in-None : goal.returns-in-None

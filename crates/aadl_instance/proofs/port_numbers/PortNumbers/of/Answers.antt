@@ -1,7 +1,7 @@
 use Rattle.std.proofs.Common.{◌<◌, ◌≤◌, ◌∙◌, ℕ, ◌+◌, [], Some, ap, arith, get_or, length, subst, sym}
 use Rattle.std.proofs.lemmas.List.{length_push}
 use Rattle.aadl_tree.specs.proof.PackageViews.{placed}
-use Rattle.aadl_names.specs.ReferenceResolution.{features_of, type_numbered}
+use Rattle.aadl_names.specs.NameResolution.{features_of, type_numbered}
 use Rattle.aadl_instance.specs.proof.PortNumberTables.{AreAmong}
 use Rattle.aadl_instance.proofs.PortNumberTables.{more_at, rows_whole}
 use Rattle.aadl_instance.proofs.port_numbers.PortNumbers.of.Goals as goal

@@ -1,6 +1,6 @@
 use Rattle.std.proofs.Common.{◌≡◌, ◌<◌, ℕ, [], Some, get_or, length}
 use Rattle.aadl_tree.specs.proof.PackageViews.{placed}
-use Rattle.aadl_names.specs.ReferenceResolution.{features_of, type_numbered}
+use Rattle.aadl_names.specs.NameResolution.{features_of, type_numbered}
 use Rattle.aadl_instance.specs.proof.PortNumberTables.{AreAmong}
 use Rattle.aadl_instance.proofs.port_numbers.PortNumbers.of.Given as goal
 

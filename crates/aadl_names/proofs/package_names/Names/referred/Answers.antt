@@ -2,8 +2,8 @@ use Rattle.std.proofs.Common.{◌≡◌, ℕ, List, ◌++◌, codes, string_byte
 use Rattle.aadl_tree.specs.proof.PackageViews.{placed}
 use Rattle.aadl_tree.specs.proof.NameViews.{reference_view}
 use Rattle.aadl_tree.specs.proof.PlaceMaps.{kept_place}
-use Rattle.aadl_names.specs.ReferenceResolution as spec
-use Rattle.aadl_names.specs.ReferenceResolution.{first_number, is_implementation, referred}
+use Rattle.aadl_names.specs.NameResolution as spec
+use Rattle.aadl_names.specs.NameResolution.{first_number, is_implementation, referred}
 use Rattle.aadl_names.proofs.MemberNumbers.{ok_as}
 use Rattle.aadl_names.proofs.package_names.Names.referred.Goals as goal
 

@@ -1,0 +1,13 @@
+use Rattle.std.proofs.Common.{◌≡◌, ◌++◌, codes, string_bytes, map, drop}
+use Rattle.std.specs.List.{flat_map}
+use Rattle.aadl_tree.specs.Names.{Identifier}
+use Rattle.aadl_tree.specs.proof.PlaceMaps.{kept_place}
+use Rattle.aadl_tree.specs.proof.NameViews.{identifier_view}
+use Rattle.aadl_names.proofs.qualified_names.spelled_reference.Given as goal
+
+-- what is left is still to be added
+abbrev pub invariant-loop-word : goal.invariant-loop-word
+invariant-loop-word l =
+    flat_map (λ (y : Identifier _). y.spelling ++ codes "::") (map (identifier_view kept_place) l.word-items)
+    ≡ string_bytes l.text ++ flat_map (λ (y : Identifier _). y.spelling ++ codes "::")
+    (map (identifier_view kept_place) (drop l.word-index l.word-items))

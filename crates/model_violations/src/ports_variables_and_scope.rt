@@ -1,0 +1,161 @@
+//! The ports and variables of a thread as its behaviour has them, and the scope that tells what
+//! their names stand for.
+ghost use Rattle.std.specs.Prelude.{◌≡◌, ◌++◌, ◌<◌, ◌^◌, IfOk, OnOk, length, map};
+ghost use Rattle.std.specs.List.{enumerate_from};
+ghost use Rattle.model_violations.specs.PortsAndVariables as spec;
+
+use crate::port_or_variable::Declared;
+use annex_resolve::{DeclaredName, DeclaredValues, Meaning, Scope};
+use pals_base::{Items, Kind, NoMemory, PortDecl, TryClone, VarDecl};
+use std::alloc::Global;
+
+// A type; a bad one is as good as Integer.
+fn or_integer(kind: Option<Kind>) -> Kind
+    ensures { result ≡ spec.or_integer kind }
+{
+    match kind {
+        Some(kind) => kind,
+        None => Kind::Integer,
+    }
+}
+
+// Ports as a behaviour has them.
+fn named(alloc: Global, ports: &[Declared]) -> Result<Items<PortDecl>, NoMemory>
+    ensures { IfOk result (λ named. named ≡ map spec.named_of ports.now) }
+{
+    let mut named = Items::new(alloc);
+    for port in ports {
+        named.push(PortDecl {
+            name: port.name.try_clone(alloc)?,
+            kind: or_integer(port.kind),
+        })?;
+    }
+    Ok(named)
+}
+
+// Variables as a behaviour has them.
+fn vars(alloc: Global, variables: &[Declared]) -> Result<Items<VarDecl>, NoMemory>
+    ensures { IfOk result (λ vars. vars ≡ map spec.var_of variables.now) }
+{
+    let mut vars = Items::new(alloc);
+    for variable in variables {
+        vars.push(VarDecl {
+            name: variable.name.try_clone(alloc)?,
+            kind: or_integer(variable.kind),
+            first: variable.first,
+        })?;
+    }
+    Ok(vars)
+}
+
+// The values of a behaviour over ports and variables.
+fn values_by(
+    alloc: Global,
+    ins: &[Declared],
+    outs: &[Declared],
+    variables: &[Declared],
+) -> Result<DeclaredValues, NoMemory>
+    ensures { IfOk result (λ values. values ≡ spec.values_by ins.now outs.now variables.now) }
+{
+    Ok(DeclaredValues {
+        ins: named(alloc, ins)?,
+        outs: named(alloc, outs)?,
+        vars: vars(alloc, variables)?,
+    })
+}
+
+// What a declared name stands for.
+fn entry_of(alloc: Global, declared: &Declared, meaning: Meaning) -> Result<DeclaredName, NoMemory>
+    ensures { IfOk result (λ entry. entry ≡ record { name = declared.now.name; kind = declared.now.kind; meaning = meaning }) }
+{
+    Ok(DeclaredName {
+        name: declared.name.try_clone(alloc)?,
+        kind: declared.kind,
+        meaning,
+    })
+}
+
+// Adds what in ports stand for.
+fn add_ins(
+    alloc: Global,
+    ins: &[Declared],
+    entries: &mut Items<DeclaredName>,
+) -> Result<(), NoMemory>
+    requires { length ins.now < 2 ^ 32 }
+    ensures { OnOk result (entries.new ≡ entries.old ++ map spec.in_entry (enumerate_from 0 ins.now)) }
+{
+    for at in 0..ins.len() {
+        entries.push(entry_of(alloc, &ins[at], Meaning::InPort(at as u32))?)?;
+    }
+    Ok(())
+}
+
+// Adds what out ports stand for.
+fn add_outs(
+    alloc: Global,
+    outs: &[Declared],
+    entries: &mut Items<DeclaredName>,
+) -> Result<(), NoMemory>
+    requires { length outs.now < 2 ^ 32 }
+    ensures { OnOk result (entries.new ≡ entries.old ++ map spec.out_entry (enumerate_from 0 outs.now)) }
+{
+    for at in 0..outs.len() {
+        entries.push(entry_of(alloc, &outs[at], Meaning::OutPort(at as u32))?)?;
+    }
+    Ok(())
+}
+
+// Adds what variables stand for.
+fn add_vars(
+    alloc: Global,
+    variables: &[Declared],
+    entries: &mut Items<DeclaredName>,
+) -> Result<(), NoMemory>
+    requires { length variables.now < 2 ^ 32 }
+    ensures { OnOk result (entries.new ≡ entries.old ++ map spec.variable_entry (enumerate_from 0 variables.now)) }
+{
+    for at in 0..variables.len() {
+        entries.push(entry_of(alloc, &variables[at], Meaning::Variable(at as u32))?)?;
+    }
+    Ok(())
+}
+
+// What the names of ports and variables stand for.
+fn scope_by(
+    alloc: Global,
+    ins: &[Declared],
+    outs: &[Declared],
+    variables: &[Declared],
+) -> Result<Scope, NoMemory>
+    requires ins { length ins.now < 2 ^ 32 }
+    requires outs { length outs.now < 2 ^ 32 }
+    requires variables { length variables.now < 2 ^ 32 }
+    ensures { IfOk result (λ scope. scope ≡ spec.scope_by ins.now outs.now variables.now) }
+{
+    let mut entries = Items::new(alloc);
+    add_ins(alloc, ins, &mut entries)?;
+    add_outs(alloc, outs, &mut entries)?;
+    add_vars(alloc, variables, &mut entries)?;
+    Ok(Scope {
+        entries,
+        next: variables.len() as u32,
+    })
+}
+
+/// The values of a behaviour over ports and variables, and what their names stand for.
+pub fn values_and_scope_by(
+    alloc: Global,
+    ins: &[Declared],
+    outs: &[Declared],
+    variables: &[Declared],
+) -> Result<(DeclaredValues, Scope), NoMemory>
+    requires ins { length ins.now < 2 ^ 32 }
+    requires outs { length outs.now < 2 ^ 32 }
+    requires variables { length variables.now < 2 ^ 32 }
+    ensures values { IfOk result (λ setting. setting.0 ≡ spec.values_by ins.now outs.now variables.now) }
+    ensures scope { IfOk result (λ setting. setting.1 ≡ spec.scope_by ins.now outs.now variables.now) }
+{
+    let values = values_by(alloc, ins, outs, variables)?;
+    let scope = scope_by(alloc, ins, outs, variables)?;
+    Ok((values, scope))
+}
