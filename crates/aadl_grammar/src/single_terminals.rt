@@ -1,6 +1,6 @@
 //! Reads the terminal at a place: a given keyword or symbol, a word, a number, a string or an annex that is not
 //! read.
-ghost use Rattle.std.specs.Prelude.{◌≡◌, [], true, MatchOption, MatchBool, IfOk, IfErr, string_bytes};
+ghost use Rattle.std.specs.Prelude.{◌≡◌, [], true, MatchOption, MatchBool, IfOk, IfErr};
 ghost use Rattle.aadl_tree.specs.TerminalFaults as grammar;
 ghost use Rattle.aadl_tree.specs.Terminals.{whole, real, quoted, unread};
 ghost use Rattle.aadl_tree.specs.proof.NameViews.{identifier_view};
@@ -17,7 +17,7 @@ ghost use Rattle.aadl_grammar.specs.proof.ParserAnswers.{Expects, MissAll, IsMar
 use crate::parse_fault::ParseFault;
 use crate::parse_input::Reader;
 use crate::terminal::{Terminal, TerminalClass, between};
-use aadl_tree::{Identifier, Mark, Sign};
+use aadl_tree::{Identifier, Mark, Sign, Spelling};
 use std::str;
 
 impl Reader<'_> {
@@ -137,13 +137,13 @@ impl Reader<'_> {
     }
 
     /// The spelling of a word.
-    fn spelling(&self, word: Terminal) -> Result<String, ParseFault>
+    fn spelling(&self, word: Terminal) -> Result<Spelling, ParseFault>
         requires { is_word_at self.now.text.now word ≡ true }
-        ensures ok { IfOk result (λ found. string_bytes found ≡ between self.now.text.now word.start word.end) }
+        ensures ok { IfOk result (λ found. found ≡ between self.now.text.now word.start word.end) }
         ensures err { IfErr result (λ e. e ≡ Memory) }
     {
         let text = str::from_utf8(self.bytes(word)).unwrap();
-        Ok(String::from_str(self.alloc, text)?)
+        Ok(Spelling::from_str(self.alloc, text)?)
     }
 
     /// The word that comes first, and the number behind it.

@@ -81,6 +81,7 @@ pub fn narrow(place: usize) -> Result<u32, AllocError>
 }
 
 /// The terminals of the tokens, from inside a behaviour annex or outside on.
+#[inline(never)]
 pub fn resolve(
     alloc: Global,
     inside: bool,

@@ -1,6 +1,6 @@
 -- What a name stands for in a table of names: when a name is added, set or spelled in another way.
 use Rattle.std.proofs.Common.{◌≡◌, ℕ, ◌+◌, nat_lt, Bool, true, false, cond, arith, List, [], ◌∷◌, ◌++◌, Option, Some}
-use Rattle.std.proofs.Common.{None, refl, sym, ap, ◌∙◌, map, not}
+use Rattle.std.proofs.Common.{None, refl, sym, ap, ◌∙◌, not}
 use Rattle.aadl_tree.specs.Names.{same_name}
 use Rattle.std.specs.Map.{lookup}
 use Rattle.std.specs.Option.{option_or, is_some}
@@ -29,12 +29,6 @@ own_key (c ∷ name) e =
     ap (λ n. n ∷ folded name) (letter_by c (nat_lt c 65) (nat_lt c 91) refl refl parts.0) ∙ ap (λ l. c ∷ l)
     (own_key name parts.1)
 
--- look-ups by a part of the keys
-pub lookup_keys : {K J X : Type 0} (part : K → J) (test : J → Bool) (es : List (K × X))
-    → lookup test (map (λ e. (part e.0, e.1)) es) ≡ lookup (λ k. test (part k)) es
-lookup_keys part test [] = refl
-lookup_keys part test (e ∷ es) = ap (cond (test (part e.0)) (Some e.1)) (lookup_keys part test es)
-
 pub lookup-push : {K X : Type 0} (test : K → Bool) (es : List (K × X)) (e : K × X)
     → lookup test (es ++ e ∷ []) ≡ option_or (lookup test es) (cond (test e.0) (Some e.1) None)
 lookup-push test [] e = refl
@@ -61,20 +55,14 @@ pub found_some : {B X : Type 0} (copied : Option B → Option X)
 found_some copied some_is None g b e c t = absurd (false≢true (e ∙ ap not t))
 found_some copied some_is (Some x) g b e c t = ((some_is x).0, sym c ∙ (some_is x).1)
 
--- one more name in a table whose keys have parts
-pub value-added : {K X : Type 0} (part : K → List ℕ) (es new : List (K × X)) (key : K) (name : List ℕ) (value : X)
-    → part key ≡ folded name
+-- one more name
+pub value-added : {X : Type 0} (es new : List (List ℕ × X)) (key name : List ℕ) (value : X) → key ≡ folded name
     → new ≡ es ++ (key, value) ∷ []
-    → (other : List ℕ) → value_of (map (λ e. (part e.0, e.1)) new) other
-    ≡ option_or (value_of (map (λ e. (part e.0, e.1)) es) other) (cond (same_name other name) (Some value) None)
-value-added part es new key name value is more other =
-    lookup_keys part (bytes_eq (folded other)) new
-    ∙ (ap (lookup (λ k. bytes_eq (folded other) (part k))) more
-    ∙ (lookup-push (λ k. bytes_eq (folded other) (part k)) es (key, value)
-    ∙ (ap (λ (o : Option _). option_or o (cond (bytes_eq (folded other) (part key)) (Some value) None))
-    (sym (lookup_keys part (bytes_eq (folded other)) es))
-    ∙ ap (λ (bs : List ℕ). option_or (value_of (map (λ e. (part e.0, e.1)) es) other)
-    (cond (bytes_eq (folded other) bs) (Some value) None)) is)))
+    → (other : List ℕ) → value_of new other
+    ≡ option_or (value_of es other) (cond (same_name other name) (Some value) None)
+value-added es new key name value is more other =
+    ap (lookup (bytes_eq (folded other))) more ∙ (lookup-push (bytes_eq (folded other)) es (key, value)
+    ∙ ap (λ (bs : List ℕ). option_or (value_of es other) (cond (bytes_eq (folded other) bs) (Some value) None)) is)
 
 pub value-kept : {X : Type 0} (table : List (List ℕ × X)) (name : List ℕ) (value m : X) → value_of table name ≡ Some m
     → (other : List ℕ) → value_of table other
@@ -120,21 +108,14 @@ lookup-insert eq test k v same only [] = refl
 lookup-insert eq test k v same only (e ∷ es) =
     insert_by eq test k v e es (same e.0) (only e.0) (lookup-insert eq test k v same only es) (eq k e.0) refl
 
-pub value-set : {K X : Type 0} (part : K → List ℕ) (es new : List (K × X)) (key : K) (name : List ℕ) (value : X)
-    → part key ≡ folded name
-    → new ≡ insert_entry (λ a b. bytes_eq (part a) (part b)) es key value
-    → (other : List ℕ) → value_of (map (λ e. (part e.0, e.1)) new) other
-    ≡ cond (same_name other name) (Some value) (value_of (map (λ e. (part e.0, e.1)) es) other)
-value-set part es new key name value is more other =
-    lookup_keys part (bytes_eq (folded other)) new
-    ∙ (ap (lookup (λ k. bytes_eq (folded other) (part k))) more
-    ∙ (lookup-insert (λ a b. bytes_eq (part a) (part b)) (λ k. bytes_eq (folded other) (part k)) key value
-    (λ j e. ap (bytes_eq (folded other)) (sym ((bytes_eq-Decides (part key) (part j)).0 e)))
-    (λ j e. ap (λ (bs : List ℕ). bytes_eq bs (part j)) ((bytes_eq-Decides (folded other) (part key)).0 e)) es
-    ∙ (ap (λ (o : Option _). cond (bytes_eq (folded other) (part key)) (Some value) o)
-    (sym (lookup_keys part (bytes_eq (folded other)) es))
-    ∙ ap (λ (bs : List ℕ). cond (bytes_eq (folded other) bs) (Some value)
-    (value_of (map (λ e. (part e.0, e.1)) es) other)) is)))
+pub value-set : {X : Type 0} (es new : List (List ℕ × X)) (key name : List ℕ) (value : X) → key ≡ folded name
+    → new ≡ insert_entry bytes_eq es key value
+    → (other : List ℕ) → value_of new other ≡ cond (same_name other name) (Some value) (value_of es other)
+value-set es new key name value is more other =
+    ap (lookup (bytes_eq (folded other))) more ∙ (lookup-insert bytes_eq (bytes_eq (folded other)) key value
+    (λ j e. ap (bytes_eq (folded other)) (sym ((bytes_eq-Decides key j).0 e)))
+    (λ j e. ap (λ (bs : List ℕ). bytes_eq bs j) ((bytes_eq-Decides (folded other) key).0 e)) es
+    ∙ ap (λ (bs : List ℕ). cond (bytes_eq (folded other) bs) (Some value) (value_of es other)) is)
 
 -- two spellings of one name
 pub value-same : {X : Type 0} (table : List (List ℕ × X)) (other name : List ℕ) → same_name other name ≡ true

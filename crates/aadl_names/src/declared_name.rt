@@ -4,14 +4,13 @@ ghost use Rattle.aadl_tree.specs.proof.PlaceMaps.{kept_place};
 ghost use Rattle.aadl_tree.specs.proof.NameViews.{identifier_view};
 ghost use Rattle.aadl_names.specs.DuplicateNames as spec;
 
-use aadl_tree::Identifier;
-use pals_base::Text;
+use aadl_tree::{Identifier, Spelling};
 use std::alloc::{AllocError, Global};
 
 /// A name as its declaration spells it, and the declaration's place.
 #[derive(Drop)]
 pub struct SpelledName {
-    pub name: Text,
+    pub name: Spelling,
     pub at: usize,
 }
 
@@ -20,7 +19,7 @@ pub fn entry_of(alloc: Global, word: &Identifier) -> Result<SpelledName, AllocEr
     ensures { IfOk result (λ entry. entry ≡ spec.entry_of (identifier_view kept_place word.now)) }
 {
     Ok(SpelledName {
-        name: Text::from_str(alloc, word.spelling.as_str())?,
+        name: Spelling::from_str(alloc, word.spelling.as_str())?,
         at: word.at,
     })
 }

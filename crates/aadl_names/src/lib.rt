@@ -9,6 +9,7 @@ pub mod earliest_by_name;
 pub mod fault;
 pub mod fault_finder;
 pub mod first_fault_laws;
+mod folded_name;
 pub mod name_comparison;
 pub mod name_roles;
 pub mod name_table;

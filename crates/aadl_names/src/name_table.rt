@@ -1,16 +1,16 @@
 //! What names stand for, found without regard to case.
-ghost use Rattle.std.specs.Prelude.{◌≡◌, ◌++◌, IfOk, codes};
+ghost use Rattle.std.specs.Prelude.{◌≡◌};
 ghost use Rattle.std.specs.Char.{is_ascii_uppercase};
 ghost use Rattle.std.specs.List.{list_any};
-ghost use Rattle.aadl_names.specs.proof.NameTables.{folded};
 
+use crate::folded_name::FoldedName;
 use indexmap::IndexMap;
 use std::alloc::{AllocError, Global};
 use std::marker::Model;
 
 /// Values of names. Contracts see the names, with their capitals made small, and their values.
 pub struct NameTable<V: Copy> {
-    values: IndexMap<Vec<u8>, V>,
+    values: IndexMap<FoldedName, V>,
 }
 
 impl<V: Copy> Drop for NameTable<V> {
@@ -20,11 +20,11 @@ impl<V: Copy> Drop for NameTable<V> {
 }
 
 impl<V: Copy> Model for NameTable<V> {
-    ghost use Rattle.std.specs.Prelude.{ℕ, List, map};
+    ghost use Rattle.std.specs.Prelude.{ℕ, List};
 
     ghost Value = { List (List ℕ × V) };
 
-    ghost view = { λ t. map (λ entry. (entry.0.items, entry.1)) t.values.entries };
+    ghost view = { λ t. t.values.entries };
 }
 
 impl<V: Copy> NameTable<V> {
@@ -47,7 +47,7 @@ impl<V: Copy> NameTable<V> {
         ensures { OnOk result ((other : List ℕ)
             → value_of self.new other ≡ option_or (value_of self.old other) (if same_name other name.now then Some value else None)) }
     {
-        let key = name.as_bytes().to_ascii_lowercase(alloc)?;
+        let key = FoldedName::of(alloc, name)?;
         if self.values.get(&key).is_none() {
             self.values.insert(key, value)?;
         }
@@ -59,7 +59,7 @@ impl<V: Copy> NameTable<V> {
         ensures { OnOk result ((other : List ℕ)
             → value_of self.new other ≡ (if same_name other name.now then Some value else value_of self.old other)) }
     {
-        let key = name.as_bytes().to_ascii_lowercase(alloc)?;
+        let key = FoldedName::of(alloc, name)?;
         self.values.insert(key, value)?;
         Ok(())
     }
@@ -68,12 +68,11 @@ impl<V: Copy> NameTable<V> {
     pub fn value(&self, alloc: Global, name: &str) -> Result<Option<V>, AllocError>
         ensures { IfOk result (λ value. value ≡ value_of self.now name.now) }
     {
-        let bytes = name.as_bytes();
-        if has_capital(bytes) {
-            let key = bytes.to_ascii_lowercase(alloc)?;
+        if has_capital(name) {
+            let key = FoldedName::of(alloc, name)?;
             return Ok(self.values.get(&key).copied());
         }
-        Ok(self.values.get(bytes).copied())
+        Ok(self.values.get(name.as_bytes()).copied())
     }
 
     /// What two names stand for with a point between them.
@@ -85,26 +84,14 @@ impl<V: Copy> NameTable<V> {
     ) -> Result<Option<V>, AllocError>
         ensures { IfOk result (λ value. value ≡ value_of self.now (first.now ++ codes "." ++ second.now)) }
     {
-        let key = dotted_key(alloc, first.as_bytes(), second.as_bytes())?;
+        let key = FoldedName::of_dotted(alloc, first, second)?;
         Ok(self.values.get(&key).copied())
     }
 }
 
-// Two names with a point between them, and their capitals made small.
-fn dotted_key(alloc: Global, first: &[u8], second: &[u8]) -> Result<Vec<u8>, AllocError>
-    ensures { IfOk result (λ key. key.items ≡ folded (first.now ++ codes "." ++ second.now)) }
-{
-    let mut key = Vec::with_capacity(alloc, first.len() + second.len() + 1)?;
-    key.extend_from_slice(first)?;
-    key.push(b'.')?;
-    key.extend_from_slice(second)?;
-    key.make_ascii_lowercase();
-    Ok(key)
-}
-
 // Whether a name has a capital. One that has none is its own key.
-fn has_capital(name: &[u8]) -> bool
+fn has_capital(name: &str) -> bool
     ensures { result ≡ list_any is_ascii_uppercase name.now }
 {
-    name.iter().any(|byte| byte.is_ascii_uppercase())
+    name.as_bytes().iter().any(|byte| byte.is_ascii_uppercase())
 }

@@ -1,5 +1,5 @@
 //! A package with tables of its names: the numbers of types, implementations, ports and subcomponents.
-ghost use Rattle.std.specs.Prelude.{◌≡◌, ℕ, List, [], IfOk, OnOk, map, Some, None, if◌then◌else◌, string_bytes};
+ghost use Rattle.std.specs.Prelude.{◌≡◌, ℕ, List, [], IfOk, OnOk, map, Some, None, if◌then◌else◌};
 ghost use Rattle.std.specs.Prelude.{slice_index_or, slice_get};
 ghost use Rattle.aadl_tree.specs.Names.{same_name};
 ghost use Rattle.std.proofs.Props.{props};
@@ -67,7 +67,7 @@ impl<'t> Names<'t> {
 
     /// The number of the first type of a name.
     pub fn type_number(&self, alloc: Global, name: &Identifier) -> Result<Option<usize>, AllocError>
-        ensures { IfOk result (λ number. number ≡ first_number (is_type (string_bytes name.now.spelling)) (placed self.now.tree.now).declarations) }
+        ensures { IfOk result (λ number. number ≡ first_number (is_type name.now.spelling) (placed self.now.tree.now).declarations) }
     {
         self.types.value(alloc, name.spelling.as_str())
     }
@@ -142,7 +142,7 @@ fn add_word(
     number: usize,
 ) -> Result<(), AllocError>
     ensures { OnOk result ((name : List ℕ) → value_of table.new name
-        ≡ option_or (value_of table.old name) (if same_name name (string_bytes word.now.spelling) then Some number else None)) }
+        ≡ option_or (value_of table.old name) (if same_name name word.now.spelling then Some number else None)) }
 {
     table.add(alloc, word.spelling.as_str(), number)
 }

@@ -1,5 +1,5 @@
 //! How names are spelled, with nothing between their tokens.
-ghost use Rattle.std.specs.Prelude.{◌≡◌, ◌++◌, IfOk, codes, option_map, string_bytes};
+ghost use Rattle.std.specs.Prelude.{◌≡◌, ◌++◌, IfOk, OnOk, codes, option_map, string_bytes};
 ghost use Rattle.aadl_tree.specs.proof.PlaceMaps.{kept_place};
 ghost use Rattle.aadl_tree.specs.proof.NameViews.{identifier_view, name_view, reference_view};
 ghost use Rattle.aadl_tree.specs.proof.DeclarationViews.{end_view, implementation_name_view};
@@ -21,19 +21,33 @@ pub fn spelled_name(alloc: Global, name: &Name) -> Result<Text, AllocError>
     Ok(Text::new(text))
 }
 
+// Adds `A.b`, or `A`.
+fn add_dotted(
+    text: &mut String,
+    first: &Identifier,
+    second: &Option<Identifier>,
+) -> Result<(), AllocError>
+    ensures { OnOk result (string_bytes text.new
+        ≡ string_bytes text.old ++ spec.dotted first.now.spelling (option_map (identifier_view kept_place) second.now)) }
+{
+    text.push_str(first.spelling.as_str())?;
+    if let Some(second) = second {
+        text.push_str(".")?;
+        text.push_str(second.spelling.as_str())?;
+    }
+    Ok(())
+}
+
 /// `A.b`, or `A`
 pub fn dotted(
     alloc: Global,
     first: &Identifier,
     second: &Option<Identifier>,
 ) -> Result<Text, AllocError>
-    ensures { IfOk result (λ text. text ≡ spec.dotted (string_bytes first.now.spelling) (option_map (identifier_view kept_place) second.now)) }
+    ensures { IfOk result (λ text. text ≡ spec.dotted first.now.spelling (option_map (identifier_view kept_place) second.now)) }
 {
-    let mut text = String::from_str(alloc, first.spelling.as_str())?;
-    if let Some(second) = second {
-        text.push_str(".")?;
-        text.push_str(second.spelling.as_str())?;
-    }
+    let mut text = String::new(alloc);
+    add_dotted(&mut text, first, second)?;
     Ok(Text::new(text))
 }
 
@@ -46,11 +60,7 @@ pub fn spelled_reference(alloc: Global, reference: &Reference) -> Result<Text, A
         text.push_str(word.spelling.as_str())?;
         text.push_str("::")?;
     }
-    text.push_str(reference.type_name.spelling.as_str())?;
-    if let Some(implementation) = &reference.implementation {
-        text.push_str(".")?;
-        text.push_str(implementation.spelling.as_str())?;
-    }
+    add_dotted(&mut text, &reference.type_name, &reference.implementation)?;
     Ok(Text::new(text))
 }
 
@@ -63,7 +73,7 @@ pub fn spelled_implementation(alloc: Global, name: &ImplementationName) -> Resul
 
 /// `A.b`
 pub fn joined(alloc: Global, first: &Identifier, second: &Identifier) -> Result<Text, AllocError>
-    ensures { IfOk result (λ text. text ≡ string_bytes first.now.spelling ++ codes "." ++ string_bytes second.now.spelling) }
+    ensures { IfOk result (λ text. text ≡ first.now.spelling ++ codes "." ++ second.now.spelling) }
 {
     let mut text = String::from_str(alloc, first.spelling.as_str())?;
     text.push_str(".")?;

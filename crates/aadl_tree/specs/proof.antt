@@ -3,6 +3,7 @@ pub mod MarkNumbers
 pub mod MarksByFirstByte
 pub mod PlaceMaps
 pub mod ExampleSpellings
+pub mod SpellingBytes
 pub mod NameViews
 pub mod ValueViews
 pub mod ExpressionViews

@@ -20,6 +20,7 @@ pub mod names;
 pub mod nesting_limit;
 pub mod package;
 pub mod sameness;
+pub mod spelling;
 pub mod values;
 
 pub use actions::{Action, Actions, Block, Bound, Choice, Elsif, Loop};
@@ -40,4 +41,5 @@ pub use names::{Identifier, Identifiers, Name, Path, Reference};
 pub use nesting_limit::GREATEST_NESTING;
 pub use package::PackageTree;
 pub use sameness::{Same, same};
+pub use spelling::Spelling;
 pub use values::{Association, AssociationOperator, Number, Quantity, UnsignedNumber, Value};

@@ -1,6 +1,8 @@
 //! Names and references. Each word keeps its place, the offset of its first byte in the text.
-ghost use Rattle.std.specs.Prelude.{IsTrue, string_bytes};
+ghost use Rattle.std.specs.Prelude.{IsTrue};
 ghost use Rattle.aadl_lex.specs.Rules.{is_word};
+
+use crate::spelling::Spelling;
 
 /// A word that is no keyword, spelled as in the text.
 #[derive(Drop)]
@@ -8,8 +10,8 @@ pub struct Identifier {
     /// Where it stands.
     pub at: usize,
     /// A letter, and letters, digits and `_` behind it; [`aadl_lex::NAME_BYTES`] at most.
-    pub spelling: String,
-    pub ghost word: { IsTrue (is_word (string_bytes spelling)) },
+    pub spelling: Spelling,
+    pub ghost word: { IsTrue (is_word spelling) },
 }
 
 /// A name of words with `::` between them: `id { "::" id }`.

@@ -1,5 +1,5 @@
 //! The ports that ends of connections name.
-ghost use Rattle.std.specs.Prelude.{◌≡◌, ℕ, IfOk, Some, option_map, string_bytes};
+ghost use Rattle.std.specs.Prelude.{◌≡◌, ℕ, IfOk, Some, option_map};
 ghost use Rattle.std.specs.Option.{option_and_then};
 ghost use Rattle.aadl_tree.specs.proof.DeclarationViews.{end_view};
 ghost use Rattle.aadl_tree.specs.proof.PlaceMaps.{kept_place};
@@ -45,7 +45,7 @@ fn own_port(
     name: &Identifier,
 ) -> Result<Option<NumberedPort>, AllocError>
     ensures { IfOk result (λ port. port ≡ option_map Own
-        (port_named (ports_at (placed uses.now.names.tree.now) (implementation_at (placed uses.now.names.tree.now) number)) (string_bytes name.now.spelling))) }
+        (port_named (ports_at (placed uses.now.names.tree.now) (implementation_at (placed uses.now.names.tree.now) number)) name.now.spelling)) }
 {
     let of_type = uses.type_number(number);
     match port_number(alloc, &uses.names, of_type, name.spelling.as_str())? {
@@ -66,7 +66,7 @@ fn inner_site(
         (port_named
         (ports_at (placed uses.now.names.tree.now)
         (option_and_then (implementation_at (placed uses.now.names.tree.now)) (below (placed uses.now.names.tree.now) number sub)))
-        (string_bytes name.now.spelling))) }
+        name.now.spelling)) }
 {
     let of_type = uses.type_below(number, sub);
     match port_number(alloc, &uses.names, of_type, name.spelling.as_str())? {

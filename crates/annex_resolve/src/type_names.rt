@@ -1,5 +1,5 @@
 //! The names of types.
-ghost use Rattle.std.specs.Prelude.{◌≡◌, map, string_bytes};
+ghost use Rattle.std.specs.Prelude.{◌≡◌, map};
 ghost use Rattle.aadl_tree.specs.Names.{same_name};
 ghost use Rattle.aadl_tree.specs.proof.PlaceMaps.{kept_place};
 ghost use Rattle.aadl_tree.specs.proof.NameViews.{identifier_view, reference_view};
@@ -10,7 +10,7 @@ use pals_base::Kind;
 
 // Whether an identifier is a word, with capitals or small letters.
 fn is_spelled(identifier: &Identifier, word: &str) -> bool
-    ensures { result ≡ same_name (string_bytes identifier.now.spelling) word.now }
+    ensures { result ≡ same_name identifier.now.spelling word.now }
 {
     identifier.spelling.as_str().eq_ignore_ascii_case(word)
 }

@@ -1,6 +1,6 @@
 -- Identifiers are words, as the trees of a text keep them.
 use Rattle.std.proofs.Common.{◌≡◌, ◌∙◌, ℕ, Bool, true, false, ◌&&◌, List, [], ◌∷◌, map, length, nat_le, Option, Some}
-use Rattle.std.proofs.Common.{None, IsTrue, refl, sym, ap, subst, string_bytes}
+use Rattle.std.proofs.Common.{None, IsTrue, refl, sym, ap, subst}
 use Rattle.std.specs.Prelude.{flat_map, slice_get, slice_index, option_map, All}
 use Rattle.std.specs.List.{list_all, AllByRecursion, cons_option}
 use Rattle.std.specs.Char.{is_ascii_alphabetic}
@@ -58,7 +58,7 @@ same_words s =
     ∙ turned (is_led_by_letter s) (list_all is_word_byte s) (nat_le (length s) NAME_BYTES)
 
 pub identifier_word : (x : source.Identifier) → IsNamed (identifier_view kept_place x)
-identifier_word x = subst IsTrue (same_words (string_bytes x.spelling)) x.word
+identifier_word x = subst IsTrue (same_words x.spelling) x.word
 
 -- ---- lists of views
 all_viewed : {A B : Type 0} (P : B → Type 0) (v : A → B) → ((x : A) → P (v x)) → (xs : List A)

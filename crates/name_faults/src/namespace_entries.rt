@@ -17,9 +17,9 @@ use aadl_names::declared_name::entry_of;
 use aadl_names::qualified_names::spelled_implementation;
 use aadl_tree::{
     AnnexTree, Connection, Declaration, Feature, Identifier, Identifiers, Implementation,
-    PackageTree, Subcomponent,
+    PackageTree, Spelling, Subcomponent,
 };
-use pals_base::{Items, Text};
+use pals_base::Items;
 use std::alloc::{AllocError, Global};
 
 /// Ports.
@@ -128,7 +128,7 @@ fn add_type(
 {
     match declaration {
         Declaration::Type(x) => {
-            let name = Text::from_str(alloc, x.name.spelling.as_str())?;
+            let name = Spelling::from_str(alloc, x.name.spelling.as_str())?;
             entries.push(SpelledName { name, at: x.at })?;
             Ok(())
         }
@@ -146,7 +146,8 @@ fn add_implementation(
     match declaration {
         Declaration::Type(_) => Ok(()),
         Declaration::Implementation(x) => {
-            let name = spelled_implementation(alloc, &x.name)?;
+            let spelled = spelled_implementation(alloc, &x.name)?;
+            let name = Spelling::from_str(alloc, spelled.as_str())?;
             entries.push(SpelledName { name, at: x.at })?;
             Ok(())
         }

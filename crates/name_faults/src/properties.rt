@@ -19,7 +19,7 @@ use aadl_names::duplicate_names::check_twice;
 use aadl_names::name_comparison::is_spelled;
 use aadl_names::qualified_names::spelled_name;
 use aadl_names::{FaultFinder, PropertyHolder, SpelledName};
-use aadl_tree::{Association, Name, Value};
+use aadl_tree::{Association, Name, Spelling, Value};
 use pals_base::Items;
 use std::alloc::{AllocError, Global};
 
@@ -57,8 +57,9 @@ fn check_shapes(finder: &mut FaultFinder, holder: PropertyHolder, list: &[Associ
 fn association_entry(alloc: Global, association: &Association) -> Result<SpelledName, AllocError>
     ensures { IfOk result (λ entry. entry ≡ spec.association_entry (association_view kept_place association.now)) }
 {
+    let spelled = spelled_name(alloc, &association.name)?;
     Ok(SpelledName {
-        name: spelled_name(alloc, &association.name)?,
+        name: Spelling::from_str(alloc, spelled.as_str())?,
         at: association.name.first.at,
     })
 }

@@ -1,5 +1,5 @@
 -- The plain trees that names stand for. `place` says what is kept of each place.
-use Rattle.std.specs.Prelude.{ℕ, map, option_map, string_bytes}
+use Rattle.std.specs.Prelude.{ℕ, map, option_map}
 use Rattle.aadl_tree.specs.Names.{Identifier, Name, Path, Identifiers, Reference}
 use Rattle.aadl_tree.specs.declared.names.Identifier as source
 use Rattle.aadl_tree.specs.declared.names.Name as source_name
@@ -8,7 +8,7 @@ use Rattle.aadl_tree.specs.declared.names.Identifiers as source_identifiers
 use Rattle.aadl_tree.specs.declared.names.Reference as source_reference
 
 abbrev pub identifier_view : {P : Type 0} → (ℕ → P) → source.Identifier → Identifier P
-identifier_view place x = record { at = place x.at; spelling = string_bytes x.spelling }
+identifier_view place x = record { at = place x.at; spelling = x.spelling }
 
 abbrev pub name_view : {P : Type 0} → (ℕ → P) → source_name.Name → Name P
 name_view place x = record { first = identifier_view place x.first; rest = map (identifier_view place) x.rest.items }

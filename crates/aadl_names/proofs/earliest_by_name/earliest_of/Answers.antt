@@ -14,7 +14,7 @@ loop-number-preserved c = λ name.
     c.index-entries-number.is
     (c.in_ok-add_spot.ensures name ∙ ap (λ n. sooner (value_of c.loop-number.table name)
     (cond (same_name name n) (Some (record { number = c.loop-number.number; at = c.index-entries-number.result.at }))
-    None)) c.as_str.ensures)
+    None)) c.as_str.ensures.value)
     (c.loop-number.invariant name)
 
 pub returns : goal.returns

@@ -20,9 +20,9 @@ loop-entry-preserved c =
     c.loop-entry.invariant
     (c.in_ok-check_one.ensures
     ∙ (ap (λ o. found c.loop-entry.finder (beside_one ports o c.in_ok-other.other x))
-    (c.in_ok-port.ensures ∙ (c.requires.earliest _ ∙ ap (λ n. earliest n 0 ports) c.as_str-name.ensures))
+    (c.in_ok-port.ensures ∙ (c.requires.earliest _ ∙ ap (λ n. earliest n 0 ports) c.as_str-name.ensures.value))
     ∙ ap (λ o. found c.loop-entry.finder (beside_one ports (earliest x.name 0 ports) o x))
-    (c.in_ok-other.ensures ∙ (c.in_ok-own.ensures _ ∙ ap (λ n. earliest n 0 others) c.as_str-name.ensures))))
+    (c.in_ok-other.ensures ∙ (c.in_ok-own.ensures _ ∙ ap (λ n. earliest n 0 others) c.as_str-name.ensures.value))))
 
 pub returns : goal.returns
 unfolding beside
