@@ -1,5 +1,5 @@
 //! What the list of a connection says of the chains that it carries.
-ghost use Rattle.std.specs.Prelude.{◌≡◌, IfOk, codes, option_map, option_copied};
+ghost use Rattle.std.specs.Prelude.{◌≡◌, codes, option_map, option_copied};
 ghost use Rattle.aadl_tree.specs.proof.PlaceMaps.{kept_place};
 ghost use Rattle.aadl_tree.specs.proof.ValueViews.{association_view, associations_view, value_view};
 ghost use Rattle.aadl_names.specs.PropertyValueShapes.{text_of};
@@ -13,8 +13,7 @@ use crate::unquoted_strings::unquoted;
 use crate::word_values::is_word;
 use aadl_names::PropertyName;
 use aadl_tree::{Association, Value};
-use pals_base::{Adaptor, NoMemory};
-use std::alloc::Global;
+use pals_base::Adaptor;
 
 /// What the list of a connection says of the chains that it carries.
 #[derive(Clone, Copy)]
@@ -27,25 +26,25 @@ pub struct ChainProperties {
 
 impl ChainProperties {
     /// What a list says.
-    pub fn of(alloc: Global, list: &[Association]) -> Result<ChainProperties, NoMemory>
-        ensures { IfOk result (λ carried. carried ≡ carried_by (associations_view kept_place list.now)) }
+    pub fn of(list: &[Association]) -> ChainProperties
+        ensures { result ≡ carried_by (associations_view kept_place list.now) }
     {
         let timing = property_in(list, PropertyName::Timing);
         let adaptor = adaptor_of(property_in(list, PropertyName::Adaptor));
-        Ok(ChainProperties {
-            delayed: is_delayed(alloc, timing)?,
+        ChainProperties {
+            delayed: is_delayed(timing),
             adaptor,
-        })
+        }
     }
 }
 
 // Whether the timing that is given is delayed.
-fn is_delayed(alloc: Global, given: Option<&Association>) -> Result<bool, NoMemory>
-    ensures { IfOk result (λ delayed. delayed ≡ says (codes "Delayed") (option_map (association_view kept_place) (option_copied given.entry))) }
+fn is_delayed(given: Option<&Association>) -> bool
+    ensures { result ≡ says (codes "Delayed") (option_map (association_view kept_place) (option_copied given.entry)) }
 {
     match given {
-        Some(given) => is_word(alloc, "Delayed", &given.value),
-        None => Ok(false),
+        Some(given) => is_word("Delayed", &given.value),
+        None => false,
     }
 }
 

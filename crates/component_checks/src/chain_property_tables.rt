@@ -33,7 +33,7 @@ fn connections_of(
 {
     let mut carried = Items::new(alloc);
     for connection in connections {
-        carried.push(ChainProperties::of(alloc, connection.properties.as_slice())?)?;
+        carried.push(ChainProperties::of(connection.properties.as_slice()))?;
     }
     Ok(carried)
 }

@@ -1,5 +1,5 @@
 //! What lists of properties say of a component.
-ghost use Rattle.std.specs.Prelude.{◌≡◌, ◌∷◌, [], IfOk, option_map, option_copied};
+ghost use Rattle.std.specs.Prelude.{◌≡◌, ◌∷◌, [], option_map, option_copied};
 ghost use Rattle.aadl_tree.specs.proof.PlaceMaps.{kept_place};
 ghost use Rattle.aadl_tree.specs.proof.ValueViews.{association_view, associations_view};
 ghost use Rattle.component_checks.specs.proof.ComponentProperties.{period_at, dispatch_at, timed_by, nearer};
@@ -9,8 +9,7 @@ use crate::times::time_within;
 use crate::word_values::is_word;
 use aadl_names::PropertyName;
 use aadl_tree::Association;
-use pals_base::{Nanos, NoMemory};
-use std::alloc::Global;
+use pals_base::Nanos;
 
 /// What lists of properties say of a component, the nearest list first.
 #[derive(Clone, Copy)]
@@ -34,15 +33,13 @@ impl ComponentProperties {
 
     /// What one list says.
     #[tactic(auto, using(crate::proofs::NamedAssociations::first_of_one))]
-    pub fn of(alloc: Global, list: &[Association]) -> Result<ComponentProperties, NoMemory>
-        ensures { IfOk result (λ timed. timed ≡ timed_by (associations_view kept_place list.now ∷ [])) }
+    pub fn of(list: &[Association]) -> ComponentProperties
+        ensures { result ≡ timed_by (associations_view kept_place list.now ∷ []) }
     {
-        let period = period_at(property_in(list, PropertyName::Period));
-        let dispatch = property_in(list, PropertyName::Dispatch);
-        Ok(ComponentProperties {
-            period,
-            periodic: dispatch_at(alloc, dispatch)?,
-        })
+        ComponentProperties {
+            period: period_at(property_in(list, PropertyName::Period)),
+            periodic: dispatch_at(property_in(list, PropertyName::Dispatch)),
+        }
     }
 
     /// The same, and where nothing is given what lists further out say.
@@ -67,11 +64,11 @@ fn period_at(given: Option<&Association>) -> Option<Option<Nanos>>
 }
 
 // Whether the dispatch that is given is periodic.
-fn dispatch_at(alloc: Global, given: Option<&Association>) -> Result<Option<bool>, NoMemory>
-    ensures { IfOk result (λ periodic. periodic ≡ dispatch_at (option_map (association_view kept_place) (option_copied given.entry))) }
+fn dispatch_at(given: Option<&Association>) -> Option<bool>
+    ensures { result ≡ dispatch_at (option_map (association_view kept_place) (option_copied given.entry)) }
 {
     match given {
-        Some(given) => Ok(Some(is_word(alloc, "Periodic", &given.value)?)),
-        None => Ok(None),
+        Some(given) => Some(is_word("Periodic", &given.value)),
+        None => None,
     }
 }

@@ -42,12 +42,12 @@ pub fn numbered_in(
 }
 
 // What a type says.
-fn of_type(alloc: Global, declaration: &Declaration) -> Result<ComponentProperties, NoMemory>
-    ensures { IfOk result (λ timed. timed ≡ spec.type_timed (declaration_view kept_place declaration.now)) }
+fn of_type(declaration: &Declaration) -> ComponentProperties
+    ensures { result ≡ spec.type_timed (declaration_view kept_place declaration.now) }
 {
     match declaration {
-        Declaration::Type(x) => ComponentProperties::of(alloc, x.properties.as_slice()),
-        Declaration::Implementation(_) => Ok(ComponentProperties::none()),
+        Declaration::Type(x) => ComponentProperties::of(x.properties.as_slice()),
+        Declaration::Implementation(_) => ComponentProperties::none(),
     }
 }
 
@@ -60,26 +60,21 @@ pub fn all_of_types(
 {
     let mut types = Items::new(alloc);
     for declaration in &tree.declarations {
-        types.push(of_type(alloc, declaration)?)?;
+        types.push(of_type(declaration))?;
     }
     Ok(types)
 }
 
 // What the implementation of a number says, and its type.
-fn own_of(
-    alloc: Global,
-    uses: &Uses<'_>,
-    types: &[ComponentProperties],
-    number: usize,
-) -> Result<ComponentProperties, NoMemory>
+fn own_of(uses: &Uses<'_>, types: &[ComponentProperties], number: usize) -> ComponentProperties
     requires { types.now ≡ map spec.type_timed (placed uses.now.names.tree.now).declarations }
-    ensures { IfOk result (λ timed. timed ≡ timed_by (root_lists (placed uses.now.names.tree.now) number)) }
+    ensures { result ≡ timed_by (root_lists (placed uses.now.names.tree.now) number) }
 {
     let Some(x) = uses.implementation(number) else {
-        return Ok(ComponentProperties::none());
+        return ComponentProperties::none();
     };
-    let own = ComponentProperties::of(alloc, x.properties.as_slice())?;
-    Ok(own.or(numbered(types, uses.type_number(number))))
+    let own = ComponentProperties::of(x.properties.as_slice());
+    own.or(numbered(types, uses.type_number(number)))
 }
 
 /// What the implementations of a package say, and their types, by their numbers.
@@ -93,26 +88,21 @@ pub fn all_own(
 {
     let mut own = Items::new(alloc);
     for number in 0..uses.len() {
-        own.push(own_of(alloc, uses, types, number)?)?;
+        own.push(own_of(uses, types, number))?;
     }
     Ok(own)
 }
 
 // What a subcomponent says, its implementation and that one's type.
-fn sub_of(
-    alloc: Global,
-    uses: &Uses<'_>,
-    own: &[ComponentProperties],
-    at: SubAt,
-) -> Result<ComponentProperties, NoMemory>
+fn sub_of(uses: &Uses<'_>, own: &[ComponentProperties], at: SubAt) -> ComponentProperties
     requires { own.now ≡ map (spec.own_timed (placed uses.now.names.tree.now)) (placed uses.now.names.tree.now).declarations }
-    ensures { IfOk result (λ timed. timed ≡ timed_by (lists_at (placed uses.now.names.tree.now) at)) }
+    ensures { result ≡ timed_by (lists_at (placed uses.now.names.tree.now) at) }
 {
     let Some(sub) = uses.subcomponent(at.declaration, at.sub) else {
-        return Ok(ComponentProperties::none());
+        return ComponentProperties::none();
     };
-    let said = ComponentProperties::of(alloc, sub.properties.as_slice())?;
-    Ok(said.or(numbered(own, uses.below(at.declaration, at.sub))))
+    let said = ComponentProperties::of(sub.properties.as_slice());
+    said.or(numbered(own, uses.below(at.declaration, at.sub)))
 }
 
 // What the subcomponents of the declaration of a number say, in order.
@@ -128,7 +118,7 @@ fn subs_of(
 {
     let mut timed = Items::new(alloc);
     for sub in 0..uses.targets(declaration).len() {
-        timed.push(sub_of(alloc, uses, own, SubAt { declaration, sub })?)?;
+        timed.push(sub_of(uses, own, SubAt { declaration, sub }))?;
     }
     Ok(timed)
 }

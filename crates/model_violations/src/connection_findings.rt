@@ -172,7 +172,7 @@ fn add_connection_findings(
         (place.connection, connection_view kept_place connection.now)) }
 {
     add_ends_findings(alloc, wires, place, connection, found)?;
-    let said = ChainProperties::of(alloc, connection.properties.as_slice())?;
+    let said = ChainProperties::of(connection.properties.as_slice());
     add_delay_findings(alloc, connection, said, found)?;
     add_adaptor_findings(alloc, carriers.has(place), connection, said, found)?;
     Ok(())

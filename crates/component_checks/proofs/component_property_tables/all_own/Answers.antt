@@ -13,7 +13,7 @@ loop-number-preserved c =
     let size = c.len-number-end.ensures in
     made_next (own_timed tree) (λ d. timed_by (own_lists tree (implementation_in d))) tree.declarations
     c.loop-number.number c.loop-number.own _ _ (λ d. refl)
-    (omega (arith, size, c.loop-number-test.true)) c.loop-number.invariant c.in_ok-own_of.ensures
+    (omega (arith, size, c.loop-number-test.true)) c.loop-number.invariant c.own_of.ensures
     c.in_ok-push.ensures.ok
 
 pub returns : goal.returns

@@ -16,5 +16,5 @@ pub returns : goal.returns
 returns c =
     own_is (placed c.args.uses.now.names.tree.now) c.args.number (implementation_view kept_place c.in-Some.x.now) _ _ _
     _ _ c.requires c.in-Some.ensures c.type_number.ensures
-    (c.in_ok-own.ensures ∙ ap (λ l. timed_by (associations_view kept_place l ∷ [])) c.as_slice.ensures.value)
+    (c.of-own.ensures ∙ ap (λ l. timed_by (associations_view kept_place l ∷ [])) c.as_slice.ensures.value)
     c.numbered.ensures c.or.ensures

@@ -16,5 +16,5 @@ pub returns : goal.returns
 returns c =
     sub_is (placed c.args.uses.now.names.tree.now) c.args.at (subcomponent_view kept_place c.in-Some.sub.now) _ _ _ _ _
     c.requires c.in-Some.ensures c.below.ensures
-    (c.in_ok-said.ensures ∙ ap (λ l. timed_by (associations_view kept_place l ∷ [])) c.as_slice.ensures.value)
+    (c.of-said.ensures ∙ ap (λ l. timed_by (associations_view kept_place l ∷ [])) c.as_slice.ensures.value)
     c.numbered.ensures c.or.ensures

@@ -17,7 +17,7 @@ loop-sub-preserved c =
     ∙ length-map subs (λ (sub : Subcomponent ℕ). referred tree sub.classifier) in
     made_next (sub_timed tree) (λ sub. timed_by (sub_lists tree sub)) subs c.loop-sub.sub c.loop-sub.timed _ _
     (λ sub. refl)
-    (omega (arith, size, c.loop-sub-test.true)) c.loop-sub.invariant c.in_ok-sub_of.ensures c.in_ok-push.ensures.ok
+    (omega (arith, size, c.loop-sub-test.true)) c.loop-sub.invariant c.sub_of.ensures c.in_ok-push.ensures.ok
 
 pub returns : goal.returns
 returns c =
