@@ -1,5 +1,6 @@
 pub mod FirstFaultSoFar
 pub mod NameTables
+pub mod AtMostOneEntry
 pub mod MemberNumbers
 pub mod UnequalWordLists
 pub mod NumberedDeclarations

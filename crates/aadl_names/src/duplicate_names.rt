@@ -15,9 +15,13 @@ use crate::numbered_place::NumberedPlace;
 use std::alloc::AllocError;
 
 /// Finds the declarations that have the name of an earlier one.
+#[tactic(auto, using(crate::proofs::AtMostOneEntry::none_twice, crate::proofs::FirstFaultSoFar::found_append))]
 pub fn check_twice(finder: &mut FaultFinder, entries: &[SpelledName]) -> Result<(), AllocError>
     ensures { OnOk result (finder.new ≡ found finder.old (twice entries.now)) }
 {
+    if entries.len() < 2 {
+        return Ok(());
+    }
     let table = earliest_of(finder.alloc(), entries)?;
     for entry in entries {
         check_entry(finder, &table, entry)?;
