@@ -17,7 +17,7 @@ use Rattle.aadl_chains.specs.proof.PortsJoinedInside.{is_thread_at, is_in_at}
 use Rattle.aadl_chains.specs.Chains.{Port, ConnectionAt, Goes, Leads, is_in, IsStart, IsEnd}
 use Rattle.aadl_chains.specs.proof.PermittedConnections.{ArePermitted}
 use Rattle.aadl_chains.proofs.ConnectionsOnChains.{is_in-at}
-use Rattle.aadl_chains.specs.proof.Walks.{Crossing, at_root, crosses, walk_back, OneEach, IsThreadPort}
+use Rattle.aadl_chains.specs.proof.UpwardWalks.{Crossing, at_root, crosses, walk_back, OneEach, IsThreadPort}
 use Rattle.aadl_chains.specs.LinksFeedsAndTaps.{CarriedChain, not_own, is_crossing, Carries, IsLink, IsFeed, IsTap}
 use Rattle.aadl_uses.specs.proof.IncomingConnections.{connection_into}
 use Rattle.aadl_chains.proofs.FirstIncomingConnections.{Entered, goes_into, known_into, into_of_goes}

@@ -9,7 +9,7 @@ use Rattle.aadl_names.specs.declared.numbered_port.NumberedPort.TheVariants.{Own
 use Rattle.aadl_uses.specs.ContainmentAndUse.{number_at_path}
 use Rattle.aadl_uses.specs.proof.IncomingConnections.{connection_into}
 use Rattle.aadl_chains.specs.Chains.{Port, ConnectionAt, Goes, Leads}
-use Rattle.aadl_chains.specs.proof.Walks.{Crossing, WalkEnd, nowhere, at_root, crosses, walk_back_along, walk_back_into, walk_back}
+use Rattle.aadl_chains.specs.proof.UpwardWalks.{Crossing, WalkEnd, nowhere, at_root, crosses, walk_back_along, walk_back_into, walk_back}
 use Rattle.aadl_chains.proofs.FirstIncomingConnections.{Entered, entered, goes_into}
 
 abbrev port : List ℕ → ℕ → Port

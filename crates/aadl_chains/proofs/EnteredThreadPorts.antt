@@ -16,7 +16,7 @@ use Rattle.aadl_chains.specs.Chains.{Port}
 use Rattle.aadl_chains.specs.proof.PermittedConnections.{ArePermitted}
 use Rattle.aadl_chains.proofs.ConnectionsOnChains.{is_in-at}
 use Rattle.aadl_chains.specs.proof.LimitedCounts.{IsNumber}
-use Rattle.aadl_chains.specs.proof.Walks.{Crossing, at_root, crosses, walk_back, IsThreadPort}
+use Rattle.aadl_chains.specs.proof.UpwardWalks.{Crossing, at_root, crosses, walk_back, IsThreadPort}
 use Rattle.aadl_chains.specs.proof.EnteredThreadPorts.{ComesFrom, EndsLink, IsEnteredThrough, IsLinkBelow, AmongFirst, FromOwn}
 use Rattle.aadl_chains.specs.proof.EnteredThreadPorts.{FromThread}
 use Rattle.aadl_chains.proofs.LimitedCounts.{no_number, one_number, both_numbers, image_number}

@@ -12,7 +12,7 @@ use Rattle.aadl_uses.specs.declared.connections_by_target.ConnectionPorts.{Conne
 use Rattle.aadl_uses.specs.PortsOfConnections.{ports_of_connection, wires_of, connection_ports_at}
 use Rattle.aadl_chains.specs.proof.PermittedConnections.{MayEnter, ArePermitted}
 use Rattle.aadl_chains.specs.proof.FaultlessConnections.{AreFaultless}
-use Rattle.aadl_chains.specs.proof.Walks.{OneEach}
+use Rattle.aadl_chains.specs.proof.UpwardWalks.{OneEach}
 
 module _ (tree : PackageTree ℕ) (root : ℕ) where
   wire_at : (n k : ℕ) (component : Implementation ℕ) (x : Connection ℕ) → implementation_at tree n ≡ Some component

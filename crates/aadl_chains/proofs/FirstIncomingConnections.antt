@@ -26,7 +26,7 @@ use Rattle.aadl_chains.specs.proof.PortsJoinedInside.{is_thread_at, is_in_at}
 use Rattle.aadl_chains.specs.Chains.{Port, ConnectionAt, port_at, Goes}
 use Rattle.aadl_chains.specs.proof.PermittedConnections.{MayLeave, MayEnter, NotBothOwn, ArePermitted}
 use Rattle.aadl_chains.proofs.ConnectionsOnChains.{among_goes, wire_of_goes}
-use Rattle.aadl_chains.specs.proof.Walks.{OneEach}
+use Rattle.aadl_chains.specs.proof.UpwardWalks.{OneEach}
 use Rattle.aadl_chains.specs.proof.DownwardSteps.{IsFromInner}
 
 -- ---- the first that passes a test

@@ -33,7 +33,7 @@ use Rattle.aadl_chains.specs.ChainFaults.{IsEndFault}
 use Rattle.aadl_chains.specs.proof.PermittedConnections.{ArePermitted}
 use Rattle.aadl_chains.proofs.ConnectionsOnChains.{next_at, is_in-at}
 use Rattle.aadl_chains.specs.proof.LimitedCounts.{Distinct, IsNumber}
-use Rattle.aadl_chains.specs.proof.Walks.{OneEach}
+use Rattle.aadl_chains.specs.proof.UpwardWalks.{OneEach}
 use Rattle.aadl_chains.specs.LinksFeedsAndTaps.{CarriedChain, IsLink, OtherTarget}
 use Rattle.aadl_chains.specs.proof.EnteredThreadPorts.{EndsLink, IsEnteredThrough, IsLinkBelow, AmongFirst, FromThread}
 use Rattle.aadl_chains.proofs.LimitedCounts.{no_number, same_number, both_numbers, no_more}

@@ -18,7 +18,7 @@ use Rattle.aadl_chains.specs.declared.chain_tracing.ChainStart.{ChainStart}
 use Rattle.aadl_chains.specs.declared.chain_tracing.ChainStart.TheVariants as begins
 use Rattle.aadl_chains.specs.declared.chain_tracing.ChainRoute.{ChainRoute}
 use Rattle.aadl_chains.specs.proof.TracedChains.{Passes, carried_chain, IsGiver, Descends, Traces, TracesTap}
-use Rattle.aadl_chains.specs.proof.Walks.{Crossing, nowhere, at_root, crosses, walk_back, OneEach, IsThreadPort}
+use Rattle.aadl_chains.specs.proof.UpwardWalks.{Crossing, nowhere, at_root, crosses, walk_back, OneEach, IsThreadPort}
 use Rattle.aadl_chains.specs.LinksFeedsAndTaps.{CarriedChain, IsLink, IsFeed, IsTap}
 use Rattle.aadl_chains.proofs.UniqueIncomingChains.{passes_end, passes_before, only_start, no_chain}
 use Rattle.aadl_chains.proofs.FirstIncomingConnections.{entered, goes_into, into_of_goes, inner_of}

@@ -12,8 +12,8 @@ use Rattle.aadl_chains.specs.proof.PortsJoinedInside.{is_in_at}
 use Rattle.aadl_chains.specs.proof.PermittedConnections.{MayLeave, ArePermitted}
 use Rattle.aadl_chains.proofs.ConnectionsOnChains.{next_at}
 use Rattle.aadl_chains.specs.declared.chain_tracing.ConnectionInto.{ConnectionInto}
-use Rattle.aadl_chains.specs.proof.Walks.{Crossing, WalkEnd, nowhere, crosses, walk_back, walk_back_by, walk_back_along}
-use Rattle.aadl_chains.specs.proof.Walks.{walk_back_into}
+use Rattle.aadl_chains.specs.proof.UpwardWalks.{Crossing, WalkEnd, nowhere, crosses, walk_back, walk_back_by, walk_back_along}
+use Rattle.aadl_chains.specs.proof.UpwardWalks.{walk_back_into}
 use Rattle.aadl_chains.specs.proof.WalkResults.{entry}
 use Rattle.aadl_chains.proofs.FirstIncomingConnections.{known}
 use Rattle.aadl_chains.proofs.ChainsOfWalks.{crossed}

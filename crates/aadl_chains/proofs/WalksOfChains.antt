@@ -17,7 +17,7 @@ use Rattle.aadl_chains.specs.proof.PortsJoinedInside.{is_in_at, Reaches, of_thre
 use Rattle.aadl_chains.specs.Chains.{Port, ConnectionAt, port_at, Goes, Leads, is_in, IsStart}
 use Rattle.aadl_chains.specs.proof.PermittedConnections.{MayLeave, MayEnter, NotBothOwn, ArePermitted}
 use Rattle.aadl_chains.proofs.ConnectionsOnChains.{next_at, below_at, is_in-at, thread_from}
-use Rattle.aadl_chains.specs.proof.Walks.{Crossing, at_root, crosses, walk_back, OneEach}
+use Rattle.aadl_chains.specs.proof.UpwardWalks.{Crossing, at_root, crosses, walk_back, OneEach}
 use Rattle.aadl_chains.specs.LinksFeedsAndTaps.{not_own, is_crossing}
 use Rattle.aadl_chains.proofs.FirstIncomingConnections.{into_of_goes, Known, known}
 use Rattle.aadl_chains.proofs.ChainsOfWalks.{climb_own, climb_inner}

@@ -14,8 +14,8 @@ use Rattle.aadl_uses.specs.proof.ThreadCounts.{is_thread_in}
 use Rattle.aadl_uses.specs.proof.IncomingConnections.{connection_into}
 use Rattle.aadl_chains.specs.proof.PortsJoinedInside.{is_thread_at}
 use Rattle.aadl_chains.specs.Chains.{Port, is_in}
-use Rattle.aadl_chains.specs.proof.Walks.{Crossing, WalkEnd, nowhere, at_root, crosses, walk_back_by, walk_back_along, walk_back_into}
-use Rattle.aadl_chains.specs.proof.Walks.{walk_back, IsThreadPort}
+use Rattle.aadl_chains.specs.proof.UpwardWalks.{Crossing, WalkEnd, nowhere, at_root, crosses, walk_back_by, walk_back_along, walk_back_into}
+use Rattle.aadl_chains.specs.proof.UpwardWalks.{walk_back, IsThreadPort}
 use Rattle.aadl_chains.proofs.FirstIncomingConnections.{Entered, entered}
 
 abbrev port : List ℕ → ℕ → Port

@@ -12,7 +12,7 @@ use Rattle.aadl_chains.specs.Chains.{Port}
 use Rattle.aadl_chains.specs.proof.PermittedConnections.{ArePermitted}
 use Rattle.aadl_chains.specs.declared.chain_tracing.ChainStart.{ChainStart}
 use Rattle.aadl_chains.specs.declared.chain_tracing.PortBelow.{PortBelow}
-use Rattle.aadl_chains.specs.proof.Walks.{Crossing, at_root, crosses, walk_back, OneEach, IsThreadPort}
+use Rattle.aadl_chains.specs.proof.UpwardWalks.{Crossing, at_root, crosses, walk_back, OneEach, IsThreadPort}
 use Rattle.aadl_chains.specs.proof.TracedChains.{Descends, Traces, TracesTap}
 use Rattle.aadl_chains.specs.proof.WalkResults.{route_from, route_from_root}
 use Rattle.aadl_chains.proofs.WalkResults.{crossing_from}

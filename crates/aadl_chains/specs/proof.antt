@@ -6,7 +6,7 @@ pub mod PermittedConnections
 pub mod ConnectionsOnChains
 pub mod FoundChainFaults
 pub mod FaultlessConnections
-pub mod Walks
+pub mod UpwardWalks
 pub mod LimitedCounts
 pub mod TracedChains
 pub mod WalkResults

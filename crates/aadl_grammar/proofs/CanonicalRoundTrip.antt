@@ -4,7 +4,7 @@ use Rattle.std.proofs.Common.{◌≡◌, ◌∙◌, ℕ, ◌<◌, Bool, false, s
 use Rattle.std.proofs.lemmas.List.{append-nil}
 use Rattle.aadl_lex.specs.declared.token.Token.{Token}
 use Rattle.aadl_lex.specs.declared.rules.Reading.TheVariants.{Outside}
-use Rattle.aadl_lex.specs.Tokens.{AreInOrder}
+use Rattle.aadl_lex.specs.TokensAndFirstFaults.{AreInOrder}
 use Rattle.aadl_lex.proofs.TokenOrder.{order_lexes}
 use Rattle.aadl_lex.proofs.UniqueTokens.{lexes_one}
 use Rattle.aadl_tree.specs.declared.mark.Mark.TheVariants as k
@@ -12,7 +12,7 @@ use Rattle.aadl_tree.specs.Terminals.{PlainTerminal, mark, inside_behind, spots_
 use Rattle.aadl_tree.specs.SpellingParts.{Spells, Written, kept}
 use Rattle.aadl_tree.specs.Declarations.{PackageTree, package_parts}
 use Rattle.aadl_tree.specs.proof.PlaceMaps.{package_to, no_place}
-use Rattle.aadl_tree.specs.LanguagesAndNesting.{IsShallow}
+use Rattle.aadl_tree.specs.PackagesBehavioursAndNesting.{IsShallow}
 use Rattle.aadl_tree.specs.TextTreesAndFaults.{IsTreeOf}
 use Rattle.aadl_tree.specs.CanonicalText.{canon, canonical}
 use Rattle.aadl_tree.proofs.SpellingParts.{written_spells, kept_spells}

@@ -9,7 +9,7 @@ use Rattle.aadl_lex.specs.declared.token.TokenKind.TheVariants.{AnnexOpen, Annex
 use Rattle.aadl_lex.specs.declared.rules.Reading.{Reading}
 use Rattle.aadl_lex.specs.declared.rules.Reading.TheVariants.{Outside, AfterName, Inside}
 use Rattle.aadl_lex.specs.Rules.{is_blank, close_from, first, after}
-use Rattle.aadl_lex.specs.Tokens.{token, Lexes, ended, takes, reads}
+use Rattle.aadl_lex.specs.TokensAndFirstFaults.{token, Lexes, ended, takes, reads}
 use Rattle.aadl_tree.specs.declared.mark.Mark.TheVariants as k
 use Rattle.aadl_tree.specs.KeywordsAndSymbols.{mark_text, keyword_of, symbol_of}
 use Rattle.aadl_tree.specs.Terminals.{PlainTerminal, mark, class_kind, inside_behind, spots_from, kinds_of}

@@ -7,7 +7,7 @@ use Rattle.aadl_tree.specs.SpellingParts.{SpellingPart, token, may, feature_sect
 use Rattle.aadl_tree.specs.SpellingParts.{property_section, Extra, empty_section, last_semicolon, extra_kinds, Spells}
 use Rattle.aadl_tree.specs.SpellingParts.{kept}
 use Rattle.aadl_tree.specs.declared.nesting_limit.TheConstants.{GREATEST_NESTING}
-use Rattle.aadl_tree.specs.LanguagesAndNesting.{opened, is_end, nesting_from, IsShallow}
+use Rattle.aadl_tree.specs.PackagesBehavioursAndNesting.{opened, is_end, nesting_from, IsShallow}
 
 -- nowhere are too many open, where n are open before
 abbrev Low : ℕ → Bool → List PlainTerminal → Type 0

@@ -15,7 +15,7 @@ use Rattle.aadl_lex.specs.declared.rules.Reading.TheVariants.{Outside, AfterName
 use Rattle.aadl_lex.specs.Rules.{is_word, decimal, after}
 use Rattle.aadl_lex.specs.proof.TokenSpellings as spelled
 use Rattle.aadl_lex.specs.proof.TokenSpellings.{IsSpelled, AreSpelled}
-use Rattle.aadl_lex.specs.Tokens.{bytes_of, AreTokensOf, AreInOrder}
+use Rattle.aadl_lex.specs.TokensAndFirstFaults.{bytes_of, AreTokensOf, AreInOrder}
 use Rattle.aadl_lex.proofs.TokenOrder.{order_le, order_tokens}
 use Rattle.aadl_lex.proofs.TokensAsWritten.{spelled_tokens}
 use Rattle.aadl_tree.specs.declared.mark.Mark.{Mark}

@@ -10,7 +10,7 @@ use Rattle.aadl_lex.specs.declared.token.Token.{Token}
 use Rattle.aadl_lex.specs.declared.token.TokenKind.{TokenKind}
 use Rattle.aadl_lex.specs.declared.rules.Reading.{Reading}
 use Rattle.aadl_lex.specs.Rules.{is_blank, close_from, first}
-use Rattle.aadl_lex.specs.Tokens.{token, bytes_of, Lexes, skips}
+use Rattle.aadl_lex.specs.TokensAndFirstFaults.{token, bytes_of, Lexes, skips}
 use Rattle.aadl_tree.specs.Terminals.{PlainTerminal}
 use Rattle.aadl_tree.specs.CanonicalText.{holds_left, holds_right, ends_line, line_end, between}
 use Rattle.aadl_grammar.proofs.WordAndSymbolLexing.{space_first, line_end_first}

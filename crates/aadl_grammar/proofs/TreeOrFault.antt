@@ -1,11 +1,11 @@
 -- Each text has a tree or a first fault: the claim `tree_or_fault`.
 use Rattle.std.proofs.Common.{◌≡◌, ◌⊎◌, inl, inr, ℕ, sym, subst, List, [], ◌∷◌, length, refl}
 use Rattle.aadl_lex.specs.declared.token.Token.{Token}
-use Rattle.aadl_lex.specs.Tokens.{AreTokensOf}
+use Rattle.aadl_lex.specs.TokensAndFirstFaults.{AreTokensOf}
 use Rattle.aadl_tree.specs.Terminals.{PlacedTerminal, placed_terminals, kinds_of}
 use Rattle.aadl_tree.specs.SpellingParts.{SpellingPart, Spells, Written}
 use Rattle.aadl_tree.specs.Declarations.{PackageTree, package_parts}
-use Rattle.aadl_tree.specs.LanguagesAndNesting.{IsPackage}
+use Rattle.aadl_tree.specs.PackagesBehavioursAndNesting.{IsPackage}
 use Rattle.aadl_tree.specs.proof.PlaceMaps.{no_place, package_to}
 use Rattle.aadl_grammar.specs.proof.StackMachine.{Fate, finished, syntax_at, deep_at, fate, whole_package}
 use Rattle.aadl_grammar.proofs.PlaceIndependence.AlikeParts.{alike_spells}

@@ -7,7 +7,7 @@ ghost use Rattle.aadl_tree.specs.declared.mark.Mark.TheVariants as k;
 ghost use Rattle.aadl_tree.specs.SpellingParts.{Spells, Written, kept};
 ghost use Rattle.aadl_tree.specs.Annexes.{AnnexTree, annex_tree_parts};
 ghost use Rattle.aadl_tree.specs.Declarations.{PackageTree, package_parts};
-ghost use Rattle.aadl_tree.specs.LanguagesAndNesting.{nesting, IsPackage, IsBehaviour, IsShallow};
+ghost use Rattle.aadl_tree.specs.PackagesBehavioursAndNesting.{nesting, IsPackage, IsBehaviour, IsShallow};
 ghost use Rattle.aadl_tree.specs.TerminalFaults.{FailsAt, DeepAt};
 ghost use Rattle.aadl_tree.specs.proof.ExampleSpellings.{counting_kinds};
 ghost use Rattle.aadl_grammar.specs.proof.GrammarSymbols.{Symbol};

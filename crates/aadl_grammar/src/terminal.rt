@@ -1,7 +1,7 @@
 //! Terminals: tokens, and whether each is a keyword.
 ghost use Rattle.std.specs.Prelude.{◌≡◌, IfOk, All};
 ghost use Rattle.aadl_lex.specs.proof.TokenSpellings.{IsWordAt};
-ghost use Rattle.aadl_lex.specs.Tokens.{bytes_of};
+ghost use Rattle.aadl_lex.specs.TokensAndFirstFaults.{bytes_of};
 ghost use Rattle.aadl_lex.specs.declared.token.TokenKind.TheVariants as class;
 ghost use Rattle.aadl_tree.specs.Terminals.{spots_from, kind_of};
 ghost use Rattle.aadl_grammar.specs.proof.TerminalViews.{between, kind_with, spots_of, AreWords};

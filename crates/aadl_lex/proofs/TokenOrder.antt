@@ -9,7 +9,7 @@ use Rattle.aadl_lex.specs.declared.rules.First.TheVariants.{Skipped, Taken, Body
 use Rattle.aadl_lex.specs.declared.rules.Reading.{Reading}
 use Rattle.aadl_lex.specs.declared.rules.Reading.TheVariants.{Outside, Inside}
 use Rattle.aadl_lex.specs.Rules.{first, after, IsWithin}
-use Rattle.aadl_lex.specs.Tokens.{token, Lexes, ended, skips, takes, reads, AreTokensOf, AreInOrder}
+use Rattle.aadl_lex.specs.TokensAndFirstFaults.{token, Lexes, ended, skips, takes, reads, AreTokensOf, AreInOrder}
 use Rattle.aadl_lex.proofs.FrontExtents.{first_within}
 
 order_from : (from behind to : ℕ) (ts : List Token) → from ≤ behind → AreInOrder behind to ts → AreInOrder from to ts

@@ -16,7 +16,7 @@ use Rattle.aadl_lex.specs.declared.rules.First.TheVariants.{Skipped, Taken, Body
 use Rattle.aadl_lex.specs.declared.rules.Reading.{Reading}
 use Rattle.aadl_lex.specs.declared.rules.Reading.TheVariants.{Outside, AfterName, Inside}
 use Rattle.aadl_lex.specs.Rules.{is_word, can_open, close_from, first, after}
-use Rattle.aadl_lex.specs.Tokens.{token, bytes_of, Lexes, ended, skips, takes, reads, AreTokensOf}
+use Rattle.aadl_lex.specs.TokensAndFirstFaults.{token, bytes_of, Lexes, ended, skips, takes, reads, AreTokensOf}
 use Rattle.aadl_lex.specs.proof.TokenSpellings.{IsSpelled, AreSpelled, behind, IsWordAt, AreAmongTokensOf}
 use Rattle.aadl_lex.proofs.TokenOrder.{stands_within}
 use Rattle.aadl_lex.proofs.AnnexEnds.{none_drop, none_before, closes_of, closes_bytes, starts_exact}

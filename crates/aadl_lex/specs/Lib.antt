@@ -1,3 +1,3 @@
 pub mod Rules
-pub mod Tokens
+pub mod TokensAndFirstFaults
 pub mod proof

@@ -10,7 +10,7 @@ ghost use Rattle.aadl_lex.specs.declared.fault.LexFault.{LexFault};
 ghost use Rattle.aadl_lex.specs.declared.token.Token.{Token};
 ghost use Rattle.aadl_lex.specs.declared.rules.Reading.TheVariants.{Outside};
 ghost use Rattle.aadl_lex.specs.proof.TokenSpellings.{IsWordAt, AreAmongTokensOf, AreSpelled};
-ghost use Rattle.aadl_lex.specs.Tokens.{Adds, Faults, AreTokensOf, AreInOrder, IsFaultOf};
+ghost use Rattle.aadl_lex.specs.TokensAndFirstFaults.{Adds, Faults, AreTokensOf, AreInOrder, IsFaultOf};
 
 mod fault;
 mod rules;

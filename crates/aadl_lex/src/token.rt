@@ -37,7 +37,7 @@ pub struct Token {
 
 impl Token {
     ghost use Rattle.std.specs.Prelude.{◌≡◌, ◌+◌, ◌≤◌};
-    ghost use Rattle.aadl_lex.specs.Tokens.{token};
+    ghost use Rattle.aadl_lex.specs.TokensAndFirstFaults.{token};
 
     /// The token of this kind and of `len` bytes from `start` on.
     pub(crate) fn new(kind: TokenKind, start: usize, len: usize) -> Token

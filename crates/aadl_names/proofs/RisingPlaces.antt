@@ -3,7 +3,7 @@ use Rattle.std.proofs.Common.{inl, inr, ℕ, ◌+◌, ◌<◌, ◌≤◌, Bool, 
 use Rattle.std.proofs.Common.{subst, arith}
 use Rattle.std.proofs.lemmas.List.Elements.{All-append, All-cons, All-nil}
 use Rattle.aadl_lex.specs.declared.token.Token.{Token}
-use Rattle.aadl_lex.specs.Tokens.{AreInOrder}
+use Rattle.aadl_lex.specs.TokensAndFirstFaults.{AreInOrder}
 use Rattle.aadl_lex.proofs.TokenOrder.{order_tokens}
 use Rattle.aadl_tree.specs.Declarations.{PackageTree, package_parts}
 use Rattle.aadl_tree.specs.TextTreesAndFaults.{IsTreeOf}

@@ -3,11 +3,11 @@ use Rattle.std.proofs.Common.{◌≡◌, sym, ℕ, ◌<◌, ◌∙◌, ap, subst
 use Rattle.std.specs.Prelude.{IfErr, Result, Ok, Err}
 use Rattle.std.specs.Result.{IsErrAnd}
 use Rattle.aadl_lex.specs.declared.token.Token.{Token}
-use Rattle.aadl_lex.specs.Tokens.{AreTokensOf}
+use Rattle.aadl_lex.specs.TokensAndFirstFaults.{AreTokensOf}
 use Rattle.aadl_tree.specs.Terminals.{PlacedTerminal, placed_terminals}
 use Rattle.aadl_tree.specs.SpellingParts.{Written}
 use Rattle.aadl_tree.specs.Declarations.{PackageTree, package_parts}
-use Rattle.aadl_tree.specs.LanguagesAndNesting.{IsPackage}
+use Rattle.aadl_tree.specs.PackagesBehavioursAndNesting.{IsPackage}
 use Rattle.aadl_tree.specs.TerminalFaults.{place}
 use Rattle.aadl_tree.specs.TextTreesAndFaults.{IsTreeOf}
 use Rattle.aadl_grammar.specs.proof.GrammarSymbols as s

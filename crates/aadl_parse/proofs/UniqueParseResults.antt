@@ -7,7 +7,7 @@ use Rattle.aadl_tree.proofs.SpellingParts.{written_spells}
 use Rattle.aadl_tree.specs.Terminals.{placed_terminals, kinds_of}
 use Rattle.aadl_tree.specs.SpellingParts.{Written}
 use Rattle.aadl_tree.specs.Declarations.{PackageTree, package_parts}
-use Rattle.aadl_tree.specs.LanguagesAndNesting.{IsPackage, IsShallow}
+use Rattle.aadl_tree.specs.PackagesBehavioursAndNesting.{IsPackage, IsShallow}
 use Rattle.aadl_tree.specs.TerminalFaults.{FailsAt, DeepAt}
 use Rattle.aadl_tree.specs.TextTreesAndFaults.{IsTreeOf}
 use Rattle.aadl_grammar.proofs.Fates.ExclusiveFates.{fails_once, fails_not_deep, deep_once}

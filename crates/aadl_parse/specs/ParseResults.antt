@@ -1,7 +1,7 @@
 -- What parsing answers of a text: its only tree, or its fault with a place.
 use Rattle.std.specs.Prelude.{ℕ, ◌≡◌, ◌≢◌, List}
 use Rattle.std.specs.Str.{IsUtf8}
-use Rattle.aadl_lex.specs.Tokens.{IsFaultOf}
+use Rattle.aadl_lex.specs.TokensAndFirstFaults.{IsFaultOf}
 use Rattle.aadl_tree.specs.Declarations.{PackageTree}
 use Rattle.aadl_tree.specs.TextTreesAndFaults.{IsTreeOf, StopsAt, NestsAt}
 use Rattle.aadl_grammar.specs.declared.parse_fault.ParseFault.{ParseFault}

@@ -2,7 +2,7 @@
 use Rattle.std.proofs.Common.{◌≡◌, ℕ, List, [], sym, subst, ◌∙◌}
 use Rattle.std.proofs.lemmas.List.{append-nil}
 use Rattle.aadl_lex.specs.declared.token.Token.{Token}
-use Rattle.aadl_lex.specs.Tokens.{AreTokensOf}
+use Rattle.aadl_lex.specs.TokensAndFirstFaults.{AreTokensOf}
 use Rattle.aadl_lex.specs.proof.TokenSpellings.{AreAmongTokensOf}
 
 pub all_among : (text : List ℕ) (tokens slice : List Token) → slice ≡ tokens → AreTokensOf text tokens

@@ -4,19 +4,19 @@
 
 mod behaviour_answers;
 mod cycles_and_uses;
+mod fault_lines;
 mod first_name_faults;
 mod package_answers;
 mod text_answers;
-mod text_faults;
 mod thread_limit;
 
 use behaviour_answers::behaviour;
 use case_files::{Answers, asked, check, text_of};
+use fault_lines::messages;
 use package_answers::Packages;
 use std::alloc::{AllocError, Global};
 use std::io;
 use text_answers::{compared, printed, read, tokens};
-use text_faults::messages;
 
 // What an answer tells of a text.
 fn told(alloc: Global, asked: &str, text: &[u8]) -> Result<Vec<u8>, AllocError> {

@@ -1,6 +1,6 @@
 //! The program's answers on texts: tokens, whether there is a tree, the canonical text, and whether two texts have
 //! one tree.
-use crate::text_faults::{lex_fault, text_fault};
+use crate::fault_lines::{lex_fault, text_fault};
 use aadl_lex::{Token, lex};
 use aadl_parse::{TextFault, parse};
 use aadl_print::{is_read_back, print};

@@ -9,11 +9,11 @@ use Rattle.std.specs.Cmp.{first_so, second_so}
 use Rattle.aadl_lex.specs.declared.token.TokenKind.TheVariants.{Word, Symbol}
 use Rattle.aadl_lex.specs.declared.rules.Reading.TheVariants.{Outside}
 use Rattle.aadl_lex.specs.Rules.{first}
-use Rattle.aadl_lex.specs.Tokens.{Lexes, ended, skips, takes, AreTokensOf}
+use Rattle.aadl_lex.specs.TokensAndFirstFaults.{Lexes, ended, skips, takes, AreTokensOf}
 use Rattle.aadl_tree.specs.Terminals.{PlainTerminal, placed_terminals, kinds_of}
 use Rattle.aadl_tree.specs.SpellingParts.{Written}
 use Rattle.aadl_tree.specs.Declarations.{package_parts}
-use Rattle.aadl_tree.specs.LanguagesAndNesting.{opened, is_end, nesting_from, IsShallow}
+use Rattle.aadl_tree.specs.PackagesBehavioursAndNesting.{opened, is_end, nesting_from, IsShallow}
 use Rattle.aadl_tree.specs.TextTreesAndFaults.{IsTreeOf}
 use Rattle.aadl_tree.specs.proof.EmptyPackage.{package_text, package_tokens, small_package}
 

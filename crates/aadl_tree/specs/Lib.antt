@@ -7,7 +7,7 @@ pub mod Expressions
 pub mod Actions
 pub mod Annexes
 pub mod Declarations
-pub mod LanguagesAndNesting
+pub mod PackagesBehavioursAndNesting
 pub mod CanonicalText
 pub mod ExpressionOffsets
 pub mod TextTreesAndFaults

@@ -2,7 +2,7 @@
 use Rattle.std.specs.Prelude.{ℕ, ◌≡◌, ◌+◌, List, [], ◌∷◌, ◌++◌}
 use Rattle.aadl_tree.specs.declared.nesting_limit.TheConstants.{GREATEST_NESTING}
 use Rattle.aadl_tree.specs.Terminals.{PlainTerminal, PlacedTerminal, kinds_of}
-use Rattle.aadl_tree.specs.LanguagesAndNesting.{IsShallow, nesting}
+use Rattle.aadl_tree.specs.PackagesBehavioursAndNesting.{IsShallow, nesting}
 
 -- Below, a language is which terminals are its texts.
 

@@ -2,7 +2,7 @@
 use Rattle.std.specs.Prelude.{ℕ, ℤ, Bool, true, false, List, [], ◌∷◌, map, Option, Some, None}
 use Rattle.aadl_lex.specs.declared.token.Token.{Token}
 use Rattle.aadl_lex.specs.declared.token.TokenKind.{TokenKind}
-use Rattle.aadl_lex.specs.Tokens.{bytes_of}
+use Rattle.aadl_lex.specs.TokensAndFirstFaults.{bytes_of}
 use Rattle.aadl_tree.specs.declared.mark.Mark.{Mark}
 use Rattle.aadl_tree.specs.KeywordsAndSymbols.{keyword_of, symbol_of}
 use Rattle.aadl_lex.specs.declared.token.TokenKind.TheVariants as class

@@ -1,12 +1,12 @@
 -- Which tree the grammar gives for a text or a behaviour, and where it gives none.
 use Rattle.std.specs.Prelude.{ℕ, true, List, [], length}
 use Rattle.aadl_lex.specs.declared.token.Token.{Token}
-use Rattle.aadl_lex.specs.Tokens.{AreTokensOf}
+use Rattle.aadl_lex.specs.TokensAndFirstFaults.{AreTokensOf}
 use Rattle.aadl_tree.specs.Terminals.{spots_from, placed_terminals, kinds_of}
 use Rattle.aadl_tree.specs.SpellingParts.{Written}
 use Rattle.aadl_tree.specs.Annexes.{AnnexTree, annex_tree_parts}
 use Rattle.aadl_tree.specs.Declarations.{PackageTree, package_parts}
-use Rattle.aadl_tree.specs.LanguagesAndNesting.{IsPackage, IsShallow}
+use Rattle.aadl_tree.specs.PackagesBehavioursAndNesting.{IsPackage, IsShallow}
 use Rattle.aadl_tree.specs.TerminalFaults.{FailsAt, DeepAt}
 
 -- The tree of a text: its tokens spell it, in their places, and are nowhere nested too deep.

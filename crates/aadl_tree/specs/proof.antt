@@ -13,5 +13,5 @@ pub mod BehaviourFaultPlaces
 pub mod PackageViews
 pub mod EmptyPackage
 pub mod AnnexViews
-pub mod GivenTrees
+pub mod TreesOfSomeText
 pub mod ExampleTokensAndTerminals

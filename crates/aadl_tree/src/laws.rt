@@ -2,7 +2,7 @@
 ghost use Rattle.std.specs.Prelude.{◌≡◌, ◌↔◌, ℕ, List, [], ◌∷◌, ◌++◌, Some, None, codes, true, false, map, IsTrue};
 ghost use Rattle.std.specs.Prelude.{is_some};
 ghost use Rattle.aadl_lex.specs.proof.TokenSpellings.{IsSymbol};
-ghost use Rattle.aadl_lex.specs.Tokens.{AreTokensOf};
+ghost use Rattle.aadl_lex.specs.TokensAndFirstFaults.{AreTokensOf};
 ghost use Rattle.aadl_tree.specs.declared.mark.Mark.TheVariants as k;
 ghost use Rattle.aadl_tree.specs.KeywordsAndSymbols.{mark_text, keywords_inside, keywords_outside, symbols, keyword_of};
 ghost use Rattle.aadl_tree.specs.KeywordsAndSymbols.{symbol_of};
@@ -12,7 +12,7 @@ ghost use Rattle.aadl_tree.specs.Annexes.{transition_parts};
 ghost use Rattle.aadl_tree.specs.declared.package.PackageTree.{PackageTree as SourceTree};
 ghost use Rattle.aadl_tree.specs.proof.PlaceMaps.{package_to, no_place};
 ghost use Rattle.aadl_tree.specs.proof.PackageViews.{package_view, placed, meaning};
-ghost use Rattle.aadl_tree.specs.LanguagesAndNesting.{nesting};
+ghost use Rattle.aadl_tree.specs.PackagesBehavioursAndNesting.{nesting};
 ghost use Rattle.aadl_tree.specs.TextTreesAndFaults.{IsTreeOf};
 ghost use Rattle.aadl_tree.specs.CanonicalText.{canonical, canon};
 ghost use Rattle.aadl_tree.specs.proof.ExampleSpellings.{counting, counting_kinds, counting_text};

@@ -1,6 +1,6 @@
 //! The tree of a whole text.
 ghost use Rattle.std.specs.Prelude.{map};
-ghost use Rattle.aadl_tree.specs.proof.GivenTrees.{IsGiven};
+ghost use Rattle.aadl_tree.specs.proof.TreesOfSomeText.{IsGiven};
 ghost use Rattle.aadl_tree.specs.proof.NameViews.{name_view};
 ghost use Rattle.aadl_tree.specs.proof.DeclarationViews.{with_view, declaration_view};
 ghost use Rattle.aadl_tree.specs.proof.PlaceMaps.{kept_place};

@@ -13,7 +13,7 @@ use Rattle.scenario_values.specs.FaultPlaces.{inside}
 use Rattle.analysis_fields.specs.contracts.replica_faults.FaultKeyPartialEq.TheImpl.{ghosts}
 use Rattle.analysis_fields.specs.declared.replica_faults.FaultKey.{FaultKey}
 use Rattle.analysis_fields.specs.declared.replica_faults.RoundFault.{RoundFault}
-use Rattle.analysis_fields.specs.ReplicasAndFaults.{key_of, has_same_key, fault_in, with_fault}
+use Rattle.analysis_fields.specs.ReplicasAndTheirFaults.{key_of, has_same_key, fault_in, with_fault}
 
 -- a place is among those of faults where one of them stands there
 seen : (same : FaultKey → FaultKey → Bool)

@@ -1,5 +1,4 @@
--- For FaultAndProcessorFacts: each processor that was read has a time for an instruction, and serves components of
--- the design.
+-- Each processor that was read has a time for an instruction, and serves components of the design.
 use Rattle.std.proofs.Common.{◌≡◌, ℕ, zero, suc, ◌<◌, ◌≤◌, ◌+◌, Bool, true, false, ◌&&◌, cond, List, [], ◌∷◌, ◌++◌}
 use Rattle.std.proofs.Common.{length, map, get_or, codes, Result, Ok, Option, Some, None, All, replicate, refl, ap, ◌∙◌}
 use Rattle.std.proofs.Common.{subst, arith}
@@ -27,7 +26,7 @@ use Rattle.scenario_values.proofs.SuccessfulResults.{ok_same, ok_bind, ok_given,
 use Rattle.scenario_values.proofs.SuccessfulResults.{whole_within}
 use Rattle.scenario_values.specs.NameLookup.{node_no, node_at}
 use Rattle.scenario_values.proofs.NameSearch.{within}
-use Rattle.analysis_fields.specs.proof.FaultAndProcessorValidity.{IsProcessorOf}
+use Rattle.analysis_fields.specs.proof.ReplicaFaultsAndProcessors.{IsProcessorOf}
 use Rattle.analysis_fields.specs.declared.limits.TheConstants.{PROCESSORS}
 use Rattle.analysis_fields.specs.declared.processors.Processor.{Processor}
 use Rattle.analysis_fields.specs.Processors.{with_member, with_members, nodes_of, processor_parts, processor_in}

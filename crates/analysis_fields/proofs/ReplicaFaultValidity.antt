@@ -1,4 +1,4 @@
--- For FaultAndProcessorFacts: each fault of a scenario that was read is one of a replica of the design.
+-- Each fault of a scenario that was read is one of a replica of the design.
 use Rattle.std.proofs.Common.{◌≡◌, ℕ, ◌≤◌, ◌+◌, true, not, ◌&&◌, List, [], ◌∷◌, ◌++◌, length, codes, decimal, Result}
 use Rattle.std.proofs.Common.{Ok, All, slice_get, sym, ap, ◌∙◌, subst, arith, length-append}
 use Rattle.std.specs.Prelude.{nat_eq}
@@ -12,7 +12,7 @@ use Rattle.pals_base.specs.declared.basic_types.NodeNo.{NodeNo}
 use Rattle.pals_base.specs.declared.basic_types.LinkNo.{LinkNo}
 use Rattle.pals_base.specs.declared.basic_types.PortValue.{PortValue}
 use Rattle.pals_model.specs.declared.design.DesignParts.{DesignParts}
-use Rattle.pals_model.specs.PortKinds.{rate_of}
+use Rattle.pals_model.specs.PortKindsAndRates.{rate_of}
 use Rattle.scenario_values.specs.declared.fault.ScenarioFault.{ScenarioFault}
 use Rattle.scenario_values.specs.declared.fault.ScenarioFault.TheVariants.{WrongKind, Unknown, OutOfRange}
 use Rattle.scenario_values.specs.ResultCombinators.{◌>>=◌, only_if, through}
@@ -20,14 +20,14 @@ use Rattle.scenario_values.specs.FaultPlaces.{inside}
 use Rattle.scenario_values.specs.FieldValues.{elements, text, whole, is_whole, port_value}
 use Rattle.scenario_values.proofs.SuccessfulResults.{ok_same, ok_bind, ok_only_if, through_keeps, whole_within}
 use Rattle.scenario_values.specs.NameLookup.{node_no, link_no, node_at, link_at}
-use Rattle.analysis_fields.specs.proof.FaultAndProcessorValidity.{IsFaultOf}
+use Rattle.analysis_fields.specs.proof.ReplicaFaultsAndProcessors.{IsFaultOf}
 use Rattle.analysis_fields.specs.declared.replica_faults.FaultEnds.{FaultEnds}
 use Rattle.analysis_fields.specs.declared.replica_faults.RoundFault.{RoundFault}
 use Rattle.analysis_fields.specs.declared.limits.TheConstants.{REPLICAS}
-use Rattle.analysis_fields.specs.ReplicasAndFaults.{is_among, source_in, copies_at, kind_at, with_fault_value}
-use Rattle.analysis_fields.specs.ReplicasAndFaults.{fault_values, replica_at, link_from, ends_of, fault_behind}
-use Rattle.analysis_fields.specs.ReplicasAndFaults.{fault_of, fault_from, fault_in, has_same_key, with_fault}
-use Rattle.analysis_fields.specs.ReplicasAndFaults.{faults_in}
+use Rattle.analysis_fields.specs.ReplicasAndTheirFaults.{is_among, source_in, copies_at, kind_at, with_fault_value}
+use Rattle.analysis_fields.specs.ReplicasAndTheirFaults.{fault_values, replica_at, link_from, ends_of, fault_behind}
+use Rattle.analysis_fields.specs.ReplicasAndTheirFaults.{fault_of, fault_from, fault_in, has_same_key, with_fault}
+use Rattle.analysis_fields.specs.ReplicasAndTheirFaults.{faults_in}
 
 -- ---- values: one for each element
 value_more : (kind : Kind) (place : List ℕ) (values : List PortValue) (d : Data) (more : List PortValue)

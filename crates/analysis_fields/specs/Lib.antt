@@ -2,5 +2,5 @@ pub mod Plants
 pub mod Processors
 pub mod Properties
 pub mod NamedFormulas
-pub mod ReplicasAndFaults
+pub mod ReplicasAndTheirFaults
 pub mod proof

@@ -1,3 +1,3 @@
 -- What the theorem of the program does not rest on: definitions of contracts below it, of laws, and of proofs.
-pub mod FaultAndProcessorValidity
-pub mod PropertyEncoding
+pub mod ReplicaFaultsAndProcessors
+pub mod InjectivePropertyCodes

@@ -34,7 +34,7 @@ impl Drop for Property {
 
 impl Model for Property {
     ghost use Rattle.analysis_fields.specs.NamedFormulas.{PropertyValue};
-    ghost use Rattle.analysis_fields.specs.proof.PropertyEncoding.{property_code};
+    ghost use Rattle.analysis_fields.specs.proof.InjectivePropertyCodes.{property_code};
 
     ghost Value = { PropertyValue };
 

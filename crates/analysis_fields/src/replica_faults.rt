@@ -3,10 +3,10 @@ ghost use Rattle.std.specs.Prelude.{◌≡◌, ◌≤◌, ◌∷◌, ◌++◌, [
 ghost use Rattle.serde_json.specs.View.{view};
 ghost use Rattle.scenario_values.specs.ResultCombinators.{Answers, Shows};
 ghost use Rattle.scenario_values.specs.FaultPlaces.{place_text};
-ghost use Rattle.analysis_fields.specs.ReplicasAndFaults.{source_in, target_in, kind_in, replicas_of, fault_values};
-ghost use Rattle.analysis_fields.specs.ReplicasAndFaults.{replica_at, link_from, ends_of, fault_behind, fault_of};
-ghost use Rattle.analysis_fields.specs.ReplicasAndFaults.{copies_at, kind_at, key_of, fault_in, with_fault};
-ghost use Rattle.analysis_fields.specs.ReplicasAndFaults.{faults_in};
+ghost use Rattle.analysis_fields.specs.ReplicasAndTheirFaults.{source_in, target_in, kind_in, replicas_of, fault_values};
+ghost use Rattle.analysis_fields.specs.ReplicasAndTheirFaults.{replica_at, link_from, ends_of, fault_behind, fault_of};
+ghost use Rattle.analysis_fields.specs.ReplicasAndTheirFaults.{copies_at, kind_at, key_of, fault_in, with_fault};
+ghost use Rattle.analysis_fields.specs.ReplicasAndTheirFaults.{faults_in};
 
 use crate::limits::REPLICAS;
 use crate::replicas::is_among;
@@ -127,7 +127,7 @@ pub struct FaultEnds {
 }
 
 // A component that is replicated.
-#[tactic(auto, unfolding(crate::specs::ReplicasAndFaults::replica_at))]
+#[tactic(auto, unfolding(crate::specs::ReplicasAndTheirFaults::replica_at))]
 fn replica_at(
     alloc: Global,
     names: &DesignNames<'_>,
@@ -145,7 +145,7 @@ fn replica_at(
 }
 
 // A link that goes out from a component.
-#[tactic(auto, unfolding(crate::specs::ReplicasAndFaults::link_from))]
+#[tactic(auto, unfolding(crate::specs::ReplicasAndTheirFaults::link_from))]
 fn link_from(
     alloc: Global,
     names: &DesignNames<'_>,
@@ -163,7 +163,7 @@ fn link_from(
 }
 
 // The replica that sends, and the link on which it sends.
-#[tactic(auto, unfolding(crate::specs::ReplicasAndFaults::ends_of))]
+#[tactic(auto, unfolding(crate::specs::ReplicasAndTheirFaults::ends_of))]
 fn ends_of(
     alloc: Global,
     names: &DesignNames<'_>,
@@ -185,7 +185,7 @@ fn ends_of(
 }
 
 // How many replicas receive on a link.
-#[tactic(auto, unfolding(crate::specs::ReplicasAndFaults::copies_at))]
+#[tactic(auto, unfolding(crate::specs::ReplicasAndTheirFaults::copies_at))]
 fn copies_at(names: &DesignNames<'_>, replicas: &[NodeNo], link: LinkNo) -> u64
     ensures value { result ≡ copies_at names.now replicas.now link.0 }
     ensures small { result ≤ 3 }
@@ -195,7 +195,7 @@ fn copies_at(names: &DesignNames<'_>, replicas: &[NodeNo], link: LinkNo) -> u64
 }
 
 // The type of what a link carries.
-#[tactic(auto, unfolding(crate::specs::ReplicasAndFaults::kind_at))]
+#[tactic(auto, unfolding(crate::specs::ReplicasAndTheirFaults::kind_at))]
 fn kind_at(names: &DesignNames<'_>, link: LinkNo) -> Kind
     ensures { result ≡ kind_at names.now link.0 }
 {
@@ -203,7 +203,7 @@ fn kind_at(names: &DesignNames<'_>, link: LinkNo) -> Kind
 }
 
 // The replica of the target, the round and the values, behind the ends.
-#[tactic(auto, unfolding(crate::specs::ReplicasAndFaults::fault_behind))]
+#[tactic(auto, unfolding(crate::specs::ReplicasAndTheirFaults::fault_behind))]
 fn fault_behind(
     alloc: Global,
     names: &DesignNames<'_>,
@@ -236,7 +236,7 @@ fn fault_behind(
 }
 
 // A fault from parts whose kinds are right.
-#[tactic(auto, unfolding(crate::specs::ReplicasAndFaults::fault_of))]
+#[tactic(auto, unfolding(crate::specs::ReplicasAndTheirFaults::fault_of))]
 fn fault_of(
     alloc: Global,
     names: &DesignNames<'_>,
@@ -252,7 +252,7 @@ fn fault_of(
 }
 
 // A fault. The form of all its parts is looked at first.
-#[tactic(auto, unfolding(crate::specs::ReplicasAndFaults::fault_in, crate::specs::ReplicasAndFaults::fault_from))]
+#[tactic(auto, unfolding(crate::specs::ReplicasAndTheirFaults::fault_in, crate::specs::ReplicasAndTheirFaults::fault_from))]
 fn read_fault(
     alloc: Global,
     names: &DesignNames<'_>,
@@ -284,7 +284,7 @@ fn read_fault(
 }
 
 // One more fault, which stands at no place of those before it; these are their places.
-#[tactic(auto, unfolding(crate::specs::ReplicasAndFaults::with_fault))]
+#[tactic(auto, unfolding(crate::specs::ReplicasAndTheirFaults::with_fault))]
 fn next_fault(
     alloc: Global,
     names: &DesignNames<'_>,
@@ -308,7 +308,7 @@ fn next_fault(
 
 /// The faults of replicas, no two of which stand at one place. The time that it takes is in line
 /// with the values.
-#[tactic(auto, unfolding(crate::specs::ReplicasAndFaults::faults_in))]
+#[tactic(auto, unfolding(crate::specs::ReplicasAndTheirFaults::faults_in))]
 pub fn read_faults(
     alloc: Global,
     names: &DesignNames<'_>,

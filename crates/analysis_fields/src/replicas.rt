@@ -2,7 +2,7 @@
 ghost use Rattle.std.specs.Prelude.{◌≡◌, ◌∷◌, ◌++◌, []};
 ghost use Rattle.serde_json.specs.View.{view};
 ghost use Rattle.scenario_values.specs.ResultCombinators.{Answers, Shows};
-ghost use Rattle.analysis_fields.specs.ReplicasAndFaults.{is_among, with_replica, replicas_in};
+ghost use Rattle.analysis_fields.specs.ReplicasAndTheirFaults.{is_among, with_replica, replicas_in};
 
 use pals_base::{Items, NodeNo};
 use scenario_values::json_values::{elements, text};
@@ -19,7 +19,7 @@ pub fn is_among(nodes: &[NodeNo], node: NodeNo) -> bool
 }
 
 // One more component, which is not among those before it.
-#[tactic(auto, unfolding(crate::specs::ReplicasAndFaults::with_replica))]
+#[tactic(auto, unfolding(crate::specs::ReplicasAndTheirFaults::with_replica))]
 fn read_replica(
     alloc: Global,
     names: &DesignNames<'_>,
@@ -38,7 +38,7 @@ fn read_replica(
 }
 
 /// The components that are replicated. They differ, so each list of them that is read is short.
-#[tactic(auto, unfolding(crate::specs::ReplicasAndFaults::replicas_in))]
+#[tactic(auto, unfolding(crate::specs::ReplicasAndTheirFaults::replicas_in))]
 pub fn read_replicas(
     alloc: Global,
     names: &DesignNames<'_>,

@@ -12,7 +12,7 @@ use Rattle.pals_base.specs.declared.basic_types.NodeNo.{NodeNo}
 use Rattle.pals_base.specs.UpwardNumbers.{upwards}
 use Rattle.pals_base.proofs.UpwardNumbers.{map_upwards_more, get_or-map_upwards, length-map_upwards}
 use Rattle.analysis_fields.specs.declared.replica_faults.RoundFault.{RoundFault}
-use Rattle.analysis_fields.specs.ReplicasAndFaults.{is_among}
+use Rattle.analysis_fields.specs.ReplicasAndTheirFaults.{is_among}
 use Rattle.triple_vote.specs.VotedText.{replica_name}
 use Rattle.analysis_texts.specs.ReplicasAndRoundFaults.{faults_of}
 

@@ -10,7 +10,7 @@ use Rattle.pals_model.specs.declared.environment.Env.{Env}
 use Rattle.pals_model.specs.ComponentInputs.{values_at}
 use Rattle.pals_model.specs.RoundTexts.{line_end, text_of, round_line, component_line}
 use Rattle.pals_model.proofs.TextLineLaws.{text_of-append}
-use Rattle.pals_runs.specs.declared.vote_faults.VoteFault.{VoteFault}
+use Rattle.pals_runs.specs.declared.replica_faults.VoteFault.{VoteFault}
 use Rattle.triple_vote.specs.VotedComposition.{VotedConfiguration, is_replicated, copies_of, frame_at, voted_composition, voted_tap}
 use Rattle.triple_vote.specs.proof.VotedStates.{VotedState, voted_advanced}
 use Rattle.triple_vote.specs.VotedText.{replica_name, shown_line, voted_row, voted_lines, voted_report}

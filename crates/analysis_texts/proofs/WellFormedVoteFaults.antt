@@ -7,10 +7,10 @@ use Rattle.pals_base.specs.UpwardNumbers.{upwards}
 use Rattle.pals_base.proofs.UpwardNumbers.{get_or-map_upwards, length-map_upwards}
 use Rattle.pals_model.specs.declared.design.Link.{Link}
 use Rattle.pals_model.specs.declared.design.DesignParts.{DesignParts}
-use Rattle.pals_runs.specs.declared.vote_faults.VoteFault.{VoteFault}
+use Rattle.pals_runs.specs.declared.replica_faults.VoteFault.{VoteFault}
 use Rattle.analysis_fields.specs.declared.replica_faults.RoundFault.{RoundFault}
-use Rattle.analysis_fields.specs.proof.FaultAndProcessorValidity.{IsFaultOf}
-use Rattle.analysis_fields.specs.ReplicasAndFaults.{source_in as named_source}
+use Rattle.analysis_fields.specs.proof.ReplicaFaultsAndProcessors.{IsFaultOf}
+use Rattle.analysis_fields.specs.ReplicasAndTheirFaults.{source_in as named_source}
 use Rattle.triple_vote.specs.VotedComposition.{source_in}
 use Rattle.triple_vote.specs.proof.VoteLaws.{IsFault}
 use Rattle.analysis_texts.specs.ReplicasAndRoundFaults.{faults_of}

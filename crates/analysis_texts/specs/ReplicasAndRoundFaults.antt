@@ -3,9 +3,9 @@ use Rattle.std.specs.Prelude.{ℕ, nat_eq, Bool, List, length, map, filter}
 use Rattle.pals_base.specs.declared.basic_types.NodeNo.{NodeNo}
 use Rattle.pals_base.specs.UpwardNumbers.{upwards}
 use Rattle.pals_model.specs.declared.design.DesignParts.{DesignParts}
-use Rattle.pals_runs.specs.declared.vote_faults.VoteFault.{VoteFault}
+use Rattle.pals_runs.specs.declared.replica_faults.VoteFault.{VoteFault}
 use Rattle.analysis_fields.specs.declared.replica_faults.RoundFault.{RoundFault}
-use Rattle.analysis_fields.specs.ReplicasAndFaults.{is_among}
+use Rattle.analysis_fields.specs.ReplicasAndTheirFaults.{is_among}
 
 -- for each component of a design whether it is among those that have replicas
 abbrev pub replicated_in : DesignParts → List NodeNo → List Bool

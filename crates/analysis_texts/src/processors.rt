@@ -1,7 +1,7 @@
 //! The text of round budgets, as `budget` writes it: a line for each processor, and its timetable where it fits.
 ghost use Rattle.std.specs.Prelude.{◌≡◌, ◌++◌, All, length, map, IfOk, OnOk};
 ghost use Rattle.pals_model.specs.RoundTexts.{text_of, line_end};
-ghost use Rattle.analysis_fields.specs.proof.FaultAndProcessorValidity.{IsProcessorOf};
+ghost use Rattle.analysis_fields.specs.proof.ReplicaFaultsAndProcessors.{IsProcessorOf};
 ghost use Rattle.round_budget.specs.BudgetText.{fits_on, processor_lines, slot_line, some_is_over, budget_text};
 ghost use Rattle.round_budget.specs.proof.ReleaseAndLineValues.{line_value};
 ghost use Rattle.analysis_texts.specs.BudgetedProcessors.{processor_of};

@@ -1,7 +1,7 @@
 //! Which components have replicas, and the names of these.
 ghost use Rattle.std.specs.Prelude.{◌≡◌, ◌<◌, length, map, true, slice_set, IfOk};
 ghost use Rattle.pals_base.specs.UpwardNumbers.{upwards};
-ghost use Rattle.analysis_fields.specs.ReplicasAndFaults.{is_among};
+ghost use Rattle.analysis_fields.specs.ReplicasAndTheirFaults.{is_among};
 ghost use Rattle.analysis_texts.specs.ReplicasAndRoundFaults.{replicated_in};
 ghost use Rattle.analysis_texts.specs.proof.ReplicaNamesAndLines.{names_of, all_names};
 

@@ -1,6 +1,6 @@
 -- The package of a bundle has a design below a root, or is refused.
 use Rattle.std.proofs.Common.{◌⊎◌, inl, inr, ℕ, List, [], ◌∷◌, ◌++◌, refl}
-use Rattle.aadl_tree.specs.proof.GivenTrees.{IsGiven}
+use Rattle.aadl_tree.specs.proof.TreesOfSomeText.{IsGiven}
 use Rattle.annex_resolve.specs.declared.violation.Violation.{Violation}
 use Rattle.aadl_instance.specs.InstancesByPaths.{InstanceParts, IsFlat}
 use Rattle.model_violations.specs.Violations.{shown_by, AreViolations}

@@ -17,7 +17,7 @@ use Rattle.scenario_json.specs.proof.ScenarioValidity.{IsScenarioOf}
 use Rattle.bus_machine.specs.proof.AgreementLaws.{IsRunOf}
 use Rattle.bus_machine.specs.Plans.{plan_of}
 use Rattle.bus_machine.specs.BusStates.{BusState, finished_by_all}
-use Rattle.bus_machine.specs.Runs.{Run}
+use Rattle.bus_machine.specs.RunParameters.{Run}
 use Rattle.bus_machine.specs.ActionsAndTargets.{target}
 use Rattle.run_laws.specs.ListRunEndsAndStops.{AllAtEnd}
 use Rattle.run_laws.specs.proof.RunTermination.{HasCome, EachRunEnds, IsFirstEnded, EndsAreNamed}

@@ -17,7 +17,7 @@ use Rattle.pals_base.proofs.ColumnsAndCutTuples.{get_or-column}
 use Rattle.pals_model.specs.declared.design.DesignParts.{DesignParts}
 use Rattle.pals_model.specs.declared.environment.Env.{Env}
 use Rattle.pals_model.specs.ComponentInputs.{root_inputs}
-use Rattle.pals_model.specs.PortKinds.{root_kind}
+use Rattle.pals_model.specs.PortKindsAndRates.{root_kind}
 use Rattle.pals_model.proofs.FirstMatches.{found_at}
 use Rattle.scenario_values.specs.declared.fault.ScenarioFault.TheVariants.{WrongKind, Unknown}
 use Rattle.scenario_values.specs.ResultCombinators.{◌>>=◌, given, through}

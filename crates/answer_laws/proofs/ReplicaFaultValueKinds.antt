@@ -11,7 +11,7 @@ use Rattle.pals_base.specs.declared.limits.TheConstants.{ROUNDS}
 use Rattle.pals_base.specs.declared.basic_types.NodeNo.{NodeNo}
 use Rattle.pals_base.specs.declared.basic_types.PortValue.{PortValue}
 use Rattle.pals_model.specs.declared.design.DesignParts.{DesignParts}
-use Rattle.pals_model.specs.PortKinds.{rate_of}
+use Rattle.pals_model.specs.PortKindsAndRates.{rate_of}
 use Rattle.pals_model.specs.proof.ValuesFitKinds.{PortFits, TupleFits}
 use Rattle.scenario_values.specs.declared.fault.ScenarioFault.{ScenarioFault}
 use Rattle.scenario_values.specs.declared.fault.ScenarioFault.TheVariants.{WrongKind, OutOfRange}
@@ -21,9 +21,9 @@ use Rattle.scenario_values.specs.FieldValues.{elements, text, whole, is_whole, p
 use Rattle.scenario_values.proofs.SuccessfulResults.{ok_same, ok_bind, ok_only_if, through_keeps}
 use Rattle.analysis_fields.specs.declared.replica_faults.FaultEnds.{FaultEnds}
 use Rattle.analysis_fields.specs.declared.replica_faults.RoundFault.{RoundFault}
-use Rattle.analysis_fields.specs.ReplicasAndFaults.{copies_at, kind_in, kind_at, with_fault_value, fault_values}
-use Rattle.analysis_fields.specs.ReplicasAndFaults.{ends_of, fault_behind, fault_of, fault_from, fault_in}
-use Rattle.analysis_fields.specs.ReplicasAndFaults.{has_same_key, with_fault, faults_in}
+use Rattle.analysis_fields.specs.ReplicasAndTheirFaults.{copies_at, kind_in, kind_at, with_fault_value, fault_values}
+use Rattle.analysis_fields.specs.ReplicasAndTheirFaults.{ends_of, fault_behind, fault_of, fault_from, fault_in}
+use Rattle.analysis_fields.specs.ReplicasAndTheirFaults.{has_same_key, with_fault, faults_in}
 use Rattle.analysis_texts.specs.ReplicasAndRoundFaults.{faults_of}
 use Rattle.scenario_json.specs.Scenarios.{field}
 use Rattle.kind_laws.specs.proof.VotedKinds.{FaultFits, FaultsFit}

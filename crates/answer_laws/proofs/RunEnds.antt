@@ -14,7 +14,7 @@ use Rattle.bus_machine.specs.proof.AgreementLaws.{IsRunOf}
 use Rattle.bus_machine.specs.Nodes.{NodeState}
 use Rattle.bus_machine.specs.Plans.{plan_of}
 use Rattle.bus_machine.specs.BusStates.{BusState, node_at, no_node}
-use Rattle.bus_machine.specs.Runs.{Run}
+use Rattle.bus_machine.specs.RunParameters.{Run}
 use Rattle.run_laws.specs.ListRunEndsAndStops.{AllAtEnd}
 use Rattle.run_laws.specs.proof.TimelyRunsAndEnds.{InTime, NoneStops, EndsFirst, EndsAgree, AllPicked, PickedAreDone}
 use Rattle.run_laws.specs.Meetings.{AllDone}

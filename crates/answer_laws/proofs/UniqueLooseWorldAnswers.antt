@@ -8,7 +8,7 @@ use Rattle.pals_runs.specs.declared.journal.JournalEntry.{JournalEntry}
 use Rattle.pals_runs.specs.JournalLines.{entry_line}
 use Rattle.scenario_json.specs.declared.scenario.Scenario.{Scenario}
 use Rattle.bus_machine.specs.BusStates.{BusState, opening, finished_by_all}
-use Rattle.bus_machine.specs.Runs.{Run}
+use Rattle.bus_machine.specs.RunParameters.{Run}
 use Rattle.bus_machine.specs.WorldTexts.{worldtext}
 use Rattle.pals_report.specs.EventFaultLines.{event_fault_line}
 use Rattle.loose_world.specs.declared.loose_run.LooseEnd.{LooseEnd}

@@ -7,7 +7,7 @@ use Rattle.std.specs.Prelude.{true, IfErr, Result, Ok, Err}
 use Rattle.std.specs.Result.{IsErrAnd}
 use Rattle.aadl_tree.specs.SpellingParts.{Written}
 use Rattle.aadl_tree.specs.Annexes.{AnnexTree, annex_tree_parts}
-use Rattle.aadl_tree.specs.LanguagesAndNesting.{IsBehaviour}
+use Rattle.aadl_tree.specs.PackagesBehavioursAndNesting.{IsBehaviour}
 use Rattle.aadl_tree.specs.TerminalFaults.{place}
 use Rattle.aadl_tree.specs.proof.BehaviourFaultPlaces.{end_of}
 use Rattle.aadl_tree.specs.TextTreesAndFaults.{IsBehaviourOf}

@@ -6,7 +6,7 @@ use Rattle.std.specs.Prelude.{slice_index_or, slice_set}
 use Rattle.pals_base.specs.declared.basic_types.PortValue.{PortValue}
 use Rattle.pals_base.specs.declared.basic_types.PortValue.TheVariants.{Absent}
 use Rattle.pals_base.specs.SingleStep.{held_of, holding}
-use Rattle.pals_base.proofs.StepSequences.{holding-none}
+use Rattle.pals_base.proofs.SequencesAndHaltedFrames.{holding-none}
 
 pub holding-more : (at : ℕ) (held : List ℤ) (inputs : List PortValue) (v : ℤ) (rest : List ℤ) → drop at held ≡ v ∷ rest
     → holding (drop at held) (drop at inputs)

@@ -20,7 +20,7 @@ use Rattle.pals_model.specs.declared.port_sources.PortSource.{PortSource}
 use Rattle.pals_model.specs.declared.port_sources.PortSource.TheVariants as source
 use Rattle.pals_model.specs.ComponentInputs.{values_at, input_vectors, inputs_in, source_of, sources_of, brought_tuple, read_feed}
 use Rattle.pals_model.specs.ComponentInputs.{read_link}
-use Rattle.pals_model.specs.PortKinds.{rate_of}
+use Rattle.pals_model.specs.PortKindsAndRates.{rate_of}
 use Rattle.pals_model.specs.Composition.{comp, msg}
 use Rattle.pals_model.proofs.SourceLaws.{source_at, reads_link}
 use Rattle.bus_machine.specs.declared.plan.Input.{Input}
@@ -28,7 +28,7 @@ use Rattle.bus_machine.specs.Plans.{plan_for, input_of, input_from_feed, input_f
 use Rattle.bus_machine.specs.declared.plan.Plan.{Plan}
 use Rattle.bus_machine.specs.Nodes.{NodeState, message_in, brought, vectors_of}
 use Rattle.bus_machine.specs.NodeEvents.{lacks, missing, slot_at}
-use Rattle.bus_machine.specs.Runs.{Run}
+use Rattle.bus_machine.specs.RunParameters.{Run}
 use Rattle.bus_machine.specs.Agreement.{SlotAgrees}
 use Rattle.bus_machine.proofs.ListsAndOldestCopies.{none_found}
 

@@ -18,7 +18,7 @@ use Rattle.pals_model.specs.declared.design.Component.{Component}
 use Rattle.pals_model.specs.declared.design.Link.{Link}
 use Rattle.pals_model.specs.declared.flight_copy.FlightCopy.{FlightCopy}
 use Rattle.pals_model.specs.Flights.{oldest, without_oldest}
-use Rattle.pals_model.specs.PortKinds.{ins_in}
+use Rattle.pals_model.specs.PortKindsAndRates.{ins_in}
 use Rattle.pals_model.specs.Composition.{msg}
 use Rattle.pals_model.specs.DesignRules.{IsLink}
 use Rattle.pals_model.proofs.FirstMatches.{at_element}
@@ -34,7 +34,7 @@ use Rattle.bus_machine.specs.Nodes.{NodeState, opening_node, sent_rounds}
 use Rattle.bus_machine.specs.NodeEvents.{slot_at, arrived, with_message, received}
 use Rattle.bus_machine.specs.LinkEvents.{is_in_flight, arriving, tuple_in, once_more, repeated}
 use Rattle.bus_machine.specs.BusStates.{BusState, opening, node_at, no_node, flight_at, with_node, with_flight}
-use Rattle.bus_machine.specs.Runs.{Run}
+use Rattle.bus_machine.specs.RunParameters.{Run}
 use Rattle.bus_machine.specs.MissedMessages.{missing_link, rounds_sent_on}
 use Rattle.bus_machine.specs.Machine.{BusEvent, Start, Step, Finish, Send, Arrive, Drop, Repeat, arrival, early_stop}
 use Rattle.bus_machine.specs.Machine.{after_arrive, after, is_allowed}

@@ -28,7 +28,7 @@ use Rattle.bus_machine.specs.NodeEvents.{is_waiting, missing, started, next_step
 use Rattle.bus_machine.specs.NodeEvents.{may_send, sent_from, message_from, slot_at}
 use Rattle.bus_machine.specs.LinkEvents.{sent_copy}
 use Rattle.bus_machine.specs.BusStates.{BusState, node_at, flight_at, with_node}
-use Rattle.bus_machine.specs.Runs.{Run}
+use Rattle.bus_machine.specs.RunParameters.{Run}
 use Rattle.bus_machine.specs.MissedMessages.{missing_link, link_into, rounds_sent_on}
 use Rattle.bus_machine.specs.Machine.{after_start, on_step, flight_after_send, after_send}
 use Rattle.bus_machine.specs.Agreement.{SlotAgrees, IsCopy, Agrees}

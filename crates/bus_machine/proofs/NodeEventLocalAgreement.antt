@@ -37,7 +37,7 @@ use Rattle.bus_machine.specs.Plans.{plan_for}
 use Rattle.bus_machine.specs.Nodes.{NodeState, at_rest, finished_steps}
 use Rattle.bus_machine.specs.NodeEvents.{missing, started, stepped, fired, finished, part_left, after_round, may_send}
 use Rattle.bus_machine.specs.NodeEvents.{sent_from, after_send, message_from}
-use Rattle.bus_machine.specs.Runs.{Run}
+use Rattle.bus_machine.specs.RunParameters.{Run}
 use Rattle.bus_machine.specs.Agreement.{IsAtRest, IsUnderWay, IsInRound, IsHeld, PhaseAgrees, PartsAgree, NodeAgrees}
 use Rattle.bus_machine.specs.Agreement.{reached}
 use Rattle.bus_machine.proofs.ListsAndOldestCopies.{cut_places}

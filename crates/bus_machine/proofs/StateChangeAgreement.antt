@@ -15,7 +15,7 @@ use Rattle.bus_machine.specs.Plans.{component_at, no_component, link_at}
 use Rattle.bus_machine.specs.Nodes.{NodeState, sent_rounds}
 use Rattle.bus_machine.specs.NodeEvents.{slot_at}
 use Rattle.bus_machine.specs.BusStates.{BusState, node_at, no_node, flight_at, with_node, with_flight}
-use Rattle.bus_machine.specs.Runs.{Run}
+use Rattle.bus_machine.specs.RunParameters.{Run}
 use Rattle.bus_machine.specs.MissedMessages.{rounds_sent_on}
 use Rattle.bus_machine.specs.Agreement.{NodeAgrees, SlotAgrees, IsCopy, Agrees}
 use Rattle.bus_machine.proofs.InputAgreement.{SlotsAgree}

@@ -11,4 +11,4 @@ pub mod Agreement
 pub mod ActionsAndTargets
 pub mod WorldTexts
 pub mod proof
-pub mod Runs
+pub mod RunParameters

@@ -18,7 +18,7 @@ use Rattle.bus_machine.specs.NodeEvents.{is_waiting, started, next_step, stepped
 use Rattle.bus_machine.specs.NodeEvents.{sent_from, message_from, arrived, received}
 use Rattle.bus_machine.specs.LinkEvents.{sent_copy, is_in_flight, arriving, repeated}
 use Rattle.bus_machine.specs.BusStates.{BusState, node_at, flight_at, with_node, with_flight}
-use Rattle.bus_machine.specs.Runs.{Run}
+use Rattle.bus_machine.specs.RunParameters.{Run}
 use Rattle.bus_machine.specs.MissedMessages.{missing_link, cause_of}
 use Rattle.pals_runs.specs.declared.journal.Stop.TheVariants as stop
 

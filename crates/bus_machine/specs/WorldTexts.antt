@@ -5,8 +5,8 @@ use Rattle.pals_base.specs.UpwardNumbers.{upwards}
 use Rattle.pals_model.specs.declared.design.DesignParts.{DesignParts}
 use Rattle.pals_model.specs.declared.environment.Env.{Env}
 use Rattle.pals_model.specs.declared.part.Part.{Part}
-use Rattle.pals_model.specs.OutgoingLinks.{links_from}
-use Rattle.pals_model.specs.PortKinds.{rate_of, out_kind}
+use Rattle.pals_model.specs.IncomingAndOutgoingLinks.{links_from}
+use Rattle.pals_model.specs.PortKindsAndRates.{rate_of, out_kind}
 use Rattle.pals_model.specs.Composition.{msg, part}
 use Rattle.pals_model.specs.RoundTexts.{text_of, tuple_text, row_lines}
 use Rattle.pals_runs.specs.declared.events_and_faults.Event.{Event}

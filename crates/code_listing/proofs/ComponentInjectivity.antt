@@ -22,7 +22,7 @@ use Rattle.pals_model.specs.DesignRules.{IsComponent}
 use Rattle.pals_model.proofs.WordBytes.{path_inner}
 use Rattle.pals_runs.specs.JournalLines.{spaced}
 use Rattle.step_code.specs.declared.instr.CodeParts.{CodeParts}
-use Rattle.step_code.specs.PathWeights.{weight_of}
+use Rattle.step_code.specs.SuccessorsAndWeights.{weight_of}
 use Rattle.step_code.specs.CappedWeights.{capped}
 use Rattle.code_listing.specs.Listings.{number_line, port_line, variable_line, state_line, state_lines, instr_line}
 use Rattle.code_listing.specs.Listings.{instr_lines, initial_line, component_lines, lines_of_all}

@@ -17,7 +17,7 @@ use Rattle.pals_model.specs.declared.design.Link.{Link}
 use Rattle.pals_model.specs.declared.design.Feed.{Feed}
 use Rattle.pals_model.specs.declared.design.Tap.{Tap}
 use Rattle.pals_model.specs.declared.design.DesignParts.{DesignParts}
-use Rattle.pals_model.specs.PortKinds.{rate_of, rate_in}
+use Rattle.pals_model.specs.PortKindsAndRates.{rate_of, rate_in}
 use Rattle.pals_model.specs.ComponentAndLinkNames.{port_name, in_port_name, target_name, link_name}
 use Rattle.pals_model.specs.DesignRules.{IsDesign, IsComponent, IsSource, IsTarget, IsLink, IsFeed, IsTap}
 use Rattle.pals_model.proofs.FirstMatches.{at_element}

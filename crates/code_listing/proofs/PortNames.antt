@@ -17,7 +17,7 @@ use Rattle.pals_base.specs.BehaviourRules.{IsBehaviour, value_names}
 use Rattle.pals_model.specs.declared.design.Component.{Component}
 use Rattle.pals_model.specs.declared.design.DesignParts.{DesignParts}
 use Rattle.pals_model.specs.ComponentAndLinkNames.{port_name, in_port_name, target_name}
-use Rattle.pals_model.specs.PortKinds.{ins_in, outs_in}
+use Rattle.pals_model.specs.PortKindsAndRates.{ins_in, outs_in}
 use Rattle.pals_model.specs.DesignRules.{IsDesign, IsSource, IsTarget}
 use Rattle.pals_model.proofs.FirstMatches.{at_element}
 use Rattle.pals_model.proofs.ShapeLaws.{component_at, is_behaviour}

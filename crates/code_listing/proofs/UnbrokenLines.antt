@@ -22,7 +22,7 @@ use Rattle.pals_model.proofs.WordBytes.{path_inner}
 use Rattle.pals_runs.specs.JournalLines.{spaced}
 use Rattle.step_code.specs.declared.instr.Instr.{Instr}
 use Rattle.step_code.specs.declared.instr.CodeParts.{CodeParts}
-use Rattle.step_code.specs.PathWeights.{weight_of}
+use Rattle.step_code.specs.SuccessorsAndWeights.{weight_of}
 use Rattle.step_code.specs.CappedWeights.{capped}
 use Rattle.pals_report.specs.CheckReports.{link_line, feed_line, tap_line}
 use Rattle.code_listing.specs.Listings.{kind_word, number_line, port_line, variable_line, state_line, state_lines}

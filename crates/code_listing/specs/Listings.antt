@@ -20,7 +20,7 @@ use Rattle.pals_report.specs.CheckReports.{link_line, feed_line, tap_line}
 use Rattle.step_code.specs.declared.instr.Instr.{Instr}
 use Rattle.step_code.specs.declared.instr.Instr.TheVariants as instr
 use Rattle.step_code.specs.declared.instr.CodeParts.{CodeParts}
-use Rattle.step_code.specs.PathWeights.{weight_of}
+use Rattle.step_code.specs.SuccessorsAndWeights.{weight_of}
 use Rattle.step_code.specs.CappedWeights.{capped}
 
 -- a line on a component

@@ -5,7 +5,7 @@ use Rattle.std.proofs.lemmas.List.{get_or_append_left, get_or_push}
 use Rattle.pals_base.specs.declared.limits.TheConstants.{INSTRUCTIONS}
 use Rattle.pals_model.specs.declared.design.DesignParts.{DesignParts}
 use Rattle.step_code.specs.declared.instr.CodeParts.{CodeParts}
-use Rattle.step_code.specs.proof.CodeMeaning.{Means}
+use Rattle.step_code.specs.proof.CodeMatchesBehaviour.{Means}
 use Rattle.step_compiler.specs.LaidOutCode.{IsLaidOut}
 use Rattle.bus_machine.specs.Plans.{component_at}
 use Rattle.pals_bus.specs.proof.StepCodesOfNodes.{code_at, no_code}

@@ -11,7 +11,7 @@ use Rattle.pals_model.specs.declared.design.DesignParts.{DesignParts}
 use Rattle.pals_model.specs.DesignRules.{IsDesign}
 use Rattle.pals_model.specs.DesignRules as model
 use Rattle.aadl_tree.specs.Declarations.{Implementation, implementation, PackageTree}
-use Rattle.aadl_tree.specs.proof.GivenTrees.{IsGiven}
+use Rattle.aadl_tree.specs.proof.TreesOfSomeText.{IsGiven}
 use Rattle.aadl_names.specs.PackageNameFaults.{package_faults}
 use Rattle.aadl_uses.specs.declared.thread_locations.ThreadAt.{ThreadAt}
 use Rattle.component_checks.specs.PeriodAndAdaptorFindings.{bound_findings}

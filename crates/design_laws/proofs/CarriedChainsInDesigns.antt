@@ -10,7 +10,7 @@ use Rattle.pals_model.specs.declared.design.Link.{Link}
 use Rattle.pals_model.specs.declared.design.Feed.{Feed}
 use Rattle.pals_model.specs.declared.design.Tap.{Tap}
 use Rattle.pals_model.specs.declared.design.DesignParts.{DesignParts}
-use Rattle.pals_model.specs.PortKinds.{rate_in, rate_of, ins_in, outs_in, in_kind, out_kind, kind_of}
+use Rattle.pals_model.specs.PortKindsAndRates.{rate_in, rate_of, ins_in, outs_in, in_kind, out_kind, kind_of}
 use Rattle.pals_model.specs.DesignRules as model
 use Rattle.aadl_tree.specs.Declarations.{Feature, PackageTree}
 use Rattle.aadl_names.specs.NameResolution.{connections_of}

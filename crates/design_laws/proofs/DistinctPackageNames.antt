@@ -16,7 +16,7 @@ use Rattle.aadl_tree.specs.Annexes.{AnnexTree}
 use Rattle.aadl_tree.specs.Declarations.{Feature, Subcomponent, Connection, TypeDeclaration, Implementation}
 use Rattle.aadl_tree.specs.Declarations.{Declaration, type, implementation, PackageTree, declaration_parts}
 use Rattle.aadl_tree.specs.Declarations.{package_parts}
-use Rattle.aadl_tree.specs.proof.GivenTrees.{IsGiven}
+use Rattle.aadl_tree.specs.proof.TreesOfSomeText.{IsGiven}
 use Rattle.aadl_names.specs.declared.declared_name.SpelledName.{SpelledName}
 use Rattle.aadl_names.specs.DuplicateNames.{entry_of, twice}
 use Rattle.aadl_names.specs.BehaviourAnnexes.{behaviours, variables_of, states_of}

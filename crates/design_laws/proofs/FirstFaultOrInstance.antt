@@ -12,7 +12,7 @@ use Rattle.aadl_uses.proofs.FirstRecursion.{no_way_back}
 use Rattle.aadl_chains.specs.proof.PermittedConnections.{ArePermitted}
 use Rattle.aadl_chains.proofs.PermittedConnections.{declared}
 use Rattle.aadl_chains.specs.LinksFeedsAndTaps.{CarriedChain, IsLink, IsFeed, IsTap, TargetBefore, PortBefore}
-use Rattle.aadl_chains.specs.proof.Walks.{OneEach}
+use Rattle.aadl_chains.specs.proof.UpwardWalks.{OneEach}
 use Rattle.aadl_uses.specs.proof.ContainmentGraphs.{LeadsBack}
 use Rattle.design_laws.specs.proof.ReachOrderAndPaths.{HasOrder}
 use Rattle.aadl_chains.specs.proof.PortsJoinedInside.{is_thread_at}

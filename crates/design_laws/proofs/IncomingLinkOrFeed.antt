@@ -12,7 +12,7 @@ use Rattle.aadl_chains.specs.proof.TracedChains.{carried_chain, IsGiver}
 use Rattle.aadl_chains.proofs.WalkResults.{crossing_from}
 use Rattle.aadl_chains.proofs.CarriedChainsByWalks.{link_from, link_met, feed_met}
 use Rattle.aadl_chains.proofs.TracedChains.{traces_nothing, traces_itself, traces_root, traces_none_over, ends_by}
-use Rattle.aadl_chains.specs.proof.Walks.{WalkEnd, Crossing, nowhere, at_root, crosses, walk_back, OneEach, IsThreadPort}
+use Rattle.aadl_chains.specs.proof.UpwardWalks.{WalkEnd, Crossing, nowhere, at_root, crosses, walk_back, OneEach, IsThreadPort}
 use Rattle.design_laws.proofs.OutPortSources.{Gives, gives}
 
 -- the one that comes into a port

@@ -11,7 +11,7 @@ use Rattle.aadl_chains.specs.proof.PortsJoinedInside.{is_thread_at}
 use Rattle.aadl_chains.specs.Chains.{is_in}
 use Rattle.aadl_chains.specs.proof.PermittedConnections.{ArePermitted}
 use Rattle.aadl_chains.specs.LinksFeedsAndTaps.{CarriedChain, IsLink, IsFeed, TargetBefore}
-use Rattle.aadl_chains.specs.proof.Walks.{OneEach}
+use Rattle.aadl_chains.specs.proof.UpwardWalks.{OneEach}
 use Rattle.aadl_instance.specs.declared.chain_search.Incoming.{Incoming}
 use Rattle.aadl_instance.specs.InstancesByNumbers.{chain_in}
 use Rattle.aadl_instance.specs.proof.ChainsSoFar.{AreInto}

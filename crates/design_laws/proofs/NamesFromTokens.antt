@@ -11,7 +11,7 @@ use Rattle.aadl_lex.specs.declared.token.TokenKind.{TokenKind}
 use Rattle.aadl_lex.specs.declared.token.TokenKind.TheVariants as class
 use Rattle.aadl_lex.specs.Rules.{is_word}
 use Rattle.aadl_lex.specs.proof.TokenSpellings.{IsWordAt}
-use Rattle.aadl_lex.specs.Tokens.{bytes_of}
+use Rattle.aadl_lex.specs.TokensAndFirstFaults.{bytes_of}
 use Rattle.aadl_lex.proofs.TokensAsWritten.{words_of}
 use Rattle.aadl_tree.specs.declared.mark.Mark.{Mark}
 use Rattle.aadl_tree.specs.declared.mark.Mark.TheVariants as k

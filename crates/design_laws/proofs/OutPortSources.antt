@@ -18,7 +18,7 @@ use Rattle.aadl_uses.specs.proof.ContainmentOrders.{IsOrder}
 use Rattle.aadl_chains.specs.proof.PortsJoinedInside.{is_thread_at, is_in_at}
 use Rattle.aadl_chains.specs.Chains.{Port, ConnectionAt, Leads, IsStart}
 use Rattle.aadl_chains.specs.proof.PermittedConnections.{ArePermitted}
-use Rattle.aadl_chains.specs.proof.Walks.{OneEach}
+use Rattle.aadl_chains.specs.proof.UpwardWalks.{OneEach}
 use Rattle.aadl_chains.specs.proof.TracedChains.{IsGiver}
 use Rattle.aadl_chains.proofs.FirstIncomingConnections.{inner_of}
 use Rattle.aadl_chains.proofs.DeclarationRanks.{rank, rank_falls}

@@ -15,7 +15,7 @@ use Rattle.aadl_chains.specs.Chains.{Port, Leads}
 use Rattle.aadl_chains.specs.proof.PermittedConnections.{ArePermitted}
 use Rattle.aadl_chains.proofs.ConnectionsOnChains.{is_in-at, next_at}
 use Rattle.aadl_chains.specs.LinksFeedsAndTaps.{CarriedChain, IsTap, PortBefore}
-use Rattle.aadl_chains.specs.proof.Walks.{OneEach}
+use Rattle.aadl_chains.specs.proof.UpwardWalks.{OneEach}
 use Rattle.aadl_chains.specs.proof.TracedChains.{IsGiver}
 use Rattle.aadl_chains.proofs.FirstIncomingConnections.{entered, inner_of}
 use Rattle.aadl_chains.proofs.CarriedChainsByWalks.{tap_from, tap_met}

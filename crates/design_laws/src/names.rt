@@ -3,7 +3,7 @@
 ghost use Rattle.std.specs.Prelude.{◌≡◌, ℕ, [], Some, slice_get};
 ghost use Rattle.aadl_tree.specs.declared.package.PackageTree as source;
 ghost use Rattle.aadl_tree.specs.Declarations.{PackageTree, Implementation, implementation};
-ghost use Rattle.aadl_tree.specs.proof.GivenTrees.{IsGiven};
+ghost use Rattle.aadl_tree.specs.proof.TreesOfSomeText.{IsGiven};
 ghost use Rattle.aadl_tree.specs.proof.PackageViews.{placed};
 ghost use Rattle.aadl_names.specs.PackageNameFaults.{package_faults};
 ghost use Rattle.design_laws.specs.proof.PackageNames.{HasWords, NamesDiffer, AreNamed};

@@ -6,7 +6,7 @@ ghost use Rattle.pals_model.specs.declared.design.DesignParts.{DesignParts};
 ghost use Rattle.pals_model.specs.DesignRules.{IsDesign, greatest_rate};
 ghost use Rattle.aadl_tree.specs.declared.package.PackageTree as source;
 ghost use Rattle.aadl_tree.specs.Declarations.{PackageTree};
-ghost use Rattle.aadl_tree.specs.proof.GivenTrees.{IsGiven};
+ghost use Rattle.aadl_tree.specs.proof.TreesOfSomeText.{IsGiven};
 ghost use Rattle.aadl_tree.specs.proof.PackageViews.{placed};
 ghost use Rattle.aadl_names.specs.declared.fault.PackageFault.{PackageFault};
 ghost use Rattle.aadl_instance.specs.Faults.{IsFault};

@@ -7,4 +7,4 @@ pub mod TupleLengthsAndGroups
 pub mod SilenceAndLatestNumber
 pub mod NumbersFromSource
 pub mod SpreadValues
-pub mod GroupSums
+pub mod MeanFromSum

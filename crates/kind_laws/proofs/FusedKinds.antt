@@ -25,7 +25,7 @@ use Rattle.pals_model.specs.declared.port_sources.PortSource.{PortSource}
 use Rattle.pals_model.specs.declared.port_sources.PortSource.TheVariants as source
 use Rattle.pals_model.specs.ComponentInputs.{link_goes_to, feed_goes_to, from_feed, from_link, source_of, sources_of}
 use Rattle.pals_model.specs.ComponentInputs.{values_at, brought_tuple}
-use Rattle.pals_model.specs.PortKinds.{rate_of, rate_in, out_kind}
+use Rattle.pals_model.specs.PortKindsAndRates.{rate_of, rate_in, out_kind}
 use Rattle.pals_model.specs.Composition.{taps_of}
 use Rattle.pals_model.specs.DesignRules.{IsDesign}
 use Rattle.pals_model.specs.proof.ValuesFitKinds.{PortFits, TupleFits, PortsFit, FrameFits, link_kind, EnvFits}
@@ -42,7 +42,7 @@ use Rattle.plant_fuse.specs.FusedComposition.{value_on, value_read, vector_of, f
 use Rattle.plant_fuse.specs.FusedReport.{fused_part}
 use Rattle.plant_fuse.proofs.StepRanks.{is_controller, rank, rank_upto, rank_before, rank_beside, rank_in_round}
 use Rattle.plant_fuse.proofs.StepRanks.{rank_from_round}
-use Rattle.plant_fuse.proofs.PairLinkRates.{back_rates, forth_is, read_from_target}
+use Rattle.plant_fuse.proofs.PairLinkEnds.{back_rates, forth_is, read_from_target}
 use Rattle.plant_fuse.proofs.StepDependencies.{read_at}
 use Rattle.kind_laws.specs.proof.FusedKinds.{SolutionsFit}
 use Rattle.kind_laws.proofs.ElementsByIndex.{upwards_at, places_all, either_fits}

@@ -22,11 +22,11 @@ use Rattle.pals_model.specs.declared.environment.Env.{Env}
 use Rattle.pals_model.specs.declared.port_sources.PortSource.{PortSource}
 use Rattle.pals_model.specs.ComponentInputs.{root_of, values_at, link_goes_to, feed_goes_to, from_feed, from_link}
 use Rattle.pals_model.specs.ComponentInputs.{source_of, sources_of, read_feed, read_link, brought_tuple, inputs_of}
-use Rattle.pals_model.specs.PortKinds.{rate_of, kind_of, in_kind, root_kind}
+use Rattle.pals_model.specs.PortKindsAndRates.{rate_of, kind_of, in_kind, root_kind}
 use Rattle.pals_model.specs.DesignRules.{IsDesign, IsLink, IsFeed}
 use Rattle.pals_model.specs.proof.ValuesFitKinds.{PortFits, TupleFits, PortsFit, link_kind, EnvFits}
 use Rattle.pals_model.proofs.FirstMatches.{found_at, at_element}
-use Rattle.pals_model.proofs.RootInputLaws.{feed_has_root, feeds_have_root_kind}
+use Rattle.pals_model.proofs.RootInputFeedLaws.{feed_has_root, feeds_have_root_kind}
 use Rattle.pals_model.proofs.AllElements.{index_fits}
 use Rattle.pals_model.proofs.AdaptorsKeepKinds.{absent_fits, adapt_fits}
 

@@ -15,7 +15,7 @@ use Rattle.pals_base.specs.StepSequences.{outputs, steps}
 use Rattle.pals_base.specs.Tuples.{column}
 use Rattle.pals_base.proofs.StepTermination.{fires_well}
 use Rattle.pals_base.proofs.UpwardNumbers.{get_or-map_upwards}
-use Rattle.pals_model.specs.PortKinds.{kind_of}
+use Rattle.pals_model.specs.PortKindsAndRates.{kind_of}
 use Rattle.pals_model.specs.proof.ValuesFitKinds.{PortFits, TupleFits, PortsFit, FrameFits}
 use Rattle.pals_model.proofs.AllElements.{map_all, every}
 use Rattle.pals_model.proofs.StepsKeepKinds.{firing_fits, outputs_fit}

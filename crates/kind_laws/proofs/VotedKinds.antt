@@ -24,7 +24,7 @@ use Rattle.pals_model.specs.declared.design.Tap.{Tap}
 use Rattle.pals_model.specs.declared.design.DesignParts.{DesignParts}
 use Rattle.pals_model.specs.declared.environment.Env.{Env}
 use Rattle.pals_model.specs.ComponentInputs.{values_at, inputs_of}
-use Rattle.pals_model.specs.PortKinds.{rate_of, out_kind}
+use Rattle.pals_model.specs.PortKindsAndRates.{rate_of, out_kind}
 use Rattle.pals_model.specs.Composition.{no_frame}
 use Rattle.pals_model.specs.DesignRules.{IsDesign}
 use Rattle.pals_model.specs.proof.ValuesFitKinds.{PortFits, TupleFits, PortsFit, FrameFits, link_kind, EnvFits}
@@ -33,7 +33,7 @@ use Rattle.pals_model.proofs.AllElements.{index_fits, find_fits}
 use Rattle.pals_model.proofs.StepsKeepKinds.{frames_fit, initial_fits}
 use Rattle.pals_model.proofs.AdaptorsKeepKinds.{absent_fits}
 use Rattle.pals_model.proofs.RoundsKeepKinds.{cut_fits}
-use Rattle.pals_runs.specs.declared.vote_faults.VoteFault.{VoteFault}
+use Rattle.pals_runs.specs.declared.replica_faults.VoteFault.{VoteFault}
 use Rattle.triple_vote.specs.Votes.{same_port, vote, votes}
 use Rattle.triple_vote.specs.VotedComposition.{is_replicated, copies_of, receivers_in, VotedConfiguration, frame_at, heard_by, first_frame}
 use Rattle.triple_vote.specs.VotedComposition.{first_tuple, voted_opening, steps_in, replica_steps, tuple_at, is_fault}

@@ -11,7 +11,7 @@ use Rattle.std.proofs.lemmas.List.Folds.{find_at}
 use Rattle.std.proofs.lemmas.List.Sums.{length-filter, split_at_first, passes_at_first, fails_before_first}
 use Rattle.std.proofs.lemmas.Option.{slice_get_within, get_or_from_slice_get, same_Some}
 use Rattle.link_buffers.specs.declared.due_queue.DueEntry.{DueEntry}
-use Rattle.link_buffers.specs.proof.ListSearches.{IsFirst, least}
+use Rattle.link_buffers.specs.proof.FirstAndLeastItems.{IsFirst, least}
 use Rattle.link_buffers.specs.proof.DueQueues.{comes_before, is_entry, with_entry, without_entry}
 use Rattle.link_buffers.proofs.FirstPassingItem.{without_any}
 use Rattle.link_buffers.proofs.DueOrder.{entry_is_itself, entry_from_test}

@@ -14,7 +14,7 @@ use Rattle.std.proofs.lemmas.Option.{slice_get-get_or, slice_get-map, get_or_fro
 use Rattle.std.proofs.Math.ListN.{get_or-map}
 use Rattle.pals_model.specs.declared.flight_copy.FlightCopy.{FlightCopy}
 use Rattle.pals_model.specs.Flights.{is_of}
-use Rattle.link_buffers.specs.declared.ring_entries.RingEntry.{RingEntry}
+use Rattle.link_buffers.specs.declared.oldest_and_due_copies.RingEntry.{RingEntry}
 use Rattle.link_buffers.specs.proof.Flights.{is_due, due_rounds}
 use Rattle.link_buffers.specs.proof.RingCopies.{copies_of, AreTopped, AreBelow}
 use Rattle.link_buffers.proofs.FirstPassingItem.{place_within}

@@ -3,4 +3,4 @@ pub mod Flights
 pub mod BinarySearch
 pub mod DueQueues
 pub mod RingCopies
-pub mod ListSearches
+pub mod FirstAndLeastItems

@@ -3,9 +3,9 @@ ghost use Rattle.std.specs.Prelude.{◌≡◌, ◌+◌, ◌-◌, ◌≤◌, [], 
 ghost use Rattle.std.specs.Prelude.{option_map, is_some, if◌then◌else◌};
 ghost use Rattle.pals_model.specs.Flights.{oldest, without_oldest};
 ghost use Rattle.link_buffers.specs.proof.Flights.{flight_of, due_rounds};
-ghost use Rattle.link_buffers.specs.proof.ListSearches.{least};
+ghost use Rattle.link_buffers.specs.proof.FirstAndLeastItems.{least};
 
-use crate::ring_entries::{Ring, RingEntry, bound_with, least_due, place_of_oldest};
+use crate::oldest_and_due_copies::{Ring, RingEntry, bound_with, least_due, place_of_oldest};
 use crate::ring_insertion_and_removal::{standing_at, take_at};
 use pals_base::{Nanos, NoMemory, Tuple};
 use pals_model::FlightCopy;

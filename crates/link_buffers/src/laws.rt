@@ -4,7 +4,7 @@ ghost use Rattle.std.specs.Prelude.{◌≡◌, ◌≤◌, ℕ, false, List, [], 
 ghost use Rattle.pals_model.specs.declared.flight_copy.FlightCopy.{FlightCopy};
 ghost use Rattle.pals_model.specs.Flights.{is_of, oldest, without_oldest};
 ghost use Rattle.link_buffers.specs.declared.due_queue.DueEntry.{DueEntry};
-ghost use Rattle.link_buffers.specs.proof.ListSearches.{IsFirst, least};
+ghost use Rattle.link_buffers.specs.proof.FirstAndLeastItems.{IsFirst, least};
 ghost use Rattle.link_buffers.specs.proof.DueQueues.{is_entry, with_entry, without_entry};
 
 /// The oldest copy of a round is of that round, and none before it is. The others are what stands

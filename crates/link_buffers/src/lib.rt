@@ -6,7 +6,7 @@ mod binary_search;
 pub mod due_queue;
 pub mod flight;
 pub mod laws;
-mod ring_entries;
+mod oldest_and_due_copies;
 mod ring_insertion_and_removal;
 pub mod slot;
 

@@ -14,7 +14,7 @@ use Rattle.pals_model.specs.declared.flight_copy.FlightCopy.{FlightCopy}
 use Rattle.pals_model.specs.Composition.{msg}
 use Rattle.pals_model.specs.Delays.{delay_of}
 use Rattle.pals_model.specs.Flights.{is_of, oldest}
-use Rattle.pals_model.specs.OutgoingLinks.{links_from}
+use Rattle.pals_model.specs.IncomingAndOutgoingLinks.{links_from}
 use Rattle.pals_runs.specs.declared.events_and_faults.Event.{Event}
 use Rattle.pals_runs.specs.declared.events_and_faults.Event.TheVariants as event
 use Rattle.bus_machine.specs.Plans.{component_at, plan_of}
@@ -22,7 +22,7 @@ use Rattle.bus_machine.specs.Nodes.{NodeState, round_of, sent_rounds}
 use Rattle.bus_machine.specs.NodeEvents.{sent_from, message_from}
 use Rattle.bus_machine.specs.LinkEvents.{sent_copy}
 use Rattle.bus_machine.specs.BusStates.{BusState, node_at, flight_at}
-use Rattle.bus_machine.specs.Runs.{Run}
+use Rattle.bus_machine.specs.RunParameters.{Run}
 use Rattle.bus_machine.specs.MissedMessages.{rounds_sent_on}
 use Rattle.bus_machine.specs.Machine.{Send, IsStep, flight_after_send, after_send}
 use Rattle.bus_machine.specs.Agreement.{IsCopy, Agrees}

@@ -5,7 +5,7 @@ use Rattle.pals_base.specs.declared.basic_types.LinkNo.{LinkNo}
 use Rattle.pals_model.specs.declared.design.DesignParts.{DesignParts}
 use Rattle.pals_model.specs.declared.flight_copy.FlightCopy.{FlightCopy}
 use Rattle.pals_model.specs.Flights.{oldest}
-use Rattle.pals_model.specs.OutgoingLinks.{links_from}
+use Rattle.pals_model.specs.IncomingAndOutgoingLinks.{links_from}
 use Rattle.pals_report.specs.SentMessageLines.{sent_line}
 use Rattle.bus_machine.specs.BusStates.{node_at, flight_at}
 use Rattle.pals_bus.specs.BusValues.{BusValue}

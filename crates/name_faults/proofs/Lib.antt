@@ -6,6 +6,6 @@ pub mod PortEntries
 pub mod TypePortNames
 pub mod FirstBehaviours
 pub mod AnnexFaults
-pub mod EqualNameUses
+pub mod EqualNameRoles
 pub mod FaultsByDeclaration
 pub mod NumberedImplementations

@@ -4,13 +4,13 @@ use Rattle.std.specs.Prelude.{Result, Ok, Err, IfOk, IfErr, OnOk, OnErr}
 use Rattle.std.specs.declared.alloc.AllocError.{AllocError}
 use Rattle.pals_base.specs.declared.basic_types.NodeNo.{NodeNo}
 use Rattle.pals_clock.specs.ClockStates.{ClockState}
-use Rattle.pals_node.specs.proof.NodeValues.{JobValue}
+use Rattle.pals_node.specs.proof.NodeAndJobValues.{JobValue}
 use Rattle.pals_node.specs.declared.refusals.StartEnd.{StartEnd}
 use Rattle.pals_node.specs.declared.refusals.StepEnd.{StepEnd}
 use Rattle.pals_node.specs.declared.job.Finished.{Finished}
 use Rattle.pals_node.specs.declared.refusals.FinishEnd.{FinishEnd}
 use Rattle.pals_node.specs.declared.refusals.SendEnd.{SendEnd}
-use Rattle.bus_machine.specs.Runs.{Run}
+use Rattle.bus_machine.specs.RunParameters.{Run}
 use Rattle.bus_machine.specs.Machine.{Start, Step, Finish, Send}
 use Rattle.pals_bus.specs.declared.bus_error.BusError.{BusError}
 use Rattle.pals_bus.specs.declared.bus_error.BusError.TheVariants as fault

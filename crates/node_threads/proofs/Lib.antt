@@ -4,9 +4,9 @@ mod ArrivalsBeforeStart
 mod BusCalls
 mod NextReadings
 mod SentSources
-mod ReadyNodes
+mod ReadyNodeActions
 mod CourseOpenings
 mod NodeEnds
 mod RunOutcomes
-mod ThreadSafety
-mod NodeThreadStates
+mod SendAndSync
+mod ThreadSlotLists

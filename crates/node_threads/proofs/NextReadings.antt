@@ -12,7 +12,7 @@ use Rattle.pals_base.specs.ClockPicks.{remaining_from}
 use Rattle.pals_clock.specs.ClockStates.{ClockState, standing_at}
 use Rattle.pals_clock.specs.declared.clock.Clocks.{Clocks}
 use Rattle.pals_clock.specs.declared.clock.Clocks.TheVariants.{Meet, Lists}
-use Rattle.pals_clock.proofs.RemainingReadings.{reached_none}
+use Rattle.pals_clock.proofs.RemainingReadingsAndPicks.{reached_none}
 use Rattle.bus_machine.specs.declared.plan.Plan.{Plan}
 use Rattle.bus_machine.specs.declared.node_action.NodeAction.{NodeAction}
 use Rattle.bus_machine.specs.declared.node_action.Next.{Next}
@@ -24,7 +24,7 @@ use Rattle.pals_bus.specs.BusValues.{BusValue}
 use Rattle.pals_bus.specs.proof.Meeting.{target_in, HasEnded as HasStopped, GoesAt}
 use Rattle.run_laws.specs.NodeActions.{upcoming}
 use Rattle.run_laws.specs.Runs.{clock_at, no_clock, Shows, Does}
-use Rattle.run_laws.proofs.NodePicks.{runs_agree}
+use Rattle.run_laws.proofs.NodePicksAndRunReplay.{runs_agree}
 use Rattle.run_laws.proofs.MeetingReadings.{next_acts}
 use Rattle.node_threads.specs.declared.node_end.NodeNote.{NodeNote}
 use Rattle.node_threads.specs.proof.SharedCourses.{CourseValue, clocks_of, course_of, EndsAt, IsCourse, IsOpen, IsNext}

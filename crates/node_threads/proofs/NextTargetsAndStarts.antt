@@ -16,12 +16,12 @@ use Rattle.bus_machine.specs.proof.AgreementLaws.{IsRunOf}
 use Rattle.bus_machine.specs.Nodes.{NodeState, round_of}
 use Rattle.bus_machine.specs.Plans.{plan_of, component_at}
 use Rattle.bus_machine.specs.BusStates.{BusState, node_at}
-use Rattle.bus_machine.specs.Runs.{Run}
+use Rattle.bus_machine.specs.RunParameters.{Run}
 use Rattle.bus_machine.specs.ActionsAndTargets.{target, send_is_next, next_in}
 use Rattle.pals_node.specs.proof.NodeInvariants.{IsPlan}
 use Rattle.pals_node.proofs.Plans.{plan_keeps}
 use Rattle.run_laws.specs.NodeActions.{upcoming}
-use Rattle.run_laws.proofs.NodePicks.{node_agrees}
+use Rattle.run_laws.proofs.NodePicksAndRunReplay.{node_agrees}
 
 -- the numbers of an action
 abbrev Fits : NodeAction → Type 0

@@ -14,7 +14,7 @@ use crate::node_end::NodeEnd;
 use crate::opening_course::open_with_spare;
 use crate::run_completion::end_run;
 use crate::sleepers::Sleepers;
-use crate::thread_admission::Starter;
+use crate::thread_starters::Starter;
 use crate::wake_signals::WakeSignals;
 use crate::workers::work_all;
 use pals_base::{Items, NoMemory};

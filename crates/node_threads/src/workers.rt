@@ -3,7 +3,7 @@
 use crate::job_gate::{Gate, done_by};
 use crate::locked_state::Locked;
 use crate::moves_under_lock::NextMove;
-use crate::thread_admission::Starter;
+use crate::thread_starters::Starter;
 use crate::wake_signals::WakeSignals;
 use pals_base::NodeNo;
 use pals_node::Done;

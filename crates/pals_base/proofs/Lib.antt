@@ -1,12 +1,12 @@
 pub mod PairwiseRelations
 pub mod TreeViews
-pub mod StepSequences
+pub mod SequencesAndHaltedFrames
 pub mod ForRanges
 pub mod RemaindersAndModuli
 pub mod ClockPicks
 pub mod SameTreeLengths
 pub mod UpwardNumbers
-pub mod SettledStates
+pub mod CycleSearchMarks
 pub mod TransitionWaysAndCycles
 pub mod EffectLengths
 pub mod StepTermination

@@ -26,8 +26,8 @@ use Rattle.pals_base.specs.SingleStep.{outcome, unless_halted, fire, initial}
 use Rattle.pals_base.specs.TypingRules.{are_sound}
 use Rattle.pals_base.specs.BehaviourRules.{has_condition, is_edge, dispatch_count, is_always, ends_unguarded, has_ways}
 use Rattle.pals_base.specs.BehaviourRules.{IsWay, IsBehaviour}
-use Rattle.pals_base.specs.proof.SettledStates.{settles}
-use Rattle.pals_base.proofs.SettledStates.{rule_at}
+use Rattle.pals_base.specs.proof.CycleSearchMarks.{settles}
+use Rattle.pals_base.proofs.CycleSearchMarks.{rule_at}
 use Rattle.pals_base.proofs.TransitionWaysAndCycles.{incomplete_within, settled_unless_cycle, way_is_short}
 use Rattle.pals_base.proofs.EffectLengths.{HasLengths, acts_keeps}
 

@@ -17,8 +17,8 @@ use Rattle.pals_base.specs.ExpressionAndActionTrees.{Edge}
 use Rattle.pals_base.specs.SingleStep.{is_complete, leaving}
 use Rattle.pals_base.specs.UpwardNumbers.{upwards}
 use Rattle.pals_base.specs.BehaviourRules.{IsWay, IsAcyclic}
-use Rattle.pals_base.specs.proof.SettledStates.{settles}
-use Rattle.pals_base.proofs.SettledStates.{all_marked, rule_at, settles_past}
+use Rattle.pals_base.specs.proof.CycleSearchMarks.{settles}
+use Rattle.pals_base.proofs.CycleSearchMarks.{all_marked, rule_at, settles_past}
 
 -- ---- lists
 

@@ -2,4 +2,4 @@
 pub mod RemaindersAndModuli
 pub mod TreeEncoding
 pub mod TreeViews
-pub mod SettledStates
+pub mod CycleSearchMarks

@@ -1,5 +1,5 @@
-//! The basic types that all crates share: times, values of ports, tuples, numbers of components and links, traps,
-//! frames, bounds and adaptors.
+//! The basic types that all crates share: times, port values, numbers of components and links,
+//! traps, want of memory.
 use std::alloc::AllocError;
 
 /// There is not enough memory: the one refusal that no contract ties to a cause.

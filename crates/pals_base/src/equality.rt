@@ -2,10 +2,10 @@
 ghost use Rattle.std.specs.Prelude.{◌≡◌, ◌↔◌, IsTrue};
 
 mod actions;
-mod declarations;
 mod expressions;
+mod ports_variables_and_states;
 mod transitions;
-mod values;
+mod value_and_frame_equality;
 
 use crate::behaviour::{Behaviour, BehaviourParts};
 use crate::items::Items;

@@ -1,4 +1,5 @@
-//! The frame that a component starts with, and a frame that is written over with the contents of another.
+//! Frames, which components keep between steps: the one that a component starts with, and one
+//! written over.
 ghost use Rattle.std.specs.Prelude.{◌≡◌, IfOk, map, replicate, pos, length};
 ghost use Rattle.pals_base.specs.SingleStep.{initial};
 

@@ -1,7 +1,7 @@
 //! Copies of values.
 ghost use Rattle.std.specs.Prelude.{◌≡◌, IfOk};
 
-mod values;
+mod value_and_frame_copies;
 
 use crate::basic_types::NoMemory;
 use crate::items::Items;

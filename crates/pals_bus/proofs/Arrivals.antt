@@ -9,7 +9,7 @@ use Rattle.pals_base.specs.declared.basic_types.LinkNo.{LinkNo}
 use Rattle.pals_model.specs.declared.design.Component.{Component}
 use Rattle.pals_model.specs.declared.flight_copy.FlightCopy.{FlightCopy}
 use Rattle.pals_model.specs.Flights.{oldest, without_oldest}
-use Rattle.pals_model.specs.PortKinds.{ins_in}
+use Rattle.pals_model.specs.PortKindsAndRates.{ins_in}
 use Rattle.pals_runs.specs.declared.journal.Arrived.{Arrived}
 use Rattle.pals_runs.specs.declared.journal.Arrived.TheVariants.{Kept, Ignored, Early}
 use Rattle.pals_runs.specs.declared.journal.JournalEntry.{JournalEntry}
@@ -22,7 +22,7 @@ use Rattle.bus_machine.specs.BusStates.{BusState, node_at, flight_at}
 use Rattle.bus_machine.specs.Plans.{no_link}
 use Rattle.bus_machine.specs.Machine.{Arrive, arrival, early_stop}
 use Rattle.bus_machine.specs.Replay.{Replays, goes_on, stop_entry}
-use Rattle.pals_node.specs.proof.NodeValues.{NodeValue, with_state}
+use Rattle.pals_node.specs.proof.NodeAndJobValues.{NodeValue, with_state}
 use Rattle.pals_bus.specs.declared.bus_fields.BusFields.{BusFields}
 use Rattle.pals_bus.specs.proof.NodeLists.{node_value, node_of}
 use Rattle.pals_bus.specs.BusValues.{Happens}
@@ -33,7 +33,7 @@ use Rattle.pals_bus.proofs.FlightRooms.{flight_is, rooms-set}
 use Rattle.pals_bus.proofs.QueueChanges.{queues-set}
 use Rattle.pals_bus.proofs.EventInvariants.{node_happens}
 use Rattle.pals_bus.proofs.StartsStepsAndFinishes.{unsent_before}
-use Rattle.pals_bus.proofs.CopyRemovalAndLoss.{Takes, same_count, target_within}
+use Rattle.pals_bus.proofs.OldestCopyRemoval.{Takes, same_count, target_within}
 use Rattle.pals_bus.proofs.MessageLosses.{some_in_flight, copies_left}
 use Rattle.pals_bus.proofs.InvariantConsequences.{agrees}
 

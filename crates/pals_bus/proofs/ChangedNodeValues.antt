@@ -7,7 +7,7 @@ use Rattle.std.proofs.lemmas.List.{length-set}
 use Rattle.std.proofs.lemmas.Grind.{get_or-set_at}
 use Rattle.pals_runs.specs.declared.journal.JournalEntry.{JournalEntry}
 use Rattle.bus_machine.specs.Nodes.{NodeState}
-use Rattle.pals_node.specs.proof.NodeValues.{NodeValue, with_state}
+use Rattle.pals_node.specs.proof.NodeAndJobValues.{NodeValue, with_state}
 use Rattle.pals_bus.specs.declared.bus_fields.BusFields.{BusFields}
 use Rattle.pals_bus.specs.proof.NodeLists.{node_value, node_of}
 use Rattle.pals_bus.specs.proof.BusInvariant.{IsBusInvariant, node_in, value_of}

@@ -22,7 +22,7 @@ use Rattle.bus_machine.specs.Nodes.{NodeState, round_of, sent_rounds}
 use Rattle.bus_machine.specs.NodeEvents.{next_step, running_step, stepped, finished, message_from}
 use Rattle.bus_machine.specs.LinkEvents.{repeated, once_more, sent_copy}
 use Rattle.bus_machine.specs.BusStates.{BusState, node_at, flight_at, with_node}
-use Rattle.bus_machine.specs.Runs.{Run}
+use Rattle.bus_machine.specs.RunParameters.{Run}
 use Rattle.bus_machine.specs.MissedMessages.{missing_link}
 use Rattle.bus_machine.specs.Machine.{BusEvent, Start, Step, Finish, Send, Arrive, Drop, Repeat, is_allowed, after}
 use Rattle.bus_machine.specs.Machine.{after_start, on_step, flight_after_send}

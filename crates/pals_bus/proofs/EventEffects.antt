@@ -15,7 +15,7 @@ use Rattle.bus_machine.specs.Plans.{plan_of}
 use Rattle.bus_machine.specs.NodeEvents.{is_waiting, missing, started, next_step, stepped, running_step, finished}
 use Rattle.bus_machine.specs.LinkEvents.{tuple_in}
 use Rattle.bus_machine.specs.BusStates.{BusState, node_at, with_node}
-use Rattle.bus_machine.specs.Runs.{Run}
+use Rattle.bus_machine.specs.RunParameters.{Run}
 use Rattle.bus_machine.specs.MissedMessages.{missing_link, link_into}
 use Rattle.bus_machine.specs.Machine.{Start, Step, Finish, is_allowed, missed_stop, after_start, on_step, after}
 

@@ -12,7 +12,7 @@ use Rattle.bus_machine.specs.Nodes.{NodeState}
 use Rattle.bus_machine.specs.BusStates.{BusState}
 use Rattle.bus_machine.specs.Machine.{BusEvent, is_allowed, after}
 use Rattle.bus_machine.specs.Replay.{Replays, goes_on, entries}
-use Rattle.pals_node.specs.proof.NodeValues.{NodeValue, with_state}
+use Rattle.pals_node.specs.proof.NodeAndJobValues.{NodeValue, with_state}
 use Rattle.pals_bus.specs.declared.bus_fields.BusFields.{BusFields}
 use Rattle.pals_bus.specs.BusValues.{BusValue, Happens}
 use Rattle.pals_bus.specs.proof.StepCodesOfNodes.{codes_in}

@@ -19,14 +19,14 @@ use Rattle.link_buffers.proofs.DueOrder.{entry_is_itself}
 use Rattle.bus_machine.specs.LinkEvents.{is_in_flight}
 use Rattle.bus_machine.specs.BusStates.{BusState, flight_at}
 use Rattle.bus_machine.specs.Plans.{link_at}
-use Rattle.bus_machine.specs.Runs.{Run}
+use Rattle.bus_machine.specs.RunParameters.{Run}
 use Rattle.bus_machine.specs.Machine.{Arrive}
 use Rattle.pals_bus.specs.BusValues.{BusValue, Happens}
 use Rattle.pals_bus.specs.proof.DueQueues.{comes_first, is_copy_of, copies_in_flight}
 use Rattle.pals_bus.specs.proof.DueMessages.{IsDueTo, IsNextDue, TakesDue, takes_none, takes_next, AreLeft}
 use Rattle.pals_bus.proofs.QueueFlightAgreement.{contains_counted, copy_counts, counts, counts_elsewhere, count_oldest}
 use Rattle.pals_bus.proofs.EqualDueReadings.{SameDue, due_of}
-use Rattle.pals_bus.proofs.CopyRemovalAndLoss.{oldest_round}
+use Rattle.pals_bus.proofs.OldestCopyRemoval.{oldest_round}
 use Rattle.pals_bus.proofs.DueEntriesAndCopies.{if_some, copy_there, copy_parts, flies, due_of_entry, IsEntryOf}
 use Rattle.pals_bus.proofs.DueEntriesAndCopies.{entry_of_due, not_first}
 

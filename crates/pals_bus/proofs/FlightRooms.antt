@@ -8,7 +8,7 @@ use Rattle.std.proofs.lemmas.Grind.{get_or-set_at}
 use Rattle.std.proofs.lemmas.Option.{slice_get_within}
 use Rattle.pals_model.specs.declared.design.Link.{Link}
 use Rattle.link_buffers.specs.proof.Flights.{FlightState}
-use Rattle.pals_node.specs.proof.NodeValues.{NodeValue}
+use Rattle.pals_node.specs.proof.NodeAndJobValues.{NodeValue}
 use Rattle.pals_bus.specs.proof.BusInvariant.{HasRooms, copies_in}
 use Rattle.pals_bus.specs.proof.OutOfRangeDefaults.{no_flight, no_node_value}
 use Rattle.pals_bus.specs.proof.RoundMessages.{HasRoomFor, NoLessRoom}

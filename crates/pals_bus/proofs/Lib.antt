@@ -15,7 +15,7 @@ pub mod ChangedNodeValues
 pub mod StartsStepsAndFinishes
 pub mod RoundSends
 pub mod NodeEventCalls
-pub mod CopyRemovalAndLoss
+pub mod OldestCopyRemoval
 pub mod Arrivals
 pub mod Repeats
 pub mod SendLoop

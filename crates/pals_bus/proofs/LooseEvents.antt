@@ -9,7 +9,7 @@ use Rattle.pals_runs.specs.declared.phase.Phase.TheVariants.{Waiting, Running, B
 use Rattle.bus_machine.specs.NodeEvents.{is_waiting, next_step, running_step}
 use Rattle.bus_machine.specs.BusStates.{BusState, node_at, flight_at}
 use Rattle.bus_machine.specs.Machine.{BusEvent, Start, Step, Finish, Send, Drop, Repeat, is_allowed}
-use Rattle.pals_node.specs.proof.NodeValues.{JobValue}
+use Rattle.pals_node.specs.proof.NodeAndJobValues.{JobValue}
 use Rattle.pals_node.specs.proof.Answers.{is_busy}
 use Rattle.pals_runs.specs.declared.events_and_faults.Event.{Event}
 use Rattle.pals_runs.specs.declared.events_and_faults.Event.TheVariants as event

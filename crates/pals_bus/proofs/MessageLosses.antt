@@ -19,7 +19,7 @@ use Rattle.pals_bus.specs.proof.OutOfRangeDefaults.{no_flight}
 use Rattle.pals_bus.proofs.FlightRooms.{flight_is, rooms_kept}
 use Rattle.pals_bus.proofs.EventInvariants.{flights_happen}
 use Rattle.pals_bus.proofs.StartsStepsAndFinishes.{longer}
-use Rattle.pals_bus.proofs.CopyRemovalAndLoss.{Takes, same_count}
+use Rattle.pals_bus.proofs.OldestCopyRemoval.{Takes, same_count}
 
 some_flies : (o : Option FlightCopy) (tuple : List PortValue)
     → Some tuple ≡ option_map (λ (copy : FlightCopy). copy.tuple) o

@@ -16,7 +16,7 @@ use Rattle.bus_machine.specs.BusStates.{node_at}
 use Rattle.bus_machine.specs.Plans.{no_link}
 use Rattle.bus_machine.specs.MissedMessages.{cause_of, rounds_sent_on}
 use Rattle.bus_machine.specs.Nodes.{sent_rounds}
-use Rattle.pals_node.specs.proof.NodeValues.{NodeValue}
+use Rattle.pals_node.specs.proof.NodeAndJobValues.{NodeValue}
 use Rattle.pals_bus.specs.declared.bus_fields.BusFields.{BusFields}
 use Rattle.pals_bus.specs.proof.BusInvariant.{IsBusInvariant, copies_in, copies_in_option, run_of, state_of}
 use Rattle.pals_bus.proofs.NodeChanges.{node_here}

@@ -17,7 +17,7 @@ use Rattle.bus_machine.specs.MissedMessages.{link_into}
 use Rattle.bus_machine.specs.Machine.{Finish, missed_stop}
 use Rattle.pals_node.specs.declared.refusals.StartEnd.TheVariants as start
 use Rattle.pals_node.specs.declared.job.Finished.{Finished}
-use Rattle.pals_node.specs.proof.NodeValues.{JobValue, NodeValue}
+use Rattle.pals_node.specs.proof.NodeAndJobValues.{JobValue, NodeValue}
 use Rattle.pals_node.specs.proof.Answers.{Starts, StartEnds, Steps, Finishes, FinishesWith, Sends}
 use Rattle.pals_bus.specs.declared.bus_fields.BusFields.{BusFields}
 use Rattle.pals_bus.specs.BusValues.{BusValue, Happens}

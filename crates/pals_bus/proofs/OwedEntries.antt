@@ -13,7 +13,7 @@ use Rattle.bus_machine.specs.Nodes.{NodeState, at_rest}
 use Rattle.bus_machine.specs.NodeEvents.{running_step, finished, fired, after_send, after_round, part_left, may_send}
 use Rattle.bus_machine.specs.NodeEvents.{sent_from}
 use Rattle.bus_machine.proofs.NodeEventLocalAgreement.{finish_keeps}
-use Rattle.pals_node.specs.proof.NodeValues.{NodeValue}
+use Rattle.pals_node.specs.proof.NodeAndJobValues.{NodeValue}
 use Rattle.pals_bus.specs.proof.BusInvariant.{owed}
 use Rattle.pals_bus.specs.proof.OutOfRangeDefaults.{no_node_value}
 use Rattle.pals_bus.proofs.NodeChanges.{none_or_one, one_at_most}

@@ -14,12 +14,12 @@ use Rattle.pals_base.specs.declared.basic_types.LinkNo.{LinkNo}
 use Rattle.pals_model.specs.declared.design.Component.{Component}
 use Rattle.pals_model.specs.declared.design.DesignParts.{DesignParts}
 use Rattle.pals_model.specs.declared.design.Link.{Link}
-use Rattle.pals_model.specs.PortKinds.{ins_in}
+use Rattle.pals_model.specs.PortKindsAndRates.{ins_in}
 use Rattle.pals_model.specs.DesignRules.{IsComponent, IsDesign, port_place}
 use Rattle.link_buffers.specs.proof.Flights.{FlightState}
 use Rattle.link_buffers.specs.proof.DueQueues.{QueueState, is_entry}
 use Rattle.bus_machine.specs.Plans.{no_link}
-use Rattle.pals_node.specs.proof.NodeValues.{NodeValue}
+use Rattle.pals_node.specs.proof.NodeAndJobValues.{NodeValue}
 use Rattle.pals_bus.specs.proof.OutOfRangeDefaults.{no_node_value, no_queue, no_link_no}
 use Rattle.pals_bus.specs.proof.BusInvariant.{copies_in}
 use Rattle.pals_bus.specs.proof.DueQueues.{AreQueues, AreQueuesAmid, HasQueueRoomFor, NoLessQueueRoom, entries_in}

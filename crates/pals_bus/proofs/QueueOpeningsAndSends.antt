@@ -13,7 +13,7 @@ use Rattle.pals_model.specs.declared.flight_copy.FlightCopy.{FlightCopy}
 use Rattle.link_buffers.specs.proof.Flights.{FlightState}
 use Rattle.link_buffers.specs.proof.DueQueues.{QueueState, is_entry}
 use Rattle.bus_machine.specs.Plans.{no_link}
-use Rattle.pals_node.specs.proof.NodeValues.{NodeValue}
+use Rattle.pals_node.specs.proof.NodeAndJobValues.{NodeValue}
 use Rattle.pals_bus.specs.proof.OutOfRangeDefaults.{no_node_value, no_flight, no_queue}
 use Rattle.pals_bus.specs.proof.DueQueues.{AreQueues, AreQueuesAmid, is_awaited, is_between, is_copy_of, with_due}
 use Rattle.pals_bus.proofs.QueueFlightAgreement.{copy_added, count_none}

@@ -19,7 +19,7 @@ use Rattle.bus_machine.specs.BusStates.{flight_at}
 use Rattle.bus_machine.specs.Plans.{no_link}
 use Rattle.bus_machine.specs.Machine.{Repeat}
 use Rattle.bus_machine.specs.Replay.{Replays, goes_on}
-use Rattle.pals_node.specs.proof.NodeValues.{NodeValue}
+use Rattle.pals_node.specs.proof.NodeAndJobValues.{NodeValue}
 use Rattle.pals_bus.specs.declared.bus_fields.BusFields.{BusFields}
 use Rattle.pals_bus.specs.BusValues.{Happens}
 use Rattle.pals_bus.specs.proof.BusInvariant.{HasRooms, IsBusInvariant, owed, run_of, state_of, value_of, copies_in}
@@ -32,7 +32,7 @@ use Rattle.pals_bus.proofs.QueueFlightAgreement.{copy_added}
 use Rattle.pals_bus.proofs.QueueOpeningsAndSends.{with_due_spare}
 use Rattle.pals_bus.proofs.EventInvariants.{flights_happen}
 use Rattle.pals_bus.proofs.StartsStepsAndFinishes.{longer}
-use Rattle.pals_bus.proofs.CopyRemovalAndLoss.{target_within}
+use Rattle.pals_bus.proofs.OldestCopyRemoval.{target_within}
 
 -- ---- room
 -- a link keeps room for its source's message, where it had room for two

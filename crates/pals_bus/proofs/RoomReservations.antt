@@ -17,7 +17,7 @@ use Rattle.pals_bus.proofs.QueueChanges.{queue_more, queues_copies, queues_more}
 use Rattle.pals_bus.specs.proof.OutOfRangeDefaults.{no_flight, no_queue}
 use Rattle.pals_bus.proofs.FlightRooms.{no_less-set}
 use Rattle.pals_bus.proofs.EventInvariants.{keeps_room}
-use Rattle.pals_bus.proofs.CopyRemovalAndLoss.{target_within}
+use Rattle.pals_bus.proofs.OldestCopyRemoval.{target_within}
 
 pub more_room : (f : BusFields) (flights : List FlightState) (queues : List QueueState) → IsBusInvariant f
     → copies_in flights ≡ copies_in f.flights → NoLessRoom f.flights flights → entries_in queues ≡ entries_in f.queues

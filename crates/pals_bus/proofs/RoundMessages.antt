@@ -26,7 +26,7 @@ use Rattle.bus_machine.specs.Nodes.{NodeState, round_of}
 use Rattle.bus_machine.specs.NodeEvents.{message_from, messages_from}
 use Rattle.bus_machine.specs.LinkEvents.{sent_copy}
 use Rattle.bus_machine.specs.BusStates.{BusState, node_at, flight_at}
-use Rattle.bus_machine.specs.Runs.{Run}
+use Rattle.bus_machine.specs.RunParameters.{Run}
 use Rattle.bus_machine.specs.Machine.{flight_after_send}
 use Rattle.bus_machine.proofs.ListsAndOldestCopies.{numbered_at}
 use Rattle.pals_bus.specs.proof.BusInvariant.{copies_in}

@@ -17,7 +17,7 @@ use Rattle.bus_machine.specs.NodeEvents.{message_from, sent_from}
 use Rattle.bus_machine.specs.BusStates.{node_at}
 use Rattle.bus_machine.specs.Machine.{Send, flight_after_send}
 use Rattle.bus_machine.specs.Replay.{Replays, goes_on}
-use Rattle.pals_node.specs.proof.NodeValues.{NodeValue}
+use Rattle.pals_node.specs.proof.NodeAndJobValues.{NodeValue}
 use Rattle.pals_node.specs.proof.Answers.{Sends}
 use Rattle.pals_bus.specs.declared.bus_fields.BusFields.{BusFields}
 use Rattle.pals_bus.specs.proof.NodeLists.{node_value}

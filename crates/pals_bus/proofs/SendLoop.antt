@@ -24,7 +24,7 @@ use Rattle.pals_bus.proofs.NextOutgoingLink.{IsAt, Reaches, reaches_all, reaches
 use Rattle.pals_bus.proofs.QueueChanges.{amid_other, amid_room}
 use Rattle.pals_bus.proofs.QueueOpeningsAndSends.{amid_one}
 use Rattle.pals_bus.proofs.RoundMessages.{place_next, place_within, sent_other, sent_one}
-use Rattle.pals_bus.proofs.CopyRemovalAndLoss.{target_within}
+use Rattle.pals_bus.proofs.OldestCopyRemoval.{target_within}
 
 -- the first links have their messages, and the others are left
 pub record Sending (first now : BusFields) (node round : ℕ) (reading : Option ℕ) (messages left : List (List PortValue))

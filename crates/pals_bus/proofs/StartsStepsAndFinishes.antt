@@ -19,7 +19,7 @@ use Rattle.bus_machine.specs.Machine.{BusEvent, Start, Step, Finish, is_allowed,
 use Rattle.bus_machine.specs.Replay.{Replays, goes_on, entries, start_entry}
 use Rattle.bus_machine.proofs.NodeEventLocalAgreement.{finish_keeps}
 use Rattle.pals_node.specs.declared.refusals.StartEnd.TheVariants as start
-use Rattle.pals_node.specs.proof.NodeValues.{NodeValue, JobValue, with_state}
+use Rattle.pals_node.specs.proof.NodeAndJobValues.{NodeValue, JobValue, with_state}
 use Rattle.pals_node.specs.proof.Answers.{Starts, StartEnds, Steps, Finishes}
 use Rattle.pals_bus.specs.declared.bus_fields.BusFields.{BusFields}
 use Rattle.pals_bus.specs.proof.NodeLists.{node_value}

@@ -13,7 +13,7 @@ use Rattle.bus_machine.specs.declared.plan.Plan.{Plan}
 use Rattle.bus_machine.specs.Nodes.{NodeState}
 use Rattle.bus_machine.specs.NodeEvents.{with_message, arrived, received}
 use Rattle.bus_machine.specs.ActionsAndTargets.{target, action_in}
-use Rattle.pals_node.specs.proof.NodeValues.{NodeValue, with_state}
+use Rattle.pals_node.specs.proof.NodeAndJobValues.{NodeValue, with_state}
 use Rattle.pals_bus.specs.proof.OutOfRangeDefaults.{no_node_value}
 use Rattle.pals_bus.specs.proof.NodeLists.{node_of, target_of_node}
 

@@ -3,7 +3,7 @@ pub mod StepCodesOfNodes
 pub mod OutOfRangeDefaults
 pub mod NodeLists
 pub mod BusInvariant
-pub mod RefusedEvents
+pub mod RefusalCauses
 pub mod Answers
 pub mod DueQueues
 pub mod DueMessages

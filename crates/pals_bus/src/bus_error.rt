@@ -51,7 +51,7 @@ impl From<NoMemory> for MessageError {
 }
 
 impl<E: From<NoMemory>> From<NoMemory> for BusError<E> {
-    ghost use Rattle.pals_bus.specs.proof.RefusedEvents.{IsRefusedBy};
+    ghost use Rattle.pals_bus.specs.proof.RefusalCauses.{IsRefusedBy};
 
     ghost from_gives = { λ error fault. IsRefusedBy (E.from_gives error) fault };
 

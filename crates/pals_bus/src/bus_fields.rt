@@ -11,7 +11,7 @@ ghost use Rattle.pals_bus.specs.proof.BusInvariant.{IsBusInvariant, owed, copies
 ghost use Rattle.pals_bus.specs.proof.DueQueues.{HasQueueRoomFor};
 ghost use Rattle.pals_bus.specs.proof.RoundMessages.{HasRoomFor};
 
-use crate::flights::{reserve_links, reserve_queues};
+use crate::flights_and_due_queues::{reserve_links, reserve_queues};
 use crate::node_list::NodeList;
 use crate::outgoing_links::Outgoing;
 use link_buffers::{DueQueue, Flight};

@@ -10,7 +10,7 @@ mod bus_error;
 mod bus_fields;
 mod events_of_messages;
 mod events_of_nodes;
-mod flights;
+mod flights_and_due_queues;
 mod loose_faults;
 mod loose_world_events;
 mod meeting;

@@ -3,7 +3,7 @@ ghost use Rattle.std.specs.Prelude.{◌≡◌, ◌<◌, length, map, OnOk, OnErr
 ghost use Rattle.bus_machine.specs.NodeEvents.{arrived, received};
 ghost use Rattle.pals_node.specs.proof.Answers.{Starts, StartEnds, Steps, StepEnds, FinishesWith, FinishesHere};
 ghost use Rattle.pals_node.specs.proof.Answers.{NoneRuns, Sends, SendEnds};
-ghost use Rattle.pals_node.specs.proof.NodeValues.{with_state};
+ghost use Rattle.pals_node.specs.proof.NodeAndJobValues.{with_state};
 ghost use Rattle.pals_bus.specs.proof.NodeLists.{node_of, target_of_node};
 
 use crate::target_list::TargetList;
@@ -31,7 +31,7 @@ impl Drop for NodeList {
 
 impl Model for NodeList {
     ghost use Rattle.std.specs.Prelude.{List};
-    ghost use Rattle.pals_node.specs.proof.NodeValues.{NodeValue};
+    ghost use Rattle.pals_node.specs.proof.NodeAndJobValues.{NodeValue};
 
     ghost Value = { List NodeValue };
 

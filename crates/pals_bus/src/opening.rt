@@ -2,7 +2,7 @@
 ghost use Rattle.std.specs.Prelude.{◌≡◌, ℕ, ◌<◌, ◌≤◌, length, map, slice_index_or, IfOk};
 ghost use Rattle.pals_base.specs.declared.limits.TheConstants.{ROUNDS};
 ghost use Rattle.pals_model.specs.DesignRules.{IsDesign};
-ghost use Rattle.pals_node.specs.proof.NodeValues.{opening_value};
+ghost use Rattle.pals_node.specs.proof.NodeAndJobValues.{opening_value};
 ghost use Rattle.pals_bus.specs.proof.StepCodesOfNodes.{AreCodes};
 ghost use Rattle.pals_bus.specs.proof.OutOfRangeDefaults.{no_flight, no_node_value, no_queue};
 ghost use Rattle.pals_bus.specs.proof.OpeningNodes.{AreOpening};

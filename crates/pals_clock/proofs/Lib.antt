@@ -1,1 +1,1 @@
-pub mod RemainingReadings
+pub mod RemainingReadingsAndPicks

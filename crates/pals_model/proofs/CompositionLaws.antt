@@ -10,7 +10,7 @@ use Rattle.std.proofs.lemmas.Option.{slice_get-map, get_or_from_slice_get}
 use Rattle.std.specs.Option.{option_map}
 use Rattle.std.specs.List.{position_from}
 use Rattle.std.proofs.lemmas.Iterator.Adapters.{position_from-zero}
-use Rattle.pals_base.proofs.StepSequences.{frame_after-append}
+use Rattle.pals_base.proofs.SequencesAndHaltedFrames.{frame_after-append}
 use Rattle.pals_base.proofs.UpwardNumbers.{upwards-more}
 use Rattle.std.proofs.lemmas.Grind.{flat_map-append}
 use Rattle.pals_base.specs.declared.basic_types.PortValue.{PortValue}
@@ -29,7 +29,7 @@ use Rattle.pals_model.specs.declared.design.DesignParts.{DesignParts}
 use Rattle.pals_model.specs.declared.environment.Env.{Env}
 use Rattle.pals_model.specs.ComponentInputs.{values_at, input_vectors, inputs_of, inputs_in, source_of, from_link, from_feed}
 use Rattle.pals_model.specs.ComponentInputs.{link_goes_to, feed_goes_to, brought_tuple}
-use Rattle.pals_model.specs.PortKinds.{rate_of, rate_in}
+use Rattle.pals_model.specs.PortKindsAndRates.{rate_of, rate_in}
 use Rattle.pals_model.specs.Composition.{comp, next, state, msg, no_frame, steps_from, steps_of_round, message_of}
 use Rattle.pals_model.specs.Composition.{tuple_in, part, taps_of}
 use Rattle.pals_model.specs.proof.CompositionLaws.{own_steps, OneFrameEach, OneMessageEach, StateBegins}

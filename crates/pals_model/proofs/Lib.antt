@@ -10,7 +10,7 @@ pub mod WordBytes
 pub mod NameLaws
 pub mod FilteredLinks
 pub mod OverwrittenTuples
-pub mod RootInputLaws
+pub mod RootInputFeedLaws
 pub mod PartialRounds
 pub mod TextLineLaws
 pub mod AllElements

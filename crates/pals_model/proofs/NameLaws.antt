@@ -16,7 +16,7 @@ use Rattle.pals_model.specs.declared.design.Component.{Component}
 use Rattle.pals_model.specs.declared.design.Link.{Link}
 use Rattle.pals_model.specs.declared.design.DesignParts.{DesignParts}
 use Rattle.pals_model.specs.ComponentAndLinkNames.{port_name, in_port_name, target_name, link_name}
-use Rattle.pals_model.specs.PortKinds.{ins_in}
+use Rattle.pals_model.specs.PortKindsAndRates.{ins_in}
 use Rattle.pals_model.specs.DesignRules.{IsDesign, IsTarget, IsLink, LinkPrecedes, port_place}
 use Rattle.pals_model.specs.proof.CompositionLaws.Names.{NodeIsFound, FoundNodeHasPath, TargetNamesDiffer, LinkIsFound}
 use Rattle.pals_model.specs.proof.CompositionLaws.Names.{FoundLinkHasName}

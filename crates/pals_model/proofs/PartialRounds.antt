@@ -18,7 +18,7 @@ use Rattle.pals_base.specs.BehaviourRules.{IsBehaviour}
 use Rattle.pals_base.specs.StepSequences.{Stepped, steps, frame_after, outputs}
 use Rattle.pals_base.specs.Tuples.{so_far, with_places}
 use Rattle.pals_base.proofs.StepTermination.{fires_well}
-use Rattle.pals_base.proofs.StepSequences.{frame_after-append, outputs-append}
+use Rattle.pals_base.proofs.SequencesAndHaltedFrames.{frame_after-append, outputs-append}
 use Rattle.pals_base.proofs.PartialRoundTuples.{so_far-none, so_far-one_more, so_far-all}
 use Rattle.pals_model.specs.ComponentInputs.{input_vectors}
 use Rattle.pals_model.specs.Composition.{comp, state, under_way}

@@ -28,13 +28,13 @@ use Rattle.pals_model.specs.declared.environment.Env.{Env}
 use Rattle.pals_model.specs.ComponentInputs.{root_of, values_at, link_goes_to, feed_goes_to, from_feed, from_link}
 use Rattle.pals_model.specs.ComponentInputs.{source_of, sources_of, read_feed, read_link, brought_tuple, inputs_of, inputs_in}
 use Rattle.pals_model.specs.ComponentInputs.{input_vectors}
-use Rattle.pals_model.specs.PortKinds.{rate_of, kind_of, in_kind, out_kind, outs_in, root_kind}
+use Rattle.pals_model.specs.PortKindsAndRates.{rate_of, kind_of, in_kind, out_kind, outs_in, root_kind}
 use Rattle.pals_model.specs.Composition.{comp, state, msg, taps_of}
 use Rattle.pals_model.specs.DesignRules.{IsDesign, IsLink, IsFeed, IsTap}
 use Rattle.pals_model.specs.proof.CompositionLaws.{own_steps}
 use Rattle.pals_model.proofs.CompositionLaws.{state_begins, state_goes_on, message_from_source, part_from_steps}
 use Rattle.pals_model.proofs.CompositionLaws.{links_begin_absent}
-use Rattle.pals_model.proofs.RootInputLaws.{feed_has_root, feeds_have_root_kind}
+use Rattle.pals_model.proofs.RootInputFeedLaws.{feed_has_root, feeds_have_root_kind}
 use Rattle.pals_model.proofs.ShapeLaws.{state_has_shape, is_behaviour, component_at}
 use Rattle.pals_model.proofs.FirstMatches.{found_at, at_element}
 use Rattle.pals_model.specs.proof.ValuesFitKinds.{PortFits, TupleFits, PortsFit, FrameFits, link_kind, EnvFits}

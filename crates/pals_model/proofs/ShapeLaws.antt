@@ -24,7 +24,7 @@ use Rattle.pals_model.specs.declared.design.Tap.{Tap}
 use Rattle.pals_model.specs.declared.design.DesignParts.{DesignParts}
 use Rattle.pals_model.specs.declared.environment.Env.{Env}
 use Rattle.pals_model.specs.ComponentInputs.{values_at, input_vectors, inputs_of, inputs_in, sources_of, source_of, brought_tuple}
-use Rattle.pals_model.specs.PortKinds.{rate_of, rate_in, outs_in}
+use Rattle.pals_model.specs.PortKindsAndRates.{rate_of, rate_in, outs_in}
 use Rattle.pals_model.specs.Composition.{comp, state, msg, taps_of}
 use Rattle.pals_model.specs.DesignRules.{IsDesign, IsComponent, IsLink, IsTap}
 use Rattle.pals_model.specs.proof.CompositionLaws.{own_steps}

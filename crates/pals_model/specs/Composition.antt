@@ -16,7 +16,7 @@ use Rattle.pals_model.specs.declared.design.DesignParts.{DesignParts}
 use Rattle.pals_model.specs.declared.environment.Env.{Env}
 use Rattle.pals_model.specs.declared.part.Part.{Part}
 use Rattle.pals_model.specs.ComponentInputs.{inputs_of, values_at, input_vectors}
-use Rattle.pals_model.specs.PortKinds.{rate_of}
+use Rattle.pals_model.specs.PortKindsAndRates.{rate_of}
 use Rattle.pals_base.specs.declared.behaviour.BehaviourParts.{BehaviourParts}
 
 -- the frames after some rounds, and the messages of the last of these rounds

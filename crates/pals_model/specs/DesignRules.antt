@@ -14,7 +14,7 @@ use Rattle.pals_model.specs.declared.design.Link.{Link}
 use Rattle.pals_model.specs.declared.design.Feed.{Feed}
 use Rattle.pals_model.specs.declared.design.Tap.{Tap}
 use Rattle.pals_model.specs.declared.design.DesignParts.{DesignParts}
-use Rattle.pals_model.specs.PortKinds.{rate_of, ins_in, outs_in, in_kind, out_kind, feed_kind}
+use Rattle.pals_model.specs.PortKindsAndRates.{rate_of, ins_in, outs_in, in_kind, out_kind, feed_kind}
 
 -- a clock may be off, no range is reversed, and no number is above one hour
 pub record IsGamma (g : Gamma) : Type 0 where

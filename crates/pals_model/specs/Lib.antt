@@ -1,4 +1,4 @@
-pub mod PortKinds
+pub mod PortKindsAndRates
 pub mod ComponentInputs
 pub mod Composition
 pub mod RoundTexts
@@ -7,4 +7,4 @@ pub mod Delays
 pub mod DesignRules
 pub mod Flights
 pub mod proof
-pub mod OutgoingLinks
+pub mod IncomingAndOutgoingLinks

@@ -8,18 +8,18 @@ ghost use Rattle.pals_model.specs.proof.TwoCounters.{CountersCount};
 mod kinds;
 mod lines;
 mod names;
-mod root_inputs;
+mod partial_rounds;
+mod root_inputs_and_feeds;
 mod shapes;
 mod sources;
-mod steps;
 
 pub use kinds::{rounds_keep_kinds, steps_keep_kinds};
 pub use lines::{lines_have_no_line_feed, texts_split_into_lines};
 pub use names::{components_have_paths, in_ports_have_names, links_have_names};
-pub use root_inputs::{feeds_have_roots, root_inputs_are_feeds};
+pub use partial_rounds::{round_goes_step_by_step, trap_leaves_earlier_places};
+pub use root_inputs_and_feeds::{feeds_have_roots, root_inputs_are_feeds};
 pub use shapes::{messages_have_rates, parts_have_shapes, rounds_have_shapes, states_have_shapes};
 pub use sources::{sources_bring_tuples, sources_of_ports};
-pub use steps::{round_goes_step_by_step, trap_leaves_earlier_places};
 
 /// There is a frame for each component and a message for each link.
 pub fn lengths()

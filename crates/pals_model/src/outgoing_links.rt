@@ -1,6 +1,6 @@
 //! The links from a component, by their numbers.
 ghost use Rattle.std.specs.Prelude.{◌≡◌, IfOk, map};
-ghost use Rattle.pals_model.specs.OutgoingLinks.{links_from};
+ghost use Rattle.pals_model.specs.IncomingAndOutgoingLinks.{links_from};
 
 use crate::design::Design;
 use pals_base::{Items, LinkNo, NoMemory, NodeNo};

@@ -1,6 +1,6 @@
 //! What the parts of a design say of its components and ports, by their numbers.
 ghost use Rattle.std.specs.Prelude.{◌≡◌, slice_get, option_copied};
-ghost use Rattle.pals_model.specs.PortKinds.{rate_of, kind_of, in_kind, out_kind};
+ghost use Rattle.pals_model.specs.PortKindsAndRates.{rate_of, kind_of, in_kind, out_kind};
 ghost use Rattle.pals_model.specs.DesignRules.{greatest_rate};
 
 use crate::design::{Component, DesignParts};

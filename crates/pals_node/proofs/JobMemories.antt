@@ -5,9 +5,9 @@ use Rattle.pals_base.specs.declared.frames.Frame.{Frame}
 use Rattle.pals_base.specs.SingleStep.{HasShape}
 use Rattle.pals_runs.specs.declared.phase.Phase.TheVariants.{Running}
 use Rattle.step_vm.specs.proof.RoomCapacity.{IsRoomOf}
-use Rattle.pals_node.specs.declared.node_fields.NodeFields.{NodeFields}
+use Rattle.pals_node.specs.declared.node_fields_and_events.NodeFields.{NodeFields}
 use Rattle.pals_node.specs.declared.job_memory.Memory.{Memory}
-use Rattle.pals_node.specs.proof.NodeValues.{Program, JobValue, job_at}
+use Rattle.pals_node.specs.proof.NodeAndJobValues.{Program, JobValue, job_at}
 use Rattle.pals_node.specs.proof.JobMemories.{HasSizes, IsMemoryFor, IsLeft}
 use Rattle.pals_node.specs.proof.NodeInvariants.{IsProgram, Keeps, value_of}
 use Rattle.pals_node.proofs.StepEnds.{runs_open, inputs_size}

@@ -1,4 +1,4 @@
-pub mod TuplesAndSlots
+pub mod TuplesSlotsAndZips
 pub mod ProgramResults
 pub mod StepEnds
 pub mod Plans

@@ -13,7 +13,7 @@ use Rattle.pals_model.specs.declared.design.Link.{Link}
 use Rattle.pals_model.specs.declared.design.Tap.{Tap}
 use Rattle.pals_model.specs.declared.design.DesignParts.{DesignParts}
 use Rattle.pals_model.specs.ComponentInputs.{sources_of}
-use Rattle.pals_model.specs.PortKinds.{outs_in}
+use Rattle.pals_model.specs.PortKindsAndRates.{outs_in}
 use Rattle.pals_model.specs.Composition.{taps_of}
 use Rattle.pals_model.specs.DesignRules.{IsDesign, IsComponent, IsLink, IsTap, greatest_rate}
 use Rattle.pals_model.proofs.FirstMatches.{at_element}

@@ -9,7 +9,7 @@ use Rattle.pals_base.specs.declared.behaviour.StateDecl.{StateDecl}
 use Rattle.pals_base.specs.SingleStep.{Fired, HasShape, fire, may_begin}
 use Rattle.pals_base.proofs.StepTermination.{fires_well}
 use Rattle.step_code.specs.proof.CodeRuns.{Leaves, FitsCode, exec}
-use Rattle.pals_node.specs.proof.NodeValues.{Program}
+use Rattle.pals_node.specs.proof.NodeAndJobValues.{Program}
 use Rattle.pals_node.specs.proof.NodeInvariants.{IsProgram}
 
 -- ---- frames

@@ -17,10 +17,10 @@ use Rattle.bus_machine.specs.declared.plan.Input.{Input}
 use Rattle.bus_machine.specs.declared.plan.Plan.{Plan}
 use Rattle.bus_machine.specs.Nodes.{brought, vectors_of}
 use Rattle.bus_machine.specs.NodeEvents.{started}
-use Rattle.pals_node.specs.declared.node_fields.NodeFields.{NodeFields}
-use Rattle.pals_node.specs.proof.NodeValues.{NodeValue, with_state, job_value}
+use Rattle.pals_node.specs.declared.node_fields_and_events.NodeFields.{NodeFields}
+use Rattle.pals_node.specs.proof.NodeAndJobValues.{NodeValue, with_state, job_value}
 use Rattle.pals_node.specs.proof.NodeInvariants.{IsPlan, AreTuples, IsPartRoom, state_of, value_of}
-use Rattle.pals_node.proofs.TuplesAndSlots.{no_message}
+use Rattle.pals_node.proofs.TuplesSlotsAndZips.{no_message}
 
 -- ---- sizes
 pub absent_are : (count places : ℕ) → AreTuples count places (replicate count (replicate places Absent))

@@ -12,16 +12,16 @@ use Rattle.pals_runs.specs.declared.phase.Phase.TheVariants.{Running, Holding}
 use Rattle.bus_machine.specs.declared.plan.Plan.{Plan}
 use Rattle.bus_machine.specs.Nodes.{at_rest}
 use Rattle.bus_machine.specs.NodeEvents.{fired, finished, finished_with}
-use Rattle.pals_node.specs.declared.node_fields.NodeFields.{NodeFields}
+use Rattle.pals_node.specs.declared.node_fields_and_events.NodeFields.{NodeFields}
 use Rattle.std.proofs.lemmas.Option.{slice_get-get_or, get_or_from_slice_get}
-use Rattle.pals_node.specs.proof.NodeValues.{Program, job_value, job_at}
+use Rattle.pals_node.specs.proof.NodeAndJobValues.{Program, job_value, job_at}
 use Rattle.pals_node.specs.proof.NodeInvariants.{IsProgram, AreTuples, HasRound, IsOpen, PhaseKeeps, HasMessageRoom}
 use Rattle.pals_node.specs.proof.NodeInvariants.{Keeps, state_of, value_of}
 use Rattle.pals_node.specs.proof.JobMemories.{HasMemory}
 use Rattle.pals_base.specs.declared.limits.TheConstants.{ROUNDS}
 use Rattle.step_code.specs.proof.CodeRuns.{exec, Leaves}
 use Rattle.step_vm.specs.proof.RoomCapacity.{IsRoomOf}
-use Rattle.pals_node.proofs.TuplesAndSlots.{length-with_places, places-with_places}
+use Rattle.pals_node.proofs.TuplesSlotsAndZips.{length-with_places, places-with_places}
 use Rattle.pals_node.proofs.ProgramResults.{fires, leaves_shape, leaves_outs}
 
 -- outputs with one more place have the sizes that they had

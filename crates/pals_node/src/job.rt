@@ -2,7 +2,7 @@
 ghost use Rattle.std.specs.Prelude.{◌≡◌, ◌↔◌, length, IsTrue, IfOk};
 ghost use Rattle.std.specs.Arc.{arc_value};
 ghost use Rattle.step_code.specs.proof.CodeRuns.{FitsCode};
-ghost use Rattle.pals_node.specs.proof.NodeValues.{IsResult, job_value};
+ghost use Rattle.pals_node.specs.proof.NodeAndJobValues.{IsResult, job_value};
 ghost use Rattle.pals_node.specs.proof.JobMemories.{HasMemory, IsLeft};
 
 use crate::instruction_key::same_instr;
@@ -57,7 +57,7 @@ impl Drop for Job {
 
 impl Model for Job {
     ghost use Rattle.std.specs.Arc.{arc_value};
-    ghost use Rattle.pals_node.specs.proof.NodeValues.{JobValue, job_value};
+    ghost use Rattle.pals_node.specs.proof.NodeAndJobValues.{JobValue, job_value};
 
     ghost Value = { JobValue };
 
@@ -98,7 +98,7 @@ impl Drop for Done {
 impl Model for Done {
     ghost use Rattle.std.specs.Arc.{arc_value};
     ghost use Rattle.step_vm.specs.proof.RoomCapacity.{IsRoomOf};
-    ghost use Rattle.pals_node.specs.proof.NodeValues.{JobValue, IsResult, job_value};
+    ghost use Rattle.pals_node.specs.proof.NodeAndJobValues.{JobValue, IsResult, job_value};
 
     ghost Value = { JobValue };
 

@@ -8,7 +8,7 @@ mod job;
 mod job_memory;
 mod next_actions;
 mod node;
-mod node_fields;
+mod node_fields_and_events;
 mod plan;
 mod refusals;
 mod slots_and_input_vectors;

@@ -8,13 +8,13 @@ ghost use Rattle.pals_base.specs.declared.limits.TheConstants.{ROUNDS, PORTS};
 ghost use Rattle.bus_machine.specs.Nodes.{finished_steps};
 ghost use Rattle.bus_machine.specs.NodeEvents.{arrived, received, lacks};
 ghost use Rattle.bus_machine.specs.ActionsAndTargets.{target, action_of, next_of};
-ghost use Rattle.pals_node.specs.proof.NodeValues.{opening_value, with_state};
+ghost use Rattle.pals_node.specs.proof.NodeAndJobValues.{opening_value, with_state};
 ghost use Rattle.pals_node.specs.proof.Answers.{is_early, Starts, StartEnds, Steps, StepEnds, FinishesWith};
 ghost use Rattle.pals_node.specs.proof.Answers.{FinishesHere, NoneRuns, Sends, SendEnds};
 
 use crate::job::{Done, Finished, Job, StepStart};
 use crate::next_actions::{next_in_round, next_send, next_start};
-use crate::node_fields::NodeFields;
+use crate::node_fields_and_events::NodeFields;
 use crate::plan::NodePlan;
 use crate::refusals::{FinishEnd, SendEnd, StartEnd, StepEnd};
 use bus_machine::{Input, Next, Plan};
@@ -41,7 +41,7 @@ impl Drop for Node {
 }
 
 impl Model for Node {
-    ghost use Rattle.pals_node.specs.proof.NodeValues.{NodeValue};
+    ghost use Rattle.pals_node.specs.proof.NodeAndJobValues.{NodeValue};
 
     ghost Value = { NodeValue };
 

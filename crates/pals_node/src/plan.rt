@@ -1,9 +1,9 @@
 //! What a node is given: the plan of its component, and the code of its steps.
 ghost use Rattle.std.specs.Prelude.{◌≡◌, ◌<◌, IfOk, length, map};
-ghost use Rattle.step_code.specs.proof.CodeMeaning.{Means};
+ghost use Rattle.step_code.specs.proof.CodeMatchesBehaviour.{Means};
 ghost use Rattle.bus_machine.specs.Plans.{component_at, input_of, plan_of};
 ghost use Rattle.pals_model.specs.ComponentInputs.{sources_of};
-ghost use Rattle.pals_node.specs.proof.NodeValues.{program_of};
+ghost use Rattle.pals_node.specs.proof.NodeAndJobValues.{program_of};
 ghost use Rattle.pals_node.specs.proof.NodeInvariants.{IsProgram};
 
 use bus_machine::{Input, Plan};
@@ -28,7 +28,7 @@ impl Drop for NodePlan {
 }
 
 impl Model for NodePlan {
-    ghost use Rattle.pals_node.specs.proof.NodeValues.{Program};
+    ghost use Rattle.pals_node.specs.proof.NodeAndJobValues.{Program};
 
     ghost Value = { Program };
 

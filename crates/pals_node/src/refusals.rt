@@ -1,4 +1,4 @@
-//! Why a node refuses a start, a step, a finish or a send; and how a step was finished.
+//! Why a node refuses a start, a step, a finish or a send.
 use pals_base::{Nanos, NoMemory};
 
 /// Why a start gives no job. The alarm is in nanoseconds, and the port is an in port.

@@ -3,7 +3,7 @@ use Rattle.std.specs.Prelude.{ℕ, codes, decimal, List, [], ◌∷◌, slice_ge
 use Rattle.pals_base.specs.declared.behaviour.Kind.{Kind}
 use Rattle.pals_base.specs.declared.basic_types.PortValue.{PortValue}
 use Rattle.pals_model.specs.declared.design.DesignParts.{DesignParts}
-use Rattle.pals_model.specs.PortKinds.{out_kind}
+use Rattle.pals_model.specs.PortKindsAndRates.{out_kind}
 use Rattle.pals_model.specs.RoundTexts.{tuple_text}
 use Rattle.pals_runs.specs.JournalLines.{link_word, spaced}
 use Rattle.bus_machine.specs.Plans.{link_at}

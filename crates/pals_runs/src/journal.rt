@@ -1,5 +1,5 @@
-//! The entries of a journal, one for each event that was not refused, with arrivals, causes and stops; and the
-//! phases of a node.
+//! The entries of a journal, one for each event that was not refused, with arrivals, causes and
+//! stops.
 use pals_base::{LinkNo, Nanos, NodeNo};
 
 /// What became of a message that arrived: it fills its slot; it is not used; or it comes before its

@@ -9,8 +9,8 @@ mod forms;
 mod journal;
 mod phase;
 mod plant_pairs;
+mod replica_faults;
 mod verdicts;
-mod vote_faults;
 
 pub use commands::Command;
 pub use events_and_faults::{Event, EventFault, EventSubject};
@@ -18,5 +18,5 @@ pub use forms::{Compare, Form};
 pub use journal::{Arrived, Cause, JournalEntry, Stop};
 pub use phase::Phase;
 pub use plant_pairs::Pair;
+pub use replica_faults::VoteFault;
 pub use verdicts::{TraceRule, Verdict};
-pub use vote_faults::VoteFault;

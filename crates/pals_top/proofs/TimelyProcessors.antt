@@ -5,7 +5,7 @@ use Rattle.step_code.specs.declared.instr.CodeParts.{CodeParts}
 use Rattle.pals_model.specs.declared.design.DesignParts.{DesignParts}
 use Rattle.pals_model.specs.DesignRules.{IsDesign}
 use Rattle.analysis_fields.specs.declared.processors.Processor.{Processor}
-use Rattle.analysis_fields.specs.proof.FaultAndProcessorValidity.{IsProcessorOf}
+use Rattle.analysis_fields.specs.proof.ReplicaFaultsAndProcessors.{IsProcessorOf}
 use Rattle.analysis_texts.specs.BudgetedProcessors.{processor_of}
 use Rattle.scenario_json.specs.declared.scenario.Scenario.{Scenario}
 use Rattle.scenario_json.specs.proof.ScenarioValidity.{IsScenarioOf}

@@ -11,7 +11,7 @@ use Rattle.scenario_json.specs.Scenarios.{Means}
 use Rattle.pals_report.specs.ScenarioFaultLines.{scenario_fault_line}
 use Rattle.bundle_designs.specs.AcceptedAndRefusedPackages.{IsAccepted}
 use Rattle.pals_top.specs.declared.status.TheConstants.{SCENARIO_REFUSED}
-use Rattle.bus_machine.specs.Runs.{Run}
+use Rattle.bus_machine.specs.RunParameters.{Run}
 
 -- The bundle means this design and this scenario.
 pub record HasScenario (root bundle : List ℕ) (command : Command) (design : DesignParts)

@@ -5,7 +5,7 @@ use Rattle.pals_model.specs.RoundTexts.{line_end}
 use Rattle.pals_runs.specs.declared.events_and_faults.Event.{Event}
 use Rattle.pals_runs.specs.declared.events_and_faults.EventFault.{EventFault}
 use Rattle.scenario_json.specs.declared.scenario.Scenario.{Scenario}
-use Rattle.bus_machine.specs.Runs.{Run}
+use Rattle.bus_machine.specs.RunParameters.{Run}
 use Rattle.run_laws.specs.Worlds.{world_run}
 use Rattle.pals_report.specs.EventFaultLines.{event_fault_line}
 use Rattle.world_texts.specs.WorldTexts.{IsToldWorld, IsFirstFault}

@@ -13,7 +13,7 @@ use Rattle.pals_base.specs.SingleStep.{initial}
 use Rattle.pals_base.specs.StepSequences.{Stepped, outputs, frame_after}
 use Rattle.pals_base.specs.Tuples.{cut, column}
 use Rattle.pals_base.specs.UpwardNumbers.{upwards}
-use Rattle.pals_base.proofs.StepSequences.{frame_after-append, outputs-append}
+use Rattle.pals_base.proofs.SequencesAndHaltedFrames.{frame_after-append, outputs-append}
 use Rattle.pals_base.proofs.ColumnsAndCutTuples.{slice_get-columns}
 use Rattle.pals_base.proofs.UpwardNumbers.{length-map_upwards}
 use Rattle.pals_model.specs.declared.design.Component.{Component}
@@ -23,7 +23,7 @@ use Rattle.pals_model.specs.declared.environment.Env.{Env}
 use Rattle.pals_model.specs.declared.port_sources.PortSource.{PortSource}
 use Rattle.pals_model.specs.declared.port_sources.PortSource.TheVariants as source
 use Rattle.pals_model.specs.ComponentInputs.{sources_of, brought_tuple, values_at, input_vectors, inputs_in}
-use Rattle.pals_model.specs.PortKinds.{rate_of, rate_in, outs_in}
+use Rattle.pals_model.specs.PortKindsAndRates.{rate_of, rate_in, outs_in}
 use Rattle.pals_model.specs.Composition.{Configuration, comp, state, no_frame, steps_of_round, message_of, tuple_in}
 use Rattle.pals_model.specs.proof.CompositionLaws.{own_steps}
 use Rattle.pals_model.specs.DesignRules.{IsDesign, IsLink}

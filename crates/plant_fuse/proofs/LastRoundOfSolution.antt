@@ -7,7 +7,7 @@ use Rattle.std.specs.Prelude.{if◌then◌else◌}
 use Rattle.std.proofs.lemmas.Nat.{div-mul-add, mod-mul-add}
 use Rattle.std.proofs.lemmas.List.{take-append-drop, length-take-le}
 use Rattle.list_lemmas.proofs.ElementPositions.{get_or-replicate_constant, get_or-map_some}
-use Rattle.pals_base.proofs.SettledStates.{map-same}
+use Rattle.pals_base.proofs.CycleSearchMarks.{map-same}
 use Rattle.pals_base.specs.declared.basic_types.PortValue.{PortValue}
 use Rattle.pals_base.specs.declared.basic_types.PortValue.TheVariants.{Absent}
 use Rattle.pals_base.specs.declared.frames.Frame.{Frame}
@@ -16,7 +16,7 @@ use Rattle.pals_base.specs.SingleStep.{initial}
 use Rattle.pals_base.specs.StepSequences.{frame_after, outputs}
 use Rattle.pals_base.specs.Tuples.{cut}
 use Rattle.pals_base.specs.UpwardNumbers.{upwards}
-use Rattle.pals_base.proofs.StepSequences.{frame_after-append, outputs-append}
+use Rattle.pals_base.proofs.SequencesAndHaltedFrames.{frame_after-append, outputs-append}
 use Rattle.pals_base.proofs.UpwardNumbers.{length-map_upwards, map_upwards_same, get_or-map_upwards}
 use Rattle.pals_model.specs.declared.design.Component.{Component}
 use Rattle.pals_model.specs.declared.design.Link.{Link}
@@ -25,7 +25,7 @@ use Rattle.pals_model.specs.declared.environment.Env.{Env}
 use Rattle.pals_model.specs.declared.port_sources.PortSource.{PortSource}
 use Rattle.pals_model.specs.declared.port_sources.PortSource.TheVariants as source
 use Rattle.pals_model.specs.ComponentInputs.{source_of, brought_tuple, values_at}
-use Rattle.pals_model.specs.PortKinds.{rate_of, rate_in}
+use Rattle.pals_model.specs.PortKindsAndRates.{rate_of, rate_in}
 use Rattle.pals_model.specs.Composition.{Configuration, no_frame}
 use Rattle.pals_model.specs.DesignRules.{IsDesign}
 use Rattle.pals_model.proofs.ShapeLaws.{length-outputs}
@@ -40,7 +40,7 @@ use Rattle.plant_fuse.specs.proof.RoundEquations.{after_round, last_round}
 use Rattle.plant_fuse.specs.proof.FusedLaws.{RoundsGoOn}
 use Rattle.plant_fuse.proofs.FunctionTables.{table, table_at, table_same}
 use Rattle.plant_fuse.proofs.StepRanks.{IsSmall, small_rate}
-use Rattle.plant_fuse.proofs.PairLinkRates.{back_rates, forth_is, read_from_target}
+use Rattle.plant_fuse.proofs.PairLinkEnds.{back_rates, forth_is, read_from_target}
 use Rattle.plant_fuse.proofs.StepDependencies.{read_at, same_messages}
 use Rattle.plant_fuse.proofs.SolutionPrefixes.{begun, agree}
 use Rattle.plant_fuse.proofs.EquationsWithoutPairs.{shifted, behind}

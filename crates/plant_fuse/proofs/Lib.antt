@@ -1,7 +1,7 @@
 pub mod CounterPlant
 pub mod FunctionTables
 pub mod StepRanks
-pub mod PairLinkRates
+pub mod PairLinkEnds
 pub mod StepDependencies
 pub mod ExactlyOneSolution
 pub mod EquationsWithoutPairs

@@ -9,7 +9,7 @@ use Rattle.pals_base.specs.SingleStep.{fire}
 use Rattle.pals_base.specs.StepSequences.{outputs}
 use Rattle.pals_base.specs.UpwardNumbers.{upwards}
 use Rattle.pals_base.proofs.UpwardNumbers.{map_upwards_more, map_upwards_same}
-use Rattle.pals_base.proofs.StepSequences.{frame_after-append, outputs-append}
+use Rattle.pals_base.proofs.SequencesAndHaltedFrames.{frame_after-append, outputs-append}
 use Rattle.sync_product.specs.declared.round_inputs.RoundInputs.{RoundInputs}
 use Rattle.plant_fuse.specs.proof.PairSteps.{PairMember, Work, side_vector, row_before, plant_vector, controller_vector}
 use Rattle.plant_fuse.specs.proof.PairSteps.{IsMade, work, AreMade}

@@ -11,7 +11,7 @@ use Rattle.pals_model.specs.declared.design.DesignParts.{DesignParts}
 use Rattle.pals_runs.specs.declared.plant_pairs.Pair.{Pair}
 use Rattle.plant_fuse.specs.FusedComposition.{goes, is_to_plant, is_to_controller, IsPair, AreApart, ArePairs}
 use Rattle.plant_fuse.specs.proof.PartnersAndPairLinks.{partner_of, is_inside}
-use Rattle.plant_fuse.proofs.PairLinkRates.{goes_parts}
+use Rattle.plant_fuse.proofs.PairLinkEnds.{goes_parts}
 
 -- ---- one that stands in no pair
 none_by : (pair : Pair) (rest : Option NodeNo) (a b : Bool)

@@ -10,7 +10,7 @@ use Rattle.std.proofs.lemmas.List.Elements.{All-head, All-tail}
 use Rattle.std.proofs.lemmas.Option.{slice_get_cases, get_or_from_slice_get}
 use Rattle.list_lemmas.proofs.ElementPositions.{slice_get-map_some, slice_get-map_enumerate}
 use Rattle.list_lemmas.proofs.ListOperations.{length-map_enumerate_from, same_from_places, map-map}
-use Rattle.pals_base.proofs.SettledStates.{map-same}
+use Rattle.pals_base.proofs.CycleSearchMarks.{map-same}
 use Rattle.pals_base.proofs.UpwardNumbers.{length-map_upwards}
 use Rattle.pals_base.proofs.ColumnsAndCutTuples.{cut_whole}
 use Rattle.pals_base.specs.declared.basic_types.PortValue.{PortValue}
@@ -25,7 +25,7 @@ use Rattle.pals_model.specs.declared.design.Link.{Link}
 use Rattle.pals_model.specs.declared.design.Tap.{Tap}
 use Rattle.pals_model.specs.declared.design.DesignParts.{DesignParts}
 use Rattle.pals_model.specs.declared.part.Part.{Part}
-use Rattle.pals_model.specs.PortKinds.{rate_of, rate_in}
+use Rattle.pals_model.specs.PortKindsAndRates.{rate_of, rate_in}
 use Rattle.pals_model.specs.Composition.{Configuration, taps_of}
 use Rattle.pals_model.specs.DesignRules.{IsDesign, IsLink}
 use Rattle.pals_model.proofs.ShapeLaws.{component_at, length-outputs}

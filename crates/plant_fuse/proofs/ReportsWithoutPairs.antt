@@ -21,7 +21,7 @@ use Rattle.pals_model.specs.declared.environment.Env.{Env}
 use Rattle.pals_model.specs.declared.part.Part.{Part}
 use Rattle.pals_model.specs.Composition.{comp, state, part, steps_of_round, tuple_in, tuple_of}
 use Rattle.pals_model.specs.proof.CompositionLaws.{own_steps}
-use Rattle.pals_model.specs.PortKinds.{outs_in}
+use Rattle.pals_model.specs.PortKindsAndRates.{outs_in}
 use Rattle.pals_model.specs.DesignRules.{IsDesign, IsTap}
 use Rattle.pals_model.specs.RoundTexts.{text_of, composed_lines}
 use Rattle.pals_model.proofs.CompositionLaws.{steps_of_round-at}

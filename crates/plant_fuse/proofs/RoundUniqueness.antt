@@ -21,7 +21,7 @@ use Rattle.plant_fuse.specs.proof.RoundEquations.{read_by, round_vector, IsFused
 use Rattle.plant_fuse.specs.proof.FusedLaws.{RoundIsOne}
 use Rattle.plant_fuse.proofs.FunctionTables.{get_upwards_same, table_at, table_past, table_same}
 use Rattle.plant_fuse.proofs.StepRanks.{is_controller, bump}
-use Rattle.plant_fuse.proofs.PairLinkRates.{forth_is, read_from_target}
+use Rattle.plant_fuse.proofs.PairLinkEnds.{forth_is, read_from_target}
 use Rattle.plant_fuse.proofs.StepDependencies.{same_output}
 
 -- the place of a step in its round: a controller's behind its plant's

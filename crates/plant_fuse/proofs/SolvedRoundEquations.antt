@@ -23,7 +23,7 @@ use Rattle.pals_model.specs.declared.part.Part.{Part}
 use Rattle.pals_model.specs.declared.port_sources.PortSource.{PortSource}
 use Rattle.pals_model.specs.declared.port_sources.PortSource.TheVariants as source
 use Rattle.pals_model.specs.ComponentInputs.{source_of, sources_of}
-use Rattle.pals_model.specs.PortKinds.{rate_of, rate_in}
+use Rattle.pals_model.specs.PortKindsAndRates.{rate_of, rate_in}
 use Rattle.pals_model.specs.Composition.{Configuration, no_frame}
 use Rattle.pals_runs.specs.declared.plant_pairs.Pair.{Pair}
 use Rattle.sync_product.specs.declared.round_inputs.RoundInputs.{RoundInputs}
@@ -39,7 +39,7 @@ use Rattle.plant_fuse.specs.proof.PairSteps.{Work, from_partner, from_link, side
 use Rattle.plant_fuse.specs.proof.PairSteps.{plant_vector, controller_vector}
 use Rattle.plant_fuse.specs.proof.RoundWork.{pair_member, rows_of, HasWork, IsRun, AreRun}
 use Rattle.plant_fuse.proofs.FunctionTables.{table, table_at, table_same}
-use Rattle.plant_fuse.proofs.PairLinkRates.{read_from_target}
+use Rattle.plant_fuse.proofs.PairLinkEnds.{read_from_target}
 use Rattle.plant_fuse.proofs.PartnersAndPairLinks.{some_stands, pair_at, to_plant_forth, to_plant_back, to_controller_back}
 use Rattle.plant_fuse.proofs.PartnersAndPairLinks.{to_controller_forth, to_alone_back, to_alone_forth}
 

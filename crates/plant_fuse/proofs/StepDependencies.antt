@@ -4,7 +4,7 @@ use Rattle.std.proofs.Common.{length, map, Option, Some, None, slice_get, slice_
 use Rattle.std.proofs.Common.{arith}
 use Rattle.std.specs.Prelude.{if◌then◌else◌}
 use Rattle.std.proofs.lemmas.Option.{same_Some}
-use Rattle.pals_base.proofs.SettledStates.{map-same}
+use Rattle.pals_base.proofs.CycleSearchMarks.{map-same}
 use Rattle.pals_base.proofs.UpwardNumbers.{map_upwards_same}
 use Rattle.pals_base.specs.declared.basic_types.PortValue.{PortValue}
 use Rattle.pals_base.specs.declared.basic_types.PortValue.TheVariants.{Absent}
@@ -22,7 +22,7 @@ use Rattle.pals_model.specs.declared.environment.Env.{Env}
 use Rattle.pals_model.specs.declared.port_sources.PortSource.{PortSource}
 use Rattle.pals_model.specs.declared.port_sources.PortSource.TheVariants as source
 use Rattle.pals_model.specs.ComponentInputs.{source_of, brought_tuple, values_at}
-use Rattle.pals_model.specs.PortKinds.{rate_of, rate_in}
+use Rattle.pals_model.specs.PortKindsAndRates.{rate_of, rate_in}
 use Rattle.pals_model.specs.DesignRules.{IsDesign}
 use Rattle.pals_runs.specs.declared.plant_pairs.Pair.{Pair}
 use Rattle.plant_fuse.specs.FusedComposition.{ArePairs, is_to_plant, is_to_controller, Inputs, inputs_to, outputs_in, left_by}
@@ -31,7 +31,7 @@ use Rattle.plant_fuse.specs.FusedComposition.{value_on, value_read, vector_of, r
 use Rattle.plant_fuse.proofs.FunctionTables.{get_upwards_same, table_at, table_past, table_same}
 use Rattle.plant_fuse.proofs.StepRanks.{is_controller, rank, rank_upto, rank_before, rank_beside, rank_in_round}
 use Rattle.plant_fuse.proofs.StepRanks.{rank_from_round, rank_of_rounds}
-use Rattle.plant_fuse.proofs.PairLinkRates.{back_rates, forth_is, read_from_target}
+use Rattle.plant_fuse.proofs.PairLinkEnds.{back_rates, forth_is, read_from_target}
 
 -- ---- outputs
 -- what is left in a step hangs on the vectors up to it

@@ -21,7 +21,7 @@ use Rattle.pals_model.specs.declared.design.DesignParts.{DesignParts}
 use Rattle.pals_model.specs.declared.environment.Env.{Env}
 use Rattle.pals_model.specs.declared.port_sources.PortSource.{PortSource}
 use Rattle.pals_model.specs.ComponentInputs.{sources_of, brought_tuple, values_at}
-use Rattle.pals_model.specs.PortKinds.{rate_of}
+use Rattle.pals_model.specs.PortKindsAndRates.{rate_of}
 use Rattle.pals_model.specs.declared.port_sources.PortSource.TheVariants as source
 
 -- ---- pairs

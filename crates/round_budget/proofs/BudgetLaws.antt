@@ -15,7 +15,7 @@ use Rattle.pals_base.specs.declared.limits.TheConstants.{HOUR}
 use Rattle.pals_base.specs.PeriodBoundAndReleases.{alarm}
 use Rattle.step_code.specs.declared.instr.CodeParts.{CodeParts}
 use Rattle.step_code.specs.CappedWeights.{capped}
-use Rattle.step_code.specs.PathWeights.{weight_of}
+use Rattle.step_code.specs.SuccessorsAndWeights.{weight_of}
 use Rattle.step_code.specs.proof.StackHeights.{Member}
 use Rattle.step_code.proofs.HeaviestPaths.{made_within}
 use Rattle.pals_model.specs.declared.design.DesignParts.{DesignParts}

@@ -9,7 +9,7 @@ use Rattle.round_budget.specs.Budgets.{Release, budget, total, fits}
 use Rattle.round_budget.specs.ResponseTimes.{AreInTime, AreAtMost, by_exec, RespondInTime}
 use Rattle.round_budget.proofs.BudgetLaws.{responses_fit, exec_at_most, rounds_are_apart}
 use Rattle.round_budget.proofs.TimetableRepetition.{timetable_repeats}
-use Rattle.round_budget.specs.proof.TimetablePromises.{TimetableIsEach}
+use Rattle.round_budget.specs.proof.TimetableResults.{TimetableIsEach}
 
 pub budgeted_by : (design : DesignParts) (codes : List CodeParts) (nanos : ℕ) (members : List ℕ)
     → AreMembers design members

@@ -4,5 +4,5 @@ pub mod BudgetLaws
 pub mod TurnController
 pub mod TurnControllerBudget
 pub mod ReleaseAndLineValues
-pub mod TimetablePromises
+pub mod TimetableResults
 pub mod ServableReleases

@@ -5,7 +5,7 @@ ghost use Rattle.round_budget.specs.Budgets.{timetable, total, fits, numbers};
 ghost use Rattle.round_budget.specs.proof.BudgetLaws.{AreMembers};
 ghost use Rattle.round_budget.specs.ResponseTimes.{RespondInTime};
 ghost use Rattle.round_budget.specs.proof.ReleaseAndLineValues.{AreLines};
-ghost use Rattle.round_budget.specs.proof.TimetablePromises.{IsEnd, TimetableIsEach};
+ghost use Rattle.round_budget.specs.proof.TimetableResults.{IsEnd, TimetableIsEach};
 
 use crate::processor_load::{fits, total};
 use crate::releases::ordered_releases;

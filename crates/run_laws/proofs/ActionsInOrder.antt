@@ -13,7 +13,7 @@ use Rattle.bus_machine.specs.NodeEvents.{started, stepped, finished, sent_from, 
 use Rattle.bus_machine.specs.NodeEvents.{arrived}
 use Rattle.bus_machine.specs.LinkEvents.{arriving}
 use Rattle.bus_machine.specs.BusStates.{BusState, node_at, no_node, flight_at, with_node}
-use Rattle.bus_machine.specs.Runs.{Run}
+use Rattle.bus_machine.specs.RunParameters.{Run}
 use Rattle.bus_machine.specs.MissedMessages.{missing_link}
 use Rattle.bus_machine.specs.Machine.{BusEvent, Start, Step, Finish, Send, Arrive, Drop, Repeat, after, after_start}
 use Rattle.bus_machine.specs.Machine.{on_step}
@@ -28,7 +28,7 @@ use Rattle.pals_clock.specs.declared.clock.Clocks.TheVariants.{Lists}
 use Rattle.run_laws.specs.Runs.{Does, KeepsTo, Runs, opens, picks_for, goes_on}
 use Rattle.run_laws.proofs.ProgressByEvent.{next_is, starts_follow, steps_follow, sends_follow, finish_follows}
 use Rattle.run_laws.proofs.ProgressByEvent.{received_follows}
-use Rattle.run_laws.proofs.NodePicks.{runs_agree, plan_rules, held_of, node_agrees, below_nodes}
+use Rattle.run_laws.proofs.NodePicksAndRunReplay.{runs_agree, plan_rules, held_of, node_agrees, below_nodes}
 
 abbrev pub HasDone : Run → ℕ → NodeState → Type 0
 HasDone run k n = (done : ℕ) × Follows (plan_of run.design k) done n

@@ -6,7 +6,7 @@ use Rattle.std.proofs.lemmas.Option.{slice_get_within}
 use Rattle.pals_base.specs.declared.basic_types.NodeNo.{NodeNo}
 use Rattle.pals_base.specs.declared.basic_types.LinkNo.{LinkNo}
 use Rattle.pals_base.specs.declared.basic_types.PortValue.{PortValue}
-use Rattle.pals_clock.proofs.RemainingReadings.{reached_none}
+use Rattle.pals_clock.proofs.RemainingReadingsAndPicks.{reached_none}
 use Rattle.pals_model.specs.declared.design.Link.{Link}
 use Rattle.pals_model.specs.Delays.{delay_of}
 use Rattle.pals_runs.specs.declared.phase.Phase.{Phase}
@@ -20,7 +20,7 @@ use Rattle.bus_machine.specs.Nodes.{NodeState, sent_rounds}
 use Rattle.bus_machine.specs.NodeEvents.{is_waiting, with_message, received, arrived}
 use Rattle.bus_machine.specs.LinkEvents.{arriving}
 use Rattle.bus_machine.specs.BusStates.{BusState, node_at, flight_at}
-use Rattle.bus_machine.specs.Runs.{Run}
+use Rattle.bus_machine.specs.RunParameters.{Run}
 use Rattle.bus_machine.specs.Machine.{BusEvent, Arrive}
 use Rattle.bus_machine.specs.ActionsAndTargets.{next_in, target}
 use Rattle.bus_machine.specs.proof.AgreementLaws.{IsRunOf}
@@ -38,7 +38,7 @@ use Rattle.run_laws.proofs.ActionsInOrder.{follows_in}
 use Rattle.run_laws.proofs.MeetingReadings.{event_aims}
 use Rattle.run_laws.proofs.LinkTiming.{links_timed}
 use Rattle.run_laws.proofs.OldestCopies.{due_is_oldest}
-use Rattle.run_laws.proofs.NodePicks.{runs_agree}
+use Rattle.run_laws.proofs.NodePicksAndRunReplay.{runs_agree}
 
 -- ---- clocks
 pub list_picks : ListPicks

@@ -23,7 +23,7 @@ use Rattle.pals_runs.specs.declared.journal.JournalEntry.{JournalEntry}
 use Rattle.pals_runs.specs.declared.journal.JournalEntry.TheVariants as entry
 use Rattle.bus_machine.specs.Plans.{plan_of, link_at, no_link}
 use Rattle.bus_machine.specs.BusStates.{BusState, node_at}
-use Rattle.bus_machine.specs.Runs.{Run}
+use Rattle.bus_machine.specs.RunParameters.{Run}
 use Rattle.bus_machine.specs.MissedMessages.{missing_link}
 use Rattle.bus_machine.specs.Machine.{BusEvent, Start, Step, Finish, Send, Arrive, Drop, Repeat, arrival, early_stop}
 use Rattle.bus_machine.specs.Replay.{entries, start_entry, stop_entry}
@@ -36,7 +36,7 @@ use Rattle.pals_clock.specs.declared.clock.Clocks.{Clocks}
 use Rattle.pals_clock.specs.declared.clock.Clocks.TheVariants.{Meet, Lists}
 use Rattle.run_laws.specs.Runs.{no_clock, clock_at, Shows, Does, KeepsTo, Picks, HaveFreshClocks, Runs, opens, picks_for, goes_on}
 use Rattle.run_laws.proofs.MissedLinks.{missed_link}
-use Rattle.run_laws.proofs.NodePicks.{many_clocks}
+use Rattle.run_laws.proofs.NodePicksAndRunReplay.{many_clocks}
 
 -- ---- a node's clock is read
 pub record Reads (run : Run) (clocks : Clocks) (s : BusState) (j at : ℕ) : Type 0 where

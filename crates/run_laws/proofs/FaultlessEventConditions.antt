@@ -16,7 +16,7 @@ use Rattle.bus_machine.specs.NodeEvents.{is_waiting, next_step, running_step, ma
 use Rattle.bus_machine.specs.LinkEvents.{is_in_flight}
 use Rattle.bus_machine.specs.AlarmsAndReleases.{start_alarm, step_alarm, release_reading}
 use Rattle.bus_machine.specs.BusStates.{node_at, flight_at}
-use Rattle.bus_machine.specs.Runs.{Run}
+use Rattle.bus_machine.specs.RunParameters.{Run}
 use Rattle.bus_machine.specs.Machine.{Start, Step, Finish, Send}
 use Rattle.run_laws.specs.Worlds.{World, reading_at, since_at, flight_since}
 use Rattle.run_laws.specs.EventFaults.{fault_of, event_fault, is_named, found_if, wrong_phase, no_message, not_due}

@@ -19,7 +19,7 @@ use Rattle.bus_machine.specs.Nodes.{round_of}
 use Rattle.bus_machine.specs.NodeEvents.{next_step}
 use Rattle.bus_machine.specs.AlarmsAndReleases.{start_alarm, step_alarm, release_reading}
 use Rattle.bus_machine.specs.BusStates.{BusState, node_at}
-use Rattle.bus_machine.specs.Runs.{Run}
+use Rattle.bus_machine.specs.RunParameters.{Run}
 use Rattle.bus_machine.specs.MissedMessages.{missing_link}
 use Rattle.bus_machine.specs.Machine.{BusEvent, Start, Step, Finish, Send, Arrive, Drop, Repeat, arrival, early_stop}
 use Rattle.bus_machine.specs.Replay.{Replays, entries, start_entry, stop_entry, opens as replay_opens}

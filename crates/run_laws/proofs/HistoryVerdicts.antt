@@ -32,7 +32,7 @@ use Rattle.bus_machine.specs.Nodes.{NodeState, round_of}
 use Rattle.bus_machine.specs.NodeEvents.{is_waiting, next_step}
 use Rattle.bus_machine.specs.AlarmsAndReleases.{start_alarm, step_alarm, release_reading}
 use Rattle.bus_machine.specs.BusStates.{BusState, no_node, node_at, finished_by_all}
-use Rattle.bus_machine.specs.Runs.{Run}
+use Rattle.bus_machine.specs.RunParameters.{Run}
 use Rattle.bus_machine.specs.MissedMessages.{missing_link}
 use Rattle.bus_machine.specs.Machine.{BusEvent, Start, Step, Finish, Send, Arrive, Drop, Repeat, is_allowed, after}
 use Rattle.bus_machine.specs.Machine.{arrival, early_stop}
@@ -55,7 +55,7 @@ use Rattle.run_laws.proofs.RuleKeepingLines.{BreakNone, audited, break_append, v
 use Rattle.run_laws.proofs.RuleKeepingLines.{none_due}
 use Rattle.run_laws.proofs.TraceAndJournalVerdicts.{FirstHasForm, behind_report}
 use Rattle.run_laws.specs.proof.HistoryAndTraceLaws.{TracesAreSound}
-use Rattle.run_laws.proofs.SoundEntries.{AreLast, target_within}
+use Rattle.run_laws.proofs.SoundEntryEvents.{AreLast, target_within}
 use Rattle.run_laws.proofs.SoundTraces.{length-noted, noted_last, opening_many, opening_last}
 use Rattle.run_laws.proofs.HistoryReplay.{replays}
 use Rattle.run_laws.proofs.MeetingStopsAndBounds.{link_is}

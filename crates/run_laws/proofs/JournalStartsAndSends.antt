@@ -27,7 +27,7 @@ use Rattle.bus_machine.specs.NodeEvents.{is_waiting, started, next_step, stepped
 use Rattle.bus_machine.specs.NodeEvents.{sent_from, with_message, arrived, received}
 use Rattle.bus_machine.specs.LinkEvents.{arriving}
 use Rattle.bus_machine.specs.BusStates.{BusState, opening, node_at, no_node, flight_at, with_node}
-use Rattle.bus_machine.specs.Runs.{Run}
+use Rattle.bus_machine.specs.RunParameters.{Run}
 use Rattle.bus_machine.specs.MissedMessages.{missing_link}
 use Rattle.bus_machine.specs.Machine.{BusEvent, Start, Step, Finish, Send, Arrive, Drop, Repeat, after, after_start}
 use Rattle.bus_machine.specs.Machine.{after_send, after_arrive, on_step, is_allowed, arrival, early_stop}
@@ -42,7 +42,7 @@ use Rattle.run_laws.specs.JournalReadings.{listed, start_in, send_in, starts, se
 use Rattle.pals_clock.specs.declared.clock.Clocks.{Clocks}
 use Rattle.pals_clock.specs.declared.clock.Clocks.TheVariants.{Lists}
 use Rattle.run_laws.specs.Runs.{Runs, KeepsTo, opens, picks_for, goes_on}
-use Rattle.run_laws.proofs.NodePicks.{runs_agree, below_nodes}
+use Rattle.run_laws.proofs.NodePicksAndRunReplay.{runs_agree, below_nodes}
 
 -- ---- the two numbers
 abbrev rounds_of : ℕ → NodeState → ℕ

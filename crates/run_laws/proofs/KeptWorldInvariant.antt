@@ -5,7 +5,7 @@ use Rattle.std.proofs.lemmas.Option.{none-some}
 use Rattle.pals_runs.specs.declared.events_and_faults.Event.{Event}
 use Rattle.pals_runs.specs.declared.events_and_faults.Event.TheVariants as event
 use Rattle.pals_runs.specs.declared.events_and_faults.EventFault.TheVariants as fault
-use Rattle.bus_machine.specs.Runs.{Run}
+use Rattle.bus_machine.specs.RunParameters.{Run}
 use Rattle.bus_machine.specs.proof.AgreementLaws.{IsRunOf}
 use Rattle.run_laws.specs.Worlds.{World, opening_world, world_after}
 use Rattle.run_laws.specs.EventLists.{IsWithin, world_left}
@@ -16,11 +16,11 @@ use Rattle.run_laws.proofs.WorldNodeTiming.{counts_close}
 use Rattle.run_laws.proofs.FaultlessEventConditions.{named, starts_in_time, steps_in_time, finishes_in_time}
 use Rattle.run_laws.proofs.FaultlessEventConditions.{sends_in_time, arrives_in_time}
 use Rattle.run_laws.proofs.TimePassage.{passes_in_time, pass_keeps_time}
-use Rattle.run_laws.proofs.StartTiming.{start_keeps_time}
-use Rattle.run_laws.proofs.StepTiming.{step_keeps_time}
-use Rattle.run_laws.proofs.FinishTiming.{finish_keeps_time}
-use Rattle.run_laws.proofs.SendTiming.{send_keeps_time}
-use Rattle.run_laws.proofs.ArrivalTiming.{arrive_keeps_time, arrival_is_kept}
+use Rattle.run_laws.proofs.WorldInvariantAfterStarts.{start_keeps_time}
+use Rattle.run_laws.proofs.WorldInvariantAfterSteps.{step_keeps_time}
+use Rattle.run_laws.proofs.WorldInvariantAfterFinishes.{finish_keeps_time}
+use Rattle.run_laws.proofs.WorldInvariantAfterSends.{send_keeps_time}
+use Rattle.run_laws.proofs.WorldInvariantAfterArrivals.{arrive_keeps_time, arrival_is_kept}
 use Rattle.run_laws.proofs.OpeningWorlds.{opening_keeps_time}
 
 -- ---- one event

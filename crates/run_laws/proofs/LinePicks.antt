@@ -19,7 +19,7 @@ use Rattle.std.specs.Option.{unwrap_or}
 use Rattle.bus_machine.specs.Nodes.{round_of}
 use Rattle.bus_machine.specs.NodeEvents.{next_step}
 use Rattle.bus_machine.specs.BusStates.{BusState, node_at}
-use Rattle.bus_machine.specs.Runs.{Run}
+use Rattle.bus_machine.specs.RunParameters.{Run}
 use Rattle.bus_machine.specs.MissedMessages.{missing_link}
 use Rattle.bus_machine.specs.Machine.{BusEvent, Start, Step, Finish, Send, Arrive, Drop, Repeat, arrival, early_stop}
 use Rattle.bus_machine.specs.Replay.{entries, start_entry, stop_entry}
@@ -34,7 +34,7 @@ use Rattle.pals_clock.specs.declared.clock.Clocks.TheVariants.{Meet, Lists}
 use Rattle.run_laws.specs.Runs.{clock_at, Does, KeepsTo, Runs, opens, picks_for, goes_on}
 use Rattle.run_laws.specs.ListPicks.{picks_of, coming_start, action_shown, ShowsPick, LinesAre}
 use Rattle.run_laws.specs.proof.ListPicks.{LinesArePicks}
-use Rattle.run_laws.proofs.NodePicks.{many_clocks}
+use Rattle.run_laws.proofs.NodePicksAndRunReplay.{many_clocks}
 use Rattle.run_laws.proofs.MissedLinks.{missed_link}
 use Rattle.run_laws.proofs.MeetingStopsAndBounds.{link_is}
 use Rattle.run_laws.proofs.StartSendAndStopPicks.{next_pick, same_lists}

@@ -10,7 +10,7 @@ use Rattle.pals_model.specs.Delays.{delay_of}
 use Rattle.pals_runs.specs.declared.journal.JournalEntry.{JournalEntry}
 use Rattle.bus_machine.specs.NodeEvents.{slot_at}
 use Rattle.bus_machine.specs.BusStates.{BusState, node_at, flight_at}
-use Rattle.bus_machine.specs.Runs.{Run}
+use Rattle.bus_machine.specs.RunParameters.{Run}
 use Rattle.bus_machine.specs.Machine.{BusEvent}
 use Rattle.bus_machine.specs.Replay.{entries}
 use Rattle.run_laws.specs.JournalReadings.{listed, if_at, start_in, send_in, starts, sends, latest}

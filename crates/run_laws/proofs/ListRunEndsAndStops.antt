@@ -18,7 +18,7 @@ use Rattle.bus_machine.specs.declared.plan.Plan.{Plan}
 use Rattle.bus_machine.specs.Plans.{plan_of, component_at, link_at, no_link}
 use Rattle.bus_machine.specs.Nodes.{NodeState}
 use Rattle.bus_machine.specs.BusStates.{BusState, node_at}
-use Rattle.bus_machine.specs.Runs.{Run}
+use Rattle.bus_machine.specs.RunParameters.{Run}
 use Rattle.bus_machine.specs.Agreement.{PhaseAgrees}
 use Rattle.bus_machine.specs.proof.AgreementLaws.{IsRunOf}
 use Rattle.bus_machine.specs.declared.node_action.NodeAction.{NodeAction}
@@ -35,7 +35,7 @@ use Rattle.run_laws.specs.ListRunEndsAndStops.{IsOver, PicksAll, ListStop}
 use Rattle.run_laws.specs.proof.ListRunEndsAndStops.{EndsAreTimely, DoneArePicked, EndedPicksEnd, ListsStop}
 use Rattle.run_laws.proofs.NodeActions.{IsPlan, length-targets, sized, size}
 use Rattle.run_laws.proofs.TargetPicks.{picks_end}
-use Rattle.run_laws.proofs.NodePicks.{runs_agree, nodes_pick, next_target, plan_rules, node_agrees, readings_are_picks}
+use Rattle.run_laws.proofs.NodePicksAndRunReplay.{runs_agree, nodes_pick, next_target, plan_rules, node_agrees, readings_are_picks}
 use Rattle.run_laws.proofs.JournalStartsAndSends.{rounds_are_shown}
 use Rattle.run_laws.proofs.LinkTimingPreservation.{due_if_sent, sent_of}
 use Rattle.run_laws.proofs.LinkTiming.{links_timed}

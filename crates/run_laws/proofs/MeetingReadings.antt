@@ -20,7 +20,7 @@ use Rattle.bus_machine.specs.NodeEvents.{is_waiting, started, stepped, finished,
 use Rattle.bus_machine.specs.NodeEvents.{received, arrived, with_message}
 use Rattle.bus_machine.specs.LinkEvents.{arriving}
 use Rattle.bus_machine.specs.BusStates.{BusState, opening, node_at, no_node, flight_at, with_node}
-use Rattle.bus_machine.specs.Runs.{Run}
+use Rattle.bus_machine.specs.RunParameters.{Run}
 use Rattle.bus_machine.specs.MissedMessages.{missing_link}
 use Rattle.bus_machine.specs.Machine.{BusEvent, Start, Step, Finish, Send, Arrive, Drop, Repeat, is_allowed, after}
 use Rattle.bus_machine.specs.Machine.{after_start, on_step}
@@ -36,7 +36,7 @@ use Rattle.run_laws.specs.JournalReadings.{latest}
 use Rattle.pals_clock.specs.declared.clock.Clocks.{Clocks}
 use Rattle.pals_clock.specs.declared.clock.Clocks.TheVariants.{Meet, Lists}
 use Rattle.run_laws.specs.Runs.{target_of, Does, KeepsTo, Runs, opens, picks_for, goes_on}
-use Rattle.run_laws.proofs.NodePicks.{runs_agree, node_agrees, below_nodes, component_is}
+use Rattle.run_laws.proofs.NodePicksAndRunReplay.{runs_agree, node_agrees, below_nodes, component_is}
 use Rattle.run_laws.proofs.ActionsInOrder.{HasDone, follows_in}
 use Rattle.run_laws.proofs.RisingTargets.{IsTimedPlan, plan_times, step_was, aim_in, aim, Rises, same_aim, start_rises}
 use Rattle.run_laws.proofs.RisingTargets.{step_rises, send_rises, finish_rises, Steps}

@@ -1,4 +1,5 @@
--- What a stop tells with nodes that meet, and the bounds that it keeps: MeetingsStop and MeetingsEnd.
+-- What a stop and an end tell with nodes that meet, and that delays within the bounds let no stop come: MeetingsStop,
+-- MeetingsEnd and NoMeetingStops.
 use Rattle.std.proofs.Common.{◌≡◌, ℕ, zero, suc, ◌+◌, ◌-◌, ◌*◌, ◌/◌, ◌<◌, ◌≤◌, max, List, length, slice_get, Option}
 use Rattle.std.proofs.Common.{Some, None, refl, sym, ap, ◌∙◌, subst, arith}
 use Rattle.std.specs.Prelude.{IfSome}
@@ -16,7 +17,7 @@ use Rattle.pals_runs.specs.declared.journal.Stop.TheVariants as stop
 use Rattle.pals_runs.specs.declared.journal.JournalEntry.{JournalEntry}
 use Rattle.bus_machine.specs.Plans.{plan_of, component_at, link_at, no_link}
 use Rattle.bus_machine.specs.BusStates.{BusState, node_at}
-use Rattle.bus_machine.specs.Runs.{Run}
+use Rattle.bus_machine.specs.RunParameters.{Run}
 use Rattle.bus_machine.specs.Agreement.{PhaseAgrees}
 use Rattle.bus_machine.specs.proof.AgreementLaws.{IsRunOf}
 use Rattle.run_laws.specs.JournalReadings.{sends}
@@ -25,9 +26,9 @@ use Rattle.run_laws.specs.Runs.{Runs}
 use Rattle.run_laws.specs.proof.LinkTiming.{due_of}
 use Rattle.run_laws.specs.proof.ReadingsAndStopCauses.{StopsAtStart, CauseFits, StopFits}
 use Rattle.run_laws.specs.Meetings.{IsLate, MeetingStop}
-use Rattle.run_laws.specs.StopBounds.{DelaysFit}
+use Rattle.run_laws.specs.BoundsBrokenAtStops.{DelaysFit}
 use Rattle.run_laws.specs.proof.MeetingLaws.{MeetingsStop, MeetingsEnd, NoMeetingStops}
-use Rattle.run_laws.proofs.NodePicks.{runs_agree, node_agrees}
+use Rattle.run_laws.proofs.NodePicksAndRunReplay.{runs_agree, node_agrees}
 use Rattle.run_laws.proofs.LinkTiming.{links_timed}
 use Rattle.run_laws.proofs.RisingTargets.{next_alarm}
 use Rattle.run_laws.proofs.StartAndSendReadings.{all_times_fit}

@@ -17,7 +17,7 @@ use Rattle.pals_model.specs.declared.design.DesignParts.{DesignParts}
 use Rattle.pals_model.specs.declared.port_sources.PortSource.{PortSource}
 use Rattle.pals_model.specs.declared.port_sources.PortSource.TheVariants as source
 use Rattle.pals_model.specs.ComponentInputs.{source_of, sources_of, link_goes_to, feed_goes_to}
-use Rattle.pals_model.specs.PortKinds.{ins_in}
+use Rattle.pals_model.specs.PortKindsAndRates.{ins_in}
 use Rattle.pals_model.specs.DesignRules.{IsLink}
 use Rattle.pals_model.proofs.FirstMatches.{found_at, at_element}
 use Rattle.pals_model.proofs.SourceLaws.{link_is_source, from_link_is}
@@ -25,7 +25,7 @@ use Rattle.bus_machine.specs.declared.plan.Input.{Input}
 use Rattle.bus_machine.specs.Plans.{plan_of, component_at, no_component, input_of, input_from_feed, input_from_link}
 use Rattle.bus_machine.specs.NodeEvents.{lacks, missing, slot_at}
 use Rattle.bus_machine.specs.BusStates.{BusState, node_at}
-use Rattle.bus_machine.specs.Runs.{Run}
+use Rattle.bus_machine.specs.RunParameters.{Run}
 use Rattle.bus_machine.specs.MissedMessages.{link_into, missing_link}
 use Rattle.bus_machine.specs.Agreement.{Agrees}
 use Rattle.bus_machine.specs.proof.AgreementLaws.{IsRunOf}

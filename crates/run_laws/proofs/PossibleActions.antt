@@ -21,7 +21,7 @@ use Rattle.bus_machine.specs.Plans.{plan_of, component_at, link_at, no_link}
 use Rattle.bus_machine.specs.Nodes.{round_of, finished_steps}
 use Rattle.bus_machine.specs.NodeEvents.{is_waiting, next_step, running_step}
 use Rattle.bus_machine.specs.BusStates.{BusState, node_at, flight_at}
-use Rattle.bus_machine.specs.Runs.{Run}
+use Rattle.bus_machine.specs.RunParameters.{Run}
 use Rattle.bus_machine.specs.Machine.{BusEvent, Start, Step, Finish, Send, Arrive, is_allowed}
 use Rattle.bus_machine.specs.ActionsAndTargets.{Progress, send_is_next, next_in}
 use Rattle.bus_machine.specs.Agreement.{PhaseAgrees}
@@ -30,7 +30,7 @@ use Rattle.run_laws.specs.TraceRules.{is_due}
 use Rattle.pals_clock.specs.declared.clock.Clocks.{Clocks}
 use Rattle.run_laws.specs.Runs.{Does, IsAwaited, KeepsTo, Runs, next_start}
 use Rattle.run_laws.specs.proof.ClockAnswersAndDueArrivals.{IsDueAt}
-use Rattle.run_laws.proofs.NodePicks.{runs_agree, node_agrees, plan_rules}
+use Rattle.run_laws.proofs.NodePicksAndRunReplay.{runs_agree, node_agrees, plan_rules}
 use Rattle.run_laws.proofs.ClockAnswersAndDueArrivals.{due_takes}
 use Rattle.run_laws.proofs.BoundedSearch.{first_or_none}
 

@@ -31,7 +31,7 @@ use Rattle.bus_machine.specs.NodeEvents.{may_send, after_send as phase_after_sen
 use Rattle.bus_machine.specs.NodeEvents.{received}
 use Rattle.bus_machine.specs.LinkEvents.{sent_copy, arriving}
 use Rattle.bus_machine.specs.BusStates.{BusState, opening, node_at, flight_at, with_node}
-use Rattle.bus_machine.specs.Runs.{Run}
+use Rattle.bus_machine.specs.RunParameters.{Run}
 use Rattle.bus_machine.specs.MissedMessages.{missing_link}
 use Rattle.bus_machine.specs.Machine.{BusEvent, Start, Step, Finish, Send, Arrive, Drop, Repeat, is_allowed, after}
 use Rattle.bus_machine.specs.Machine.{after_start, after_send, after_arrive, on_step, flight_after_send, arrival}
@@ -47,7 +47,7 @@ use Rattle.pals_clock.specs.declared.clock.Clocks.{Clocks}
 use Rattle.run_laws.specs.Runs.{KeepsTo}
 use Rattle.run_laws.specs.proof.LinkTiming.{one_if}
 use Rattle.run_laws.specs.proof.RunTermination.{most_lines}
-use Rattle.run_laws.proofs.NodePicks.{node_agrees, below_nodes, plan_rules}
+use Rattle.run_laws.proofs.NodePicksAndRunReplay.{node_agrees, below_nodes, plan_rules}
 use Rattle.run_laws.proofs.LinkTimingPreservation.{without_by}
 use Rattle.run_laws.proofs.ClockAnswersAndDueArrivals.{message_keeps}
 use Rattle.run_laws.proofs.Sums.{sum_below, sum_stays, sum_rises, sum_falls, sum_none, sum_scale, sum_both, sum_columns}

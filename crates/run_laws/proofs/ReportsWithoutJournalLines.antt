@@ -32,7 +32,7 @@ use Rattle.pals_model.specs.declared.design.DesignParts.{DesignParts}
 use Rattle.pals_model.specs.declared.environment.Env.{Env}
 use Rattle.pals_model.specs.declared.part.Part.{Part}
 use Rattle.pals_model.specs.Composition.{part}
-use Rattle.pals_model.specs.PortKinds.{out_kind}
+use Rattle.pals_model.specs.PortKindsAndRates.{out_kind}
 use Rattle.pals_model.specs.RoundTexts.{value_text, state_name, state_text, variable_text, vars_text, component_line}
 use Rattle.pals_model.specs.RoundTexts.{tuple_text, taps_before, tap_line, round_line, part_lines, tap_lines}
 use Rattle.pals_model.specs.RoundTexts.{composed_lines}

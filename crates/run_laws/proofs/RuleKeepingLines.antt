@@ -13,7 +13,7 @@ use Rattle.pals_runs.specs.declared.verdicts.TraceRule.TheVariants as rule
 use Rattle.pals_runs.specs.declared.verdicts.Verdict.TheVariants.{Sound}
 use Rattle.pals_runs.specs.JournalLines.{entry_line}
 use Rattle.bus_machine.specs.BusStates.{BusState, flight_at}
-use Rattle.bus_machine.specs.Runs.{Run}
+use Rattle.bus_machine.specs.RunParameters.{Run}
 use Rattle.run_laws.specs.TraceVerdicts.{Audit, audit_after, line_broken, end_broken, wrong_or, entry_or}
 use Rattle.run_laws.specs.TraceVerdicts.{journal_verdict}
 use Rattle.run_laws.specs.EntriesInLines.{entry_of_line}

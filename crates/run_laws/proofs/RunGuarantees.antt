@@ -5,16 +5,16 @@ use Rattle.pals_clock.specs.declared.clock.Clocks.TheVariants.{Meet, Lists}
 use Rattle.pals_runs.specs.declared.journal.JournalEntry.{JournalEntry}
 use Rattle.bus_machine.specs.proof.AgreementLaws.{IsRunOf}
 use Rattle.bus_machine.specs.BusStates.{BusState}
-use Rattle.bus_machine.specs.Runs.{Run}
+use Rattle.bus_machine.specs.RunParameters.{Run}
 use Rattle.run_laws.specs.Runs.{Runs}
 use Rattle.run_laws.specs.RunGuarantees.{KeepsClocks}
 use Rattle.run_laws.specs.proof.RunGuarantees.{ClausesAreKept}
-use Rattle.run_laws.proofs.NodePicks.{readings_are_picks, runs_replay, runs_agree}
+use Rattle.run_laws.proofs.NodePicksAndRunReplay.{readings_are_picks, runs_replay, runs_agree}
 use Rattle.run_laws.proofs.LinePicks.{lines_are_picks}
 use Rattle.run_laws.proofs.ListRunEndsAndStops.{ends_are_timely, done_are_picked, ended_picks_end, lists_stop}
 use Rattle.run_laws.proofs.MeetingLines.{meetings_show_targets}
 use Rattle.run_laws.proofs.MeetingStopsAndBounds.{meetings_stop, meetings_end, no_meeting_stops}
-use Rattle.run_laws.proofs.StopBounds.{stops_are_bounded}
+use Rattle.run_laws.proofs.BoundsBrokenAtStops.{stops_are_bounded}
 
 keeps_clocks : (run : Run) (clocks : Clocks) (journal : List JournalEntry) (s : BusState) → IsRunOf run
     → Runs run clocks journal s → KeepsClocks run clocks journal s

@@ -12,14 +12,14 @@ use Rattle.bus_machine.specs.Plans.{plan_of, link_at}
 use Rattle.bus_machine.specs.Nodes.{round_of}
 use Rattle.bus_machine.specs.NodeEvents.{next_step}
 use Rattle.bus_machine.specs.BusStates.{BusState, node_at}
-use Rattle.bus_machine.specs.Runs.{Run}
+use Rattle.bus_machine.specs.RunParameters.{Run}
 use Rattle.bus_machine.specs.Machine.{BusEvent, Start, Step, Finish, Send, Arrive, Drop, Repeat, is_allowed}
 use Rattle.bus_machine.specs.ActionsAndTargets.{target}
 use Rattle.bus_machine.specs.proof.AgreementLaws.{IsRunOf}
 use Rattle.bus_machine.specs.declared.node_action.NodeAction.{NodeAction}
 use Rattle.bus_machine.specs.declared.node_action.NodeAction.TheVariants as action
 use Rattle.run_laws.specs.Runs.{Does, KeepsTo, Runs, next_start, opens as run_opens, picks_for, goes_on as run_goes_on}
-use Rattle.run_laws.proofs.StopBounds.{no_less}
+use Rattle.run_laws.proofs.BoundsBrokenAtStops.{no_less}
 use Rattle.run_laws.proofs.MeetingReadings.{no_fall}
 use Rattle.run_laws.proofs.MeetingLines.{step_now}
 use Rattle.run_laws.proofs.EventReadings.{does_read}

@@ -20,7 +20,7 @@ use Rattle.bus_machine.specs.declared.plan.Plan.{Plan}
 use Rattle.bus_machine.specs.Plans.{plan_of, component_at}
 use Rattle.bus_machine.specs.Nodes.{NodeState, sent_rounds}
 use Rattle.bus_machine.specs.BusStates.{BusState, opening, node_at}
-use Rattle.bus_machine.specs.Runs.{Run}
+use Rattle.bus_machine.specs.RunParameters.{Run}
 use Rattle.bus_machine.specs.Machine.{after}
 use Rattle.bus_machine.specs.Replay.{entries}
 use Rattle.bus_machine.specs.ActionsAndTargets.{target, action_in, next_in}
@@ -34,7 +34,7 @@ use Rattle.run_laws.specs.Runs.{picks_for, goes_on}
 use Rattle.run_laws.specs.Meetings.{AllDone}
 use Rattle.run_laws.specs.ListRunEndsAndStops.{IsOver, AllOver, AllAtEnd}
 use Rattle.run_laws.specs.proof.RunTermination.{HasCome, IsEnding, EachRunEnds, EachGoesOn, JournalsEnd, EndsAreNamed}
-use Rattle.run_laws.proofs.NodePicks.{runs_agree, node_agrees, many_clocks}
+use Rattle.run_laws.proofs.NodePicksAndRunReplay.{runs_agree, node_agrees, many_clocks}
 use Rattle.run_laws.proofs.SentBeforeStart.{sent_true}
 use Rattle.run_laws.proofs.StopCauses.{ended_still}
 use Rattle.run_laws.proofs.BoundedSearch.{first_or_none, least_or_none}

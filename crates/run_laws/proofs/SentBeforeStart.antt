@@ -11,13 +11,13 @@ use Rattle.bus_machine.specs.declared.plan.Plan.{Plan}
 use Rattle.bus_machine.specs.Plans.{plan_of, component_at}
 use Rattle.bus_machine.specs.Nodes.{NodeState, round_of, sent_rounds}
 use Rattle.bus_machine.specs.BusStates.{BusState, node_at}
-use Rattle.bus_machine.specs.Runs.{Run}
+use Rattle.bus_machine.specs.RunParameters.{Run}
 use Rattle.bus_machine.specs.Agreement.{PhaseAgrees, Agrees}
 use Rattle.bus_machine.specs.proof.AgreementLaws.{IsRunOf}
 use Rattle.bus_machine.specs.declared.node_action.NodeAction.TheVariants as action
 use Rattle.bus_machine.specs.ActionsAndTargets.{Progress, target, send_is_next, next_action}
 use Rattle.run_laws.specs.Runs.{IsLeast}
-use Rattle.run_laws.proofs.NodePicks.{node_agrees}
+use Rattle.run_laws.proofs.NodePicksAndRunReplay.{node_agrees}
 use Rattle.run_laws.proofs.RisingTargets.{IsTimedPlan, next_alarm, aim_in, running_aim}
 use Rattle.run_laws.proofs.MeetingReadings.{times_of}
 

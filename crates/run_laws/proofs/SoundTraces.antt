@@ -31,7 +31,7 @@ use Rattle.pals_runs.specs.JournalLines.{entry_line}
 use Rattle.bus_machine.specs.Nodes.{NodeState}
 use Rattle.bus_machine.specs.BusStates.{BusState, opening, finished_by_all, no_node}
 use Rattle.bus_machine.specs.Plans.{link_at}
-use Rattle.bus_machine.specs.Runs.{Run}
+use Rattle.bus_machine.specs.RunParameters.{Run}
 use Rattle.bus_machine.specs.Machine.{after}
 use Rattle.bus_machine.specs.Replay.{entries}
 use Rattle.run_laws.specs.LineForms.{form_of}
@@ -49,7 +49,7 @@ use Rattle.run_laws.proofs.ParsedEntryRanges.{told_are_in}
 use Rattle.run_laws.specs.proof.HistoryAndTraceLaws.{SoundAreTraces}
 use Rattle.run_laws.proofs.UniqueEntrySpelling.{told_is_line}
 use Rattle.run_laws.proofs.SoundRows.{report_is}
-use Rattle.run_laws.proofs.SoundEntries.{listed, AreLast, target_within, entry_next}
+use Rattle.run_laws.proofs.SoundEntryEvents.{listed, AreLast, target_within, entry_next}
 
 -- ---- last readings
 noted_by : (readings : List ℕ) (j k at before : ℕ) (b : Bool) → nat_eq j k ≡ b → j < length readings

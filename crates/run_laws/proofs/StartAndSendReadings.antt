@@ -15,7 +15,7 @@ use Rattle.bus_machine.specs.declared.plan.Plan.{Plan}
 use Rattle.bus_machine.specs.Plans.{plan_of}
 use Rattle.bus_machine.specs.Nodes.{NodeState, round_of, sent_rounds}
 use Rattle.bus_machine.specs.BusStates.{BusState, node_at}
-use Rattle.bus_machine.specs.Runs.{Run}
+use Rattle.bus_machine.specs.RunParameters.{Run}
 use Rattle.bus_machine.specs.MissedMessages.{missing_link}
 use Rattle.bus_machine.specs.Machine.{BusEvent, Start, Step, Finish, Send, Arrive, Drop, Repeat, is_allowed, arrival}
 use Rattle.bus_machine.specs.Machine.{early_stop}
@@ -30,7 +30,7 @@ use Rattle.pals_clock.specs.declared.clock.Clocks.{Clocks}
 use Rattle.pals_clock.specs.declared.clock.Clocks.TheVariants.{Meet, Lists}
 use Rattle.run_laws.specs.Runs.{Shows, Does, KeepsTo, Runs, opens, picks_for, goes_on}
 use Rattle.run_laws.specs.proof.ReadingsAndStopCauses.{IsFor, TimesFit}
-use Rattle.run_laws.proofs.NodePicks.{runs_agree}
+use Rattle.run_laws.proofs.NodePicksAndRunReplay.{runs_agree}
 use Rattle.run_laws.proofs.JournalStartsAndSends.{rounds_are_shown, stop_shows}
 use Rattle.run_laws.proofs.LinkTiming.{unsent_round}
 

@@ -20,7 +20,7 @@ use Rattle.bus_machine.specs.Nodes.{NodeState, round_of, sent_rounds}
 use Rattle.bus_machine.specs.NodeEvents.{next_step, running_step, stepped, finished, received, arrived}
 use Rattle.bus_machine.specs.LinkEvents.{arriving}
 use Rattle.bus_machine.specs.BusStates.{BusState, node_at, flight_at, with_node}
-use Rattle.bus_machine.specs.Runs.{Run}
+use Rattle.bus_machine.specs.RunParameters.{Run}
 use Rattle.bus_machine.specs.MissedMessages.{missing_link}
 use Rattle.bus_machine.specs.Machine.{BusEvent, Start, Step, Finish, Send, Arrive, Drop, Repeat, is_allowed, after}
 use Rattle.bus_machine.specs.Machine.{after_start, after_arrive, arrival, early_stop}
@@ -38,8 +38,8 @@ use Rattle.run_laws.specs.Runs.{no_clock, clock_at, Does, Takes, KeepsTo, Picks,
 use Rattle.run_laws.specs.ListPicks.{picks_of, IsPickFor}
 use Rattle.run_laws.proofs.TargetPicks.{pick_at}
 use Rattle.run_laws.proofs.ProgressByEvent.{action_is}
-use Rattle.run_laws.proofs.NodePicks.{runs_agree, many_clocks, nodes_pick, next_target, acting_by, plan_rules, held_of}
-use Rattle.run_laws.proofs.NodePicks.{node_agrees}
+use Rattle.run_laws.proofs.NodePicksAndRunReplay.{runs_agree, many_clocks, nodes_pick, next_target, acting_by, plan_rules, held_of}
+use Rattle.run_laws.proofs.NodePicksAndRunReplay.{node_agrees}
 use Rattle.run_laws.proofs.JournalStartsAndSends.{rounds_are_shown, stop_shows}
 use Rattle.run_laws.proofs.MissedLinks.{missed_link}
 use Rattle.run_laws.proofs.LinkTiming.{unsent_round, with_message_count}

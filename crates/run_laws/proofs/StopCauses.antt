@@ -36,7 +36,7 @@ use Rattle.bus_machine.specs.NodeEvents.{is_waiting, next_step, running_step, st
 use Rattle.bus_machine.specs.NodeEvents.{received}
 use Rattle.bus_machine.specs.LinkEvents.{is_in_flight, arriving}
 use Rattle.bus_machine.specs.BusStates.{BusState, node_at, flight_at, with_node}
-use Rattle.bus_machine.specs.Runs.{Run}
+use Rattle.bus_machine.specs.RunParameters.{Run}
 use Rattle.bus_machine.specs.MissedMessages.{missing_link, cause_of}
 use Rattle.bus_machine.specs.Machine.{BusEvent, Start, Step, Finish, Send, Arrive, Drop, Repeat, is_allowed, after}
 use Rattle.bus_machine.specs.Machine.{after_start, after_arrive, arrival, early_stop, missed_stop}
@@ -57,7 +57,7 @@ use Rattle.run_laws.specs.Runs.{opens, picks_for, goes_on}
 use Rattle.run_laws.specs.proof.LinkTiming.{view, early_on, due_of, one_if, copies, Whereabouts, in_flight, in_slot}
 use Rattle.run_laws.specs.proof.LinkTiming.{was_taken, came_early, IsDueCopy}
 use Rattle.run_laws.specs.proof.ReadingsAndStopCauses.{IsFor, StopsAtStart, NeverSent, CauseFits, StopFits, StopsFit}
-use Rattle.run_laws.proofs.NodePicks.{runs_agree, node_agrees, many_clocks}
+use Rattle.run_laws.proofs.NodePicksAndRunReplay.{runs_agree, node_agrees, many_clocks}
 use Rattle.run_laws.proofs.JournalStartsAndSends.{rounds_are_shown}
 use Rattle.run_laws.proofs.LinkTimingPreservation.{arriving_tells, due_if_sent}
 use Rattle.run_laws.proofs.MissedLinks.{missed_link}

@@ -7,7 +7,7 @@ use Rattle.std.proofs.lemmas.List.Sums.{fold-append}
 use Rattle.std.proofs.lemmas.Option.{slice_get_within, get_or_from_slice_get}
 use Rattle.pals_base.specs.ClockPicks.{remaining_from, picked, picks}
 use Rattle.pals_clock.specs.ClockStates.{ClockState, standing_at, left_after}
-use Rattle.pals_clock.proofs.RemainingReadings.{picks_append}
+use Rattle.pals_clock.proofs.RemainingReadingsAndPicks.{picks_append}
 use Rattle.bus_machine.specs.declared.plan.Plan.{Plan}
 use Rattle.bus_machine.specs.Nodes.{NodeState}
 use Rattle.bus_machine.specs.ActionsAndTargets.{targets}

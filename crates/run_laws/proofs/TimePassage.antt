@@ -20,7 +20,7 @@ use Rattle.bound_checker.specs.proof.MessageTimes.{IsNear}
 use Rattle.bus_machine.specs.Plans.{plan_of}
 use Rattle.bus_machine.specs.LinkEvents.{is_in_flight}
 use Rattle.bus_machine.specs.BusStates.{node_at, flight_at}
-use Rattle.bus_machine.specs.Runs.{Run}
+use Rattle.bus_machine.specs.RunParameters.{Run}
 use Rattle.run_laws.specs.Worlds.{World, since_at, ready_at, sendings, world_after}
 use Rattle.run_laws.specs.Deadlines.{node_deadline, message_deadline}
 use Rattle.run_laws.specs.EventFaults.{fault_of, found_if, first_of, apart, clock_back, clock_apart, past, node_past}

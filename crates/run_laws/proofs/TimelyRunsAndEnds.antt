@@ -20,21 +20,21 @@ use Rattle.bus_machine.specs.declared.node_action.NodeAction.{NodeAction}
 use Rattle.bus_machine.specs.proof.AgreementLaws.{IsRunOf}
 use Rattle.bus_machine.specs.Plans.{plan_of, link_at, no_link}
 use Rattle.bus_machine.specs.BusStates.{BusState, node_at}
-use Rattle.bus_machine.specs.Runs.{Run}
+use Rattle.bus_machine.specs.RunParameters.{Run}
 use Rattle.bus_machine.specs.Nodes.{sent_rounds}
 use Rattle.bus_machine.specs.ActionsAndTargets.{targets, target, next_in}
 use Rattle.run_laws.specs.JournalReadings.{sends}
 use Rattle.run_laws.specs.Runs.{clock_at, lists_in, HasEnded, Runs}
 use Rattle.run_laws.specs.ListPicks.{picks_of, IsPickFor}
 use Rattle.run_laws.specs.proof.LinkTiming.{due_of}
-use Rattle.run_laws.specs.TimelyRounds.{IsTimely}
+use Rattle.run_laws.specs.TimelyMessages.{IsTimely}
 use Rattle.run_laws.specs.ListRunEndsAndStops.{PicksAll, PicksEndAt, ListStop, AllAtEnd}
 use Rattle.run_laws.specs.Meetings.{AllDone, MeetingStop}
 use Rattle.run_laws.specs.proof.ReadingsAndStopCauses.{StopFits}
 use Rattle.run_laws.specs.proof.RunTermination.{IsFirstEnded}
 use Rattle.run_laws.specs.proof.TimelyRunsAndEnds.{InTime, NoneStops, BoundsAreInTime, EndsFirst, EndsAgree}
 use Rattle.run_laws.specs.proof.TimelyRunsAndEnds.{PickedAreDone}
-use Rattle.run_laws.proofs.NodePicks.{runs_agree, node_agrees}
+use Rattle.run_laws.proofs.NodePicksAndRunReplay.{runs_agree, node_agrees}
 use Rattle.run_laws.proofs.JournalStartsAndSends.{rounds_are_shown}
 use Rattle.run_laws.proofs.StopCauses.{stops_fit}
 use Rattle.run_laws.proofs.MeetingStopsAndBounds.{source_within, bounds, meetings_stop}

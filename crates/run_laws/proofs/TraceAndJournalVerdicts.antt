@@ -11,7 +11,7 @@ use Rattle.pals_model.specs.declared.design.DesignParts.{DesignParts}
 use Rattle.pals_model.specs.declared.environment.Env.{Env}
 use Rattle.pals_model.specs.RoundTexts.{report_lines}
 use Rattle.pals_model.specs.DesignRules.{IsDesign}
-use Rattle.bus_machine.specs.Runs.{Run}
+use Rattle.bus_machine.specs.RunParameters.{Run}
 use Rattle.run_laws.specs.LineForms.{form_of}
 use Rattle.run_laws.specs.TraceVerdicts.{report_size, row_size, wrong_row, opening_audit, journal_verdict}
 use Rattle.run_laws.specs.TraceVerdicts.{trace_verdict, verdict}

@@ -19,7 +19,7 @@ use Rattle.pals_runs.specs.declared.journal.JournalEntry.{JournalEntry}
 use Rattle.pals_runs.specs.declared.phase.Phase.TheVariants.{Done}
 use Rattle.bus_machine.specs.BusStates.{BusState, opening, node_at, flight_at}
 use Rattle.bus_machine.specs.Plans.{link_at}
-use Rattle.bus_machine.specs.Runs.{Run}
+use Rattle.bus_machine.specs.RunParameters.{Run}
 use Rattle.bus_machine.specs.Machine.{Start, Finish, Send, after}
 use Rattle.bus_machine.specs.proof.StoppedCounterRuns.{a, b}
 use Rattle.bus_machine.specs.declared.node_action.NodeAction.TheVariants as action

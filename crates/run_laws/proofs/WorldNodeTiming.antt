@@ -19,7 +19,7 @@ use Rattle.bus_machine.specs.Nodes.{NodeState, round_of, finished_steps, sent_ro
 use Rattle.bus_machine.specs.NodeEvents.{may_send}
 use Rattle.bus_machine.specs.AlarmsAndReleases.{start_alarm, step_alarm, release_reading}
 use Rattle.bus_machine.specs.BusStates.{node_at}
-use Rattle.bus_machine.specs.Runs.{Run}
+use Rattle.bus_machine.specs.RunParameters.{Run}
 use Rattle.bus_machine.specs.Agreement.{PhaseAgrees}
 use Rattle.bus_machine.specs.proof.AgreementLaws.{IsRunOf}
 use Rattle.run_laws.specs.Worlds.{World, reading_at, since_at, ready_at, sendings}
@@ -27,7 +27,7 @@ use Rattle.run_laws.specs.Deadlines.{last_before, lesser, phase_deadline, node_d
 use Rattle.run_laws.specs.proof.WorldInvariant.{KeepsDeadline, KeepsNode, KeepsSends, KeepsTime}
 use Rattle.run_laws.proofs.TimeArithmetic.{Fits, fits, alarm_next, alarm_after, next_after_skew, late_running}
 use Rattle.run_laws.proofs.TimeArithmetic.{late_between, unsent_running, unsent_between, unsent_ready}
-use Rattle.run_laws.proofs.NodePicks.{component_is}
+use Rattle.run_laws.proofs.NodePicksAndRunReplay.{component_is}
 
 -- ---- last allowed times
 pub left_in_time : (t a : ℕ) (b : Option ℕ) → KeepsDeadline t (lesser (Some a) b) → t ≤ a

@@ -15,7 +15,7 @@ use Rattle.bus_machine.specs.Nodes.{NodeState, sent_rounds}
 use Rattle.bus_machine.specs.NodeEvents.{may_send}
 use Rattle.bus_machine.specs.AlarmsAndReleases.{start_alarm, step_alarm, release_reading}
 use Rattle.bus_machine.specs.BusStates.{node_at}
-use Rattle.bus_machine.specs.Runs.{Run}
+use Rattle.bus_machine.specs.RunParameters.{Run}
 use Rattle.bus_machine.specs.MissedMessages.{rounds_sent_on}
 use Rattle.bus_machine.specs.Agreement.{PhaseAgrees}
 use Rattle.bus_machine.specs.proof.AgreementLaws.{IsRunOf}

@@ -14,7 +14,7 @@ use Rattle.bus_machine.specs.Plans.{plan_of}
 use Rattle.bus_machine.specs.NodeEvents.{next_step}
 use Rattle.bus_machine.specs.AlarmsAndReleases.{start_alarm, step_alarm, release_reading}
 use Rattle.bus_machine.specs.BusStates.{node_at, flight_at}
-use Rattle.bus_machine.specs.Runs.{Run}
+use Rattle.bus_machine.specs.RunParameters.{Run}
 use Rattle.bus_machine.specs.Machine.{BusEvent, Start, Step, Finish, Send, Arrive, is_allowed}
 use Rattle.run_laws.specs.Worlds.{World, reading_at, since_at, flight_since}
 use Rattle.run_laws.specs.Deadlines.{node_deadline, message_deadline}

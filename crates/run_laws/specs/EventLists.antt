@@ -1,11 +1,10 @@
--- What a list of events leaves of a world, what it is for it to go right, and which lists name parts of the design
--- alone.
+-- What a list of events leaves of a world, what it is for it to go right, and that no event of it has a fault.
 use Rattle.std.specs.Prelude.{◌≡◌, ℕ, suc, ◌<◌, ◌≤◌, List, [], ◌∷◌, ◌++◌, length, None, ◌+◌}
 use Rattle.pals_base.specs.declared.basic_types.LinkNo.{LinkNo}
 use Rattle.pals_runs.specs.declared.journal.Arrived.TheVariants.{Kept}
 use Rattle.pals_runs.specs.declared.events_and_faults.Event.{Event}
 use Rattle.bus_machine.specs.BusStates.{node_at}
-use Rattle.bus_machine.specs.Runs.{Run}
+use Rattle.bus_machine.specs.RunParameters.{Run}
 use Rattle.bus_machine.specs.Machine.{arrival}
 use Rattle.bus_machine.specs.Agreement.{Agrees}
 use Rattle.run_laws.specs.Worlds.{World, opening_world, world_after}

@@ -10,7 +10,7 @@ use Rattle.bus_machine.specs.Plans.{plan_of, link_at}
 use Rattle.bus_machine.specs.NodeEvents.{next_step}
 use Rattle.bus_machine.specs.AlarmsAndReleases.{start_alarm, step_alarm, release_reading}
 use Rattle.bus_machine.specs.BusStates.{BusState, opening, node_at, flight_at, finished_by_all}
-use Rattle.bus_machine.specs.Runs.{Run}
+use Rattle.bus_machine.specs.RunParameters.{Run}
 use Rattle.bus_machine.specs.Machine.{BusEvent, Start, Step, Finish, Send, Arrive, Drop, Repeat, IsStep}
 use Rattle.bus_machine.specs.Replay.{entries}
 use Rattle.run_laws.specs.JournalReadings.{latest}

@@ -3,9 +3,9 @@ pub mod NodeActions
 pub mod Runs
 pub mod NodeLinkQuantifiers
 pub mod ListPicks
-pub mod TimelyRounds
+pub mod TimelyMessages
 pub mod Meetings
-pub mod StopBounds
+pub mod BoundsBrokenAtStops
 pub mod RunGuarantees
 pub mod proof
 pub mod LineForms

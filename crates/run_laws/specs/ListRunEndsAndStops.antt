@@ -8,7 +8,7 @@ use Rattle.pals_runs.specs.declared.journal.Cause.TheVariants.{NotSent, Lost}
 use Rattle.pals_runs.specs.declared.journal.Stop.{Stop}
 use Rattle.bus_machine.specs.Plans.{plan_of, link_at}
 use Rattle.bus_machine.specs.BusStates.{BusState, node_at}
-use Rattle.bus_machine.specs.Runs.{Run}
+use Rattle.bus_machine.specs.RunParameters.{Run}
 use Rattle.bus_machine.specs.ActionsAndTargets.{targets}
 use Rattle.run_laws.specs.Runs.{HasEnded}
 use Rattle.run_laws.specs.ListPicks.{picks_of, IsPickFor}
@@ -18,7 +18,7 @@ use Rattle.pals_clock.specs.declared.clock.Clocks.TheVariants.{Meet, Lists}
 use Rattle.run_laws.specs.Meetings.{AllDone}
 use Rattle.pals_runs.specs.declared.journal.Stop.TheVariants as stop
 use Rattle.bus_machine.specs.declared.node_action.NodeAction.TheVariants as action
-use Rattle.run_laws.specs.TimelyRounds.{IsTimely}
+use Rattle.run_laws.specs.TimelyMessages.{IsTimely}
 
 -- all its rounds are done, or its list has no reading for its next target
 abbrev pub IsOver : Run → List ClockState → BusState → ℕ → Type 0

@@ -9,7 +9,7 @@ use Rattle.pals_runs.specs.declared.journal.Stop.{Stop}
 use Rattle.pals_runs.specs.declared.journal.JournalEntry.{JournalEntry}
 use Rattle.bus_machine.specs.Plans.{plan_of, link_at}
 use Rattle.bus_machine.specs.BusStates.{BusState, node_at}
-use Rattle.bus_machine.specs.Runs.{Run}
+use Rattle.bus_machine.specs.RunParameters.{Run}
 use Rattle.run_laws.specs.JournalReadings.{starts}
 use Rattle.run_laws.specs.NodeLinkQuantifiers.{EachNode}
 use Rattle.pals_runs.specs.declared.journal.Stop.TheVariants as stop

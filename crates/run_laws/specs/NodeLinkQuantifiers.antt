@@ -1,6 +1,6 @@
 -- What it is to hold of each node, or of each link, of a run.
 use Rattle.std.specs.Prelude.{ℕ, ◌<◌, length}
-use Rattle.bus_machine.specs.Runs.{Run}
+use Rattle.bus_machine.specs.RunParameters.{Run}
 
 abbrev pub EachNode : Run → (ℕ → Type 0) → Type 0
 EachNode run P = (node : ℕ) → node < length run.design.components → P node

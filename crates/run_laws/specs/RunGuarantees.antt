@@ -9,16 +9,16 @@ use Rattle.bus_machine.specs.Agreement.{Agrees}
 use Rattle.bus_machine.specs.Plans.{plan_of}
 use Rattle.bus_machine.specs.Replay.{Replays}
 use Rattle.bus_machine.specs.BusStates.{BusState, node_at}
-use Rattle.bus_machine.specs.Runs.{Run}
+use Rattle.bus_machine.specs.RunParameters.{Run}
 use Rattle.bus_machine.specs.ActionsAndTargets.{target}
 use Rattle.run_laws.specs.Runs.{HasEnded}
 use Rattle.run_laws.specs.JournalReadings.{acts}
 use Rattle.run_laws.specs.NodeLinkQuantifiers.{EachNode, EachLink}
 use Rattle.run_laws.specs.ListPicks.{picks_of, IsPrefix, LinesAre}
-use Rattle.run_laws.specs.TimelyRounds.{IsTimely}
+use Rattle.run_laws.specs.TimelyMessages.{IsTimely}
 use Rattle.run_laws.specs.ListRunEndsAndStops.{IsOver, AllOver, PicksAll, PicksEndAt, ListStop}
 use Rattle.run_laws.specs.Meetings.{ShowTargets, AllDone, IsLate, MeetingStop}
-use Rattle.run_laws.specs.StopBounds.{DelaysFit, BoundedStop}
+use Rattle.run_laws.specs.BoundsBrokenAtStops.{DelaysFit, BoundedStop}
 
 -- with list clocks
 pub record KeepsLists (run : Run) (clocks : List ClockState) (journal : List JournalEntry) (s : BusState) : Type 0 where

@@ -19,7 +19,7 @@ use Rattle.run_laws.specs.EntriesInLines.{entry_of_line}
 use Rattle.run_laws.specs.EntryEventsAndReadings.{Timed, timed, has_reading, event_of}
 use Rattle.run_laws.specs.TraceRules.{broken, is_line_of, reading_of}
 use Rattle.bus_machine.specs.BusStates.{BusState, opening, finished_by_all}
-use Rattle.bus_machine.specs.Runs.{Run}
+use Rattle.bus_machine.specs.RunParameters.{Run}
 use Rattle.bus_machine.specs.Machine.{BusEvent, after}
 use Rattle.bus_machine.specs.Replay.{entries}
 use Rattle.pals_runs.specs.declared.journal.JournalEntry.TheVariants as entry

@@ -3,7 +3,7 @@ pub mod RunQuantifiers
 pub mod ListPicks
 pub mod ListRunEndsAndStops
 pub mod MeetingLaws
-pub mod StopBounds
+pub mod BoundsBrokenAtStops
 pub mod RisingReadings
 pub mod LinkTiming
 pub mod ReadingsAndStopCauses

@@ -1,5 +1,5 @@
 //! What each run keeps. Each law is the contract of a function that does nothing.
-ghost use Rattle.run_laws.specs.proof.StopBounds.{StopsAreBounded};
+ghost use Rattle.run_laws.specs.proof.BoundsBrokenAtStops.{StopsAreBounded};
 ghost use Rattle.run_laws.specs.proof.RunGuarantees.{ClausesAreKept};
 ghost use Rattle.run_laws.specs.proof.RunTermination.{EachGoesOn, EachRunEnds, EndsAreNamed, JournalsEnd};
 ghost use Rattle.run_laws.specs.proof.RisingReadings.{ReadingsAreBelowTargets, ReadingsRise};

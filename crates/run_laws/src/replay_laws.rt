@@ -4,7 +4,7 @@ ghost use Rattle.pals_runs.specs.declared.journal.Stop.{Stop};
 ghost use Rattle.pals_runs.specs.declared.journal.JournalEntry.{JournalEntry};
 ghost use Rattle.pals_runs.specs.declared.journal.JournalEntry.TheVariants as entry;
 ghost use Rattle.bus_machine.specs.BusStates.{BusState};
-ghost use Rattle.bus_machine.specs.Runs.{Run};
+ghost use Rattle.bus_machine.specs.RunParameters.{Run};
 ghost use Rattle.bus_machine.specs.Machine.{BusEvent, IsStep};
 ghost use Rattle.bus_machine.specs.Replay.{Replays, entries};
 

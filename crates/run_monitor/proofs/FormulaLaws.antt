@@ -1,5 +1,5 @@
--- What a formula says at a round stays in longer histories, and one bit for each formula is enough to tell what it
--- says at the next round.
+-- What the operators of the past say in words, that what a formula says at a round stays, and that one bit each is
+-- enough.
 use Rattle.std.proofs.Common.{◌≡◌, ◌∙◌, ℕ, suc, ℤ, Bool, not, ◌&&◌, ◌||◌, is_some, List, [], ◌∷◌, ◌++◌, length, refl}
 use Rattle.std.proofs.Common.{sym, ap, ap₂, arith}
 use Rattle.std.proofs.lemmas.List.{get_or_append_left}

@@ -10,7 +10,7 @@ use Rattle.pals_runs.specs.declared.phase.Phase.TheVariants.{Done}
 use Rattle.pals_runs.specs.declared.journal.Stop.{Stop}
 use Rattle.bus_machine.specs.Agreement.{Agrees}
 use Rattle.bus_machine.specs.BusStates.{node_at, finished_by_all}
-use Rattle.bus_machine.specs.Runs.{Run}
+use Rattle.bus_machine.specs.RunParameters.{Run}
 use Rattle.pals_bus.specs.BusValues.{BusValue}
 use Rattle.loose_world.specs.proof.FinishedRows.{common_lines}
 use Rattle.loose_world.proofs.FinishedRows.{common_rows}
@@ -20,7 +20,7 @@ use Rattle.node_threads.specs.declared.node_end.NodeEnd.TheVariants as end
 use Rattle.node_threads.specs.proof.NodeEndsAndOutcomes.{EndFits, EndsFit, IsOutcome}
 use Rattle.run_laws.specs.ListRunEndsAndStops.{IsOver, AllAtEnd}
 use Rattle.run_laws.specs.proof.RunTraces.{AreReadings}
-use Rattle.run_laws.proofs.NodePicks.{runs_agree}
+use Rattle.run_laws.proofs.NodePicksAndRunReplay.{runs_agree}
 use Rattle.run_texts.specs.declared.run_report.RunReport.{RunReport}
 use Rattle.run_texts.specs.declared.run_report.RunReport.TheVariants as told
 use Rattle.run_texts.specs.RunTexts.{EndsAt, TellsRun}

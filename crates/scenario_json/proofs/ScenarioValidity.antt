@@ -28,11 +28,11 @@ use Rattle.scenario_json.specs.Clocks.{clocks_in}
 use Rattle.scenario_json.specs.proof.InputsDelaysAndClocks.{AreInputsOf, AreDelaysOf, AreClocksFor}
 use Rattle.scenario_json.proofs.InputsDelaysAndClocks.{no_inputs_keep, inputs_keep, least_delays_keep, delays_keep}
 use Rattle.scenario_json.proofs.InputsDelaysAndClocks.{clocks_keep}
-use Rattle.analysis_fields.specs.proof.FaultAndProcessorValidity.{IsFaultOf, IsProcessorOf}
+use Rattle.analysis_fields.specs.proof.ReplicaFaultsAndProcessors.{IsFaultOf, IsProcessorOf}
 use Rattle.analysis_fields.specs.declared.replica_faults.RoundFault.{RoundFault}
 use Rattle.analysis_fields.specs.declared.processors.Processor.{Processor}
 use Rattle.analysis_fields.specs.NamedFormulas.{PropertyValue}
-use Rattle.analysis_fields.specs.ReplicasAndFaults.{faults_in}
+use Rattle.analysis_fields.specs.ReplicasAndTheirFaults.{faults_in}
 use Rattle.analysis_fields.specs.Processors.{processors_in}
 use Rattle.analysis_fields.proofs.ReplicaFaultValidity.{faults_keep}
 use Rattle.analysis_fields.proofs.ProcessorValidity.{processors_are_valid}

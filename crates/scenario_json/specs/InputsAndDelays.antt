@@ -6,7 +6,7 @@ use Rattle.pals_base.specs.declared.basic_types.PortValue.{PortValue}
 use Rattle.pals_base.specs.declared.limits.TheConstants.{HOUR}
 use Rattle.pals_model.specs.declared.design.DesignParts.{DesignParts}
 use Rattle.pals_model.specs.ComponentInputs.{root_inputs}
-use Rattle.pals_model.specs.PortKinds.{root_kind}
+use Rattle.pals_model.specs.PortKindsAndRates.{root_kind}
 use Rattle.scenario_values.specs.declared.fault.ScenarioFault.{ScenarioFault}
 use Rattle.scenario_values.specs.declared.fault.ScenarioFault.TheVariants.{OutOfRange}
 use Rattle.scenario_values.specs.ResultCombinators.{◌>>=◌, only_if, through}

@@ -31,7 +31,7 @@ use Rattle.analysis_fields.specs.declared.replica_faults.RoundFault.{RoundFault}
 use Rattle.analysis_fields.specs.declared.processors.Processor.{Processor}
 use Rattle.analysis_fields.specs.NamedFormulas.{PropertyValue}
 use Rattle.analysis_fields.specs.Properties.{properties_in}
-use Rattle.analysis_fields.specs.ReplicasAndFaults.{replicas_in, faults_in}
+use Rattle.analysis_fields.specs.ReplicasAndTheirFaults.{replicas_in, faults_in}
 use Rattle.analysis_fields.specs.Plants.{plants_in}
 use Rattle.analysis_fields.specs.Processors.{processors_in}
 

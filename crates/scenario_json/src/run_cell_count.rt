@@ -3,7 +3,7 @@ ghost use Rattle.std.specs.Prelude.{◌≡◌, ◌<◌, ◌≤◌, ◌^◌, leng
 ghost use Rattle.pals_base.specs.declared.limits.TheConstants.{COMPONENTS};
 ghost use Rattle.pals_model.specs.declared.design.Link.{Link};
 ghost use Rattle.pals_model.specs.declared.design.Tap.{Tap};
-ghost use Rattle.pals_model.specs.PortKinds.{rate_of};
+ghost use Rattle.pals_model.specs.PortKindsAndRates.{rate_of};
 ghost use Rattle.scenario_json.specs.RunCellCount.{component_cells, cells_of};
 
 use pals_model::{Component, Design, DesignParts, Link, Tap};

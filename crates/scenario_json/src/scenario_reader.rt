@@ -9,7 +9,7 @@ ghost use Rattle.scenario_json.specs.Traces.{trace_in};
 ghost use Rattle.scenario_json.specs.Clocks.{clocks_in};
 ghost use Rattle.scenario_json.specs.Events.{events_in};
 ghost use Rattle.analysis_fields.specs.Properties.{properties_in};
-ghost use Rattle.analysis_fields.specs.ReplicasAndFaults.{replicas_in, faults_in};
+ghost use Rattle.analysis_fields.specs.ReplicasAndTheirFaults.{replicas_in, faults_in};
 ghost use Rattle.analysis_fields.specs.Plants.{plants_in};
 ghost use Rattle.analysis_fields.specs.Processors.{processors_in};
 ghost use Rattle.scenario_json.specs.proof.ScenarioValidity.{IsScenarioOf};

@@ -28,9 +28,9 @@ use Rattle.analysis_fields.specs.Processors.{first_unplaced, processors_in}
 use Rattle.analysis_fields.specs.Properties.{compare_of, variable_at, var_form, halted_form, one_part, two_parts}
 use Rattle.analysis_fields.specs.Properties.{form_of, role_in, rest_of, formula_in, property_in, with_property}
 use Rattle.analysis_fields.specs.Properties.{properties_in}
-use Rattle.analysis_fields.specs.ReplicasAndFaults.{with_replica, replicas_in, copies_at, kind_at, with_fault_value}
-use Rattle.analysis_fields.specs.ReplicasAndFaults.{replica_at, link_from, ends_of, fault_behind, fault_of, fault_from}
-use Rattle.analysis_fields.specs.ReplicasAndFaults.{fault_in, with_fault, faults_in}
+use Rattle.analysis_fields.specs.ReplicasAndTheirFaults.{with_replica, replicas_in, copies_at, kind_at, with_fault_value}
+use Rattle.analysis_fields.specs.ReplicasAndTheirFaults.{replica_at, link_from, ends_of, fault_behind, fault_of, fault_from}
+use Rattle.analysis_fields.specs.ReplicasAndTheirFaults.{fault_in, with_fault, faults_in}
 use Rattle.scenario_laws.proofs.OutcomesWithoutMemoryFault.{IsNotMemory, ok, wrong, out, strange, lacking, bind, given_named, only}
 use Rattle.scenario_laws.proofs.OutcomesWithoutMemoryFault.{through_named}
 use Rattle.scenario_laws.proofs.ValueFaultsExceptMemory.{elements_named, entries_named, whole_named, number_named, text_named}

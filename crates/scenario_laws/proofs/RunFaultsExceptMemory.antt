@@ -11,7 +11,7 @@ use Rattle.pals_base.specs.declared.basic_types.PortValue.{PortValue}
 use Rattle.pals_clock.specs.ClockStates.{ClockState}
 use Rattle.pals_clock.specs.declared.clock.Clocks.TheVariants.{Meet}
 use Rattle.pals_model.specs.declared.design.DesignParts.{DesignParts}
-use Rattle.pals_model.specs.PortKinds.{root_kind}
+use Rattle.pals_model.specs.PortKindsAndRates.{root_kind}
 use Rattle.pals_runs.specs.declared.commands.Command.{Command}
 use Rattle.pals_runs.specs.declared.events_and_faults.Event.{Event}
 use Rattle.scenario_values.specs.FaultPlaces.{inside}

@@ -17,7 +17,7 @@ use Rattle.scenario_json.specs.Traces.{trace_in}
 use Rattle.scenario_json.specs.Clocks.{clocks_in}
 use Rattle.scenario_json.specs.Events.{events_in}
 use Rattle.analysis_fields.specs.Properties.{properties_in}
-use Rattle.analysis_fields.specs.ReplicasAndFaults.{replicas_in, faults_in}
+use Rattle.analysis_fields.specs.ReplicasAndTheirFaults.{replicas_in, faults_in}
 use Rattle.analysis_fields.specs.Plants.{plants_in}
 use Rattle.analysis_fields.specs.Processors.{processors_in}
 use Rattle.scenario_json.specs.declared.scenario.Scenario.{Scenario}

@@ -117,7 +117,7 @@ impl<'a> DesignNames<'a> {
     ghost use Rattle.std.specs.Prelude.{bytes_eq};
     ghost use Rattle.pals_model.specs.ComponentInputs.{root_inputs};
     ghost use Rattle.pals_model.specs.ComponentAndLinkNames.{node_named, link_named};
-    ghost use Rattle.pals_model.specs.PortKinds.{root_kind};
+    ghost use Rattle.pals_model.specs.PortKindsAndRates.{root_kind};
     ghost use Rattle.pals_model.specs.DesignRules.{IsDesign};
     ghost use Rattle.pals_runs.specs.JournalLines.{node_word};
     ghost use Rattle.scenario_values.specs.ResultCombinators.{Answers, Shows};

@@ -13,7 +13,7 @@ use Rattle.step_code.specs.declared.instr.CodeParts.{CodeParts}
 use Rattle.step_code.specs.declared.loops.LoopSpan.{LoopSpan}
 use Rattle.step_code.specs.Loops.{turns_of, around}
 use Rattle.step_code.specs.proof.InnermostLoops.{first, innermost}
-use Rattle.step_code.specs.PathWeights.{forward_successors, forward_successors_at, product, greatest, weight_at, heaviest, entry_weight, weight}
+use Rattle.step_code.specs.SuccessorsAndWeights.{forward_successors, forward_successors_at, product, greatest, weight_at, heaviest, entry_weight, weight}
 use Rattle.step_code.specs.proof.StackHeights.{Member}
 use Rattle.step_code.specs.proof.VerifierRules.{IsVerified}
 use Rattle.step_code.specs.CappedWeights.{capped, AreBest}

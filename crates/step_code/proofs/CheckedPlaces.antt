@@ -10,13 +10,13 @@ use Rattle.step_code.specs.declared.instr.CodeParts.{CodeParts}
 use Rattle.step_code.specs.declared.fault.CodeFault.{CodeFault}
 use Rattle.step_code.specs.declared.fault.CodeFault.TheVariants as fault
 use Rattle.pals_base.specs.declared.limits.TheConstants.{INSTRUCTIONS}
-use Rattle.step_code.specs.PathWeights.{jump_of, may_go_on, next_of, forward_successors}
+use Rattle.step_code.specs.SuccessorsAndWeights.{jump_of, may_go_on, next_of, forward_successors}
 use Rattle.step_code.specs.proof.StackHeights.{takes, after, Member, Reaches, all_successors}
 use Rattle.step_code.specs.proof.VerifierRules.{strays, lacks_next, jumps_badly, jumps_back, lacks_loop, misses_slot}
 use Rattle.step_code.specs.proof.VerifierRules.{is_bad_entry, on_some, finds, Underflows, Differs, Rule, BadJump}
 use Rattle.step_code.specs.proof.VerifierRules.{BackJump, BadSlot, Underflow, HeightsDiffer, rank, Finds, IsCleanBelow}
 use Rattle.step_code.specs.proof.VerifierRules.{IsFirst, IsFaultOf}
-use Rattle.step_code.specs.proof.VerifierAnswers.{Holds, AreThere, AreHeights, PassesOn, Disagrees, Passed}
+use Rattle.step_code.specs.proof.VerifierIntermediateResults.{Holds, AreThere, AreHeights, PassesOn, Disagrees, Passed}
 use Rattle.step_code.proofs.FaultlessInstructions.{IsSound, goes_well}
 use Rattle.step_code.proofs.LoopCrossings.{not_le}
 use Rattle.step_code.proofs.ListMembers.{member_either}

@@ -5,7 +5,7 @@ use Rattle.std.specs.Prelude.{slice_get, slice_set}
 use Rattle.std.proofs.lemmas.List.{length-set, take_more}
 use Rattle.std.proofs.lemmas.Option.{slice_get-get_or}
 use Rattle.step_code.specs.proof.StackHeights.{Member}
-use Rattle.step_code.specs.proof.VerifierAnswers.{Holds}
+use Rattle.step_code.specs.proof.VerifierIntermediateResults.{Holds}
 use Rattle.step_code.proofs.ListMembers.{get_set_other, get_set_same, member_left, member_right, member_either}
 use Rattle.step_code.proofs.ListMembers.{member_or_not}
 

@@ -9,7 +9,7 @@ use Rattle.step_code.specs.declared.instr.Instr.TheVariants.{LoopStart}
 use Rattle.step_code.specs.declared.instr.CodeParts.{CodeParts}
 use Rattle.step_code.specs.proof.VerifierRules.{stays, strays, jumps_badly, jumps_back, misses_slot, is_bad_entry}
 use Rattle.step_code.specs.proof.VerifierRules.{on_some, finds, Rule, BadJump, BackJump, BadSlot, Finds, IsCleanBelow}
-use Rattle.step_code.proofs.CleanNesting.{loop_is}
+use Rattle.step_code.proofs.NestingOfCleanCode.{loop_is}
 use Rattle.step_code.proofs.LoopCrossings.{AreClosed, not_le}
 
 pub untrue : (b : Bool) → ¬ IsTrue b → b ≡ false

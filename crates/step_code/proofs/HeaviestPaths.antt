@@ -10,7 +10,7 @@ use Rattle.pals_base.specs.SingleStep.{holding}
 use Rattle.step_code.specs.declared.instr.Instr.{Instr}
 use Rattle.step_code.specs.declared.instr.CodeParts.{CodeParts}
 use Rattle.step_code.specs.Loops.{turns_of}
-use Rattle.step_code.specs.PathWeights.{forward_successors_at, product, greatest, weight_at, heaviest, entry_weight, weight}
+use Rattle.step_code.specs.SuccessorsAndWeights.{forward_successors_at, product, greatest, weight_at, heaviest, entry_weight, weight}
 use Rattle.step_code.specs.InstructionEffects.{Next, Goes, Ends, Traps, Sticks, StepInputs, step}
 use Rattle.step_code.specs.InstructionsPerStep.{then_count, count, instructions_made_from, unless_halted, instructions_made}
 use Rattle.step_code.specs.proof.StackHeights.{Member}

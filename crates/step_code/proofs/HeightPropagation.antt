@@ -5,9 +5,9 @@ use Rattle.std.specs.Prelude.{◌⊎◌, slice_set}
 use Rattle.std.proofs.lemmas.List.{length-set}
 use Rattle.std.proofs.lemmas.Option.{slice_get-get_or}
 use Rattle.step_code.specs.declared.instr.Instr.{Instr}
-use Rattle.step_code.specs.PathWeights.{jump_of, next_of, forward_successors}
+use Rattle.step_code.specs.SuccessorsAndWeights.{jump_of, next_of, forward_successors}
 use Rattle.step_code.specs.proof.StackHeights.{Member}
-use Rattle.step_code.specs.proof.VerifierAnswers.{Holds, AreThere, AreSet}
+use Rattle.step_code.specs.proof.VerifierIntermediateResults.{Holds, AreThere, AreSet}
 use Rattle.step_code.proofs.ListMembers.{get_set_other, get_set_same, member_left, member_right}
 
 -- ---- one place set

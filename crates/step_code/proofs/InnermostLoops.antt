@@ -9,7 +9,7 @@ use Rattle.step_code.specs.declared.instr.Instr.{Instr}
 use Rattle.step_code.specs.declared.loops.LoopSpan.{LoopSpan}
 use Rattle.step_code.specs.Loops.{loop_at, with_loop, loops_below}
 use Rattle.step_code.specs.proof.InnermostLoops.{first, innermost, AreInnermost, outwards, StartsBelow, ComesFrom}
-use Rattle.step_code.proofs.CleanNesting.{loop_is}
+use Rattle.step_code.proofs.NestingOfCleanCode.{loop_is}
 
 -- the first loop that a test keeps: it is a loop, and what a stricter test keeps is it or starts below it
 pub record IsFound (code : List Instr) (n : ℕ) (g : LoopSpan → Bool) (l : LoopSpan) : Type 0 where

@@ -6,7 +6,7 @@ use Rattle.std.proofs.lemmas.List.Folds.{list_any-append}
 use Rattle.std.proofs.Math.Bool.{and-false, or-false}
 use Rattle.step_code.specs.declared.instr.Instr.{Instr}
 use Rattle.step_code.specs.proof.VerifierRules.{on_some, enters_badly, is_entry, is_bad_entry}
-use Rattle.step_code.specs.proof.VerifierAnswers.{IsLeast}
+use Rattle.step_code.specs.proof.VerifierIntermediateResults.{IsLeast}
 
 pub least_same : (test other : ℕ → Bool) (o : Option ℕ) → ((q : ℕ) → other q ≡ test q) → IsLeast test o
     → IsLeast other o

@@ -1,4 +1,4 @@
-pub mod CleanNesting
+pub mod NestingOfCleanCode
 pub mod InnermostLoops
 pub mod RunsWithinWeight
 pub mod StuckFreedom

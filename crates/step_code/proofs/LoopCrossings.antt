@@ -7,13 +7,13 @@ use Rattle.std.specs.List.{list_all, list_any}
 use Rattle.std.proofs.lemmas.Bool.{and_parts, ltb-true, cases_lt, false≢true, le-ltb, lt-ltb}
 use Rattle.std.proofs.Math.Bool.{and-false}
 use Rattle.std.specs.Cmp.{both_ways}
-use Rattle.pals_base.proofs.SettledStates.{list_all-same}
+use Rattle.pals_base.proofs.CycleSearchMarks.{list_all-same}
 use Rattle.step_code.specs.declared.instr.Instr.{Instr}
 use Rattle.step_code.specs.declared.loops.LoopSpan.{LoopSpan}
 use Rattle.step_code.specs.Loops.{loop_at, with_loop, loops_below, around}
 use Rattle.step_code.specs.proof.InnermostLoops.{first, innermost, AreInnermost, ends_by, starts_from}
 use Rattle.step_code.specs.proof.VerifierRules.{inside, agrees, stays, strays}
-use Rattle.step_code.proofs.CleanNesting.{loop_is, all_below, agree_same, filter_below}
+use Rattle.step_code.proofs.NestingOfCleanCode.{loop_is, all_below, agree_same, filter_below}
 use Rattle.step_code.proofs.InnermostLoops.{is_found, read_innermost}
 
 -- the exit jumps of the loops that start below a place part no bodies and go forward

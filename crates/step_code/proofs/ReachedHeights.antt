@@ -6,10 +6,10 @@ use Rattle.std.proofs.lemmas.Bool.{cases_lt, cases_eq}
 use Rattle.std.proofs.lemmas.Option.{slice_get-get_or}
 use Rattle.step_code.specs.declared.instr.Instr.{Instr}
 use Rattle.step_code.specs.declared.instr.Instr.TheVariants.{Store, Jump, JumpZero, LoopStart, LoopNext, Emit, End}
-use Rattle.step_code.specs.PathWeights.{forward_successors}
+use Rattle.step_code.specs.SuccessorsAndWeights.{forward_successors}
 use Rattle.step_code.specs.proof.StackHeights.{after, Member, Reaches, ComesFromBelow, Given, all_successors}
 use Rattle.step_code.specs.proof.VerifierRules.{on_some}
-use Rattle.step_code.specs.proof.VerifierAnswers.{Holds, Clashes, AreHeights, PassesOn}
+use Rattle.step_code.specs.proof.VerifierIntermediateResults.{Holds, Clashes, AreHeights, PassesOn}
 use Rattle.step_code.proofs.ListMembers.{member_right, member_or_not}
 
 -- ---- the stack is no higher than the place

@@ -21,7 +21,7 @@ use Rattle.step_code.specs.InstructionEffects.{Next, Goes, Ends, Traps, Sticks, 
 use Rattle.step_code.specs.InstructionEffects.{on_two, step}
 use Rattle.step_code.specs.declared.loops.LoopSpan.{LoopSpan}
 use Rattle.step_code.specs.Loops.{turns_of, around}
-use Rattle.step_code.specs.PathWeights.{forward_successors, forward_successors_at, product, greatest, weight_at, heaviest}
+use Rattle.step_code.specs.SuccessorsAndWeights.{forward_successors, forward_successors_at, product, greatest, weight_at, heaviest}
 use Rattle.step_code.specs.proof.CodeRuns.{Continuation, then_run, run, IsOver}
 use Rattle.step_code.specs.proof.LoopNesting.{Free, On, Opens, Closes, Nests, IsNested}
 use Rattle.step_code.proofs.ListMembers.{get_set_other, get_set_same}

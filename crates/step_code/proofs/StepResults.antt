@@ -11,7 +11,7 @@ use Rattle.pals_base.specs.SingleStep.{Fired, holding, is_present}
 use Rattle.step_code.specs.declared.instr.Instr.{Instr}
 use Rattle.step_code.specs.declared.instr.CodeParts.{CodeParts}
 use Rattle.step_code.specs.Loops.{around}
-use Rattle.step_code.specs.PathWeights.{heaviest, entry_weight, weight}
+use Rattle.step_code.specs.SuccessorsAndWeights.{heaviest, entry_weight, weight}
 use Rattle.step_code.specs.proof.CodeRuns.{CodeOutcome, Ended, Trapped, Stuck, Unfinished, what_is_left, run_from, from_entry}
 use Rattle.step_code.specs.proof.CodeRuns.{unless_halted, exec, Leaves, has_entry, FitsCode, HasCodeSizes, IsOver}
 use Rattle.step_code.specs.InstructionsPerStep.{silent, step_inputs, slots_of}

@@ -19,7 +19,7 @@ use Rattle.step_code.specs.InstructionEffects.{Next, Goes, Ends, Traps, Sticks, 
 use Rattle.step_code.specs.InstructionEffects.{on_two, step}
 use Rattle.step_code.specs.declared.loops.LoopSpan.{LoopSpan}
 use Rattle.step_code.specs.Loops.{around}
-use Rattle.step_code.specs.PathWeights.{forward_successors}
+use Rattle.step_code.specs.SuccessorsAndWeights.{forward_successors}
 use Rattle.step_code.specs.proof.CodeRuns.{Continuation, then_run, run}
 use Rattle.step_code.specs.proof.LoopNesting.{Nests, IsNested}
 use Rattle.step_code.specs.proof.StackHeights.{takes, after, Member, Reaches, all_successors}

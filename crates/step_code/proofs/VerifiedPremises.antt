@@ -10,14 +10,14 @@ use Rattle.step_code.specs.declared.instr.Instr.TheVariants.{LoopNext, Emit, End
 use Rattle.step_code.specs.declared.instr.CodeParts.{CodeParts}
 use Rattle.step_code.specs.declared.loops.LoopSpan.{LoopSpan}
 use Rattle.step_code.specs.Loops.{loop_at, around}
-use Rattle.step_code.specs.PathWeights.{forward_successors}
+use Rattle.step_code.specs.SuccessorsAndWeights.{forward_successors}
 use Rattle.step_code.specs.proof.StackHeights.{takes, after, Member, Reaches, all_successors}
 use Rattle.step_code.specs.proof.SlotsAndPorts.{FindsSlotsAndPorts}
 use Rattle.step_code.specs.proof.VerifierRules.{on_some, strays, lacks_next, ends_loop, is_no_loop_slot, Underflow}
 use Rattle.step_code.specs.proof.VerifierRules.{HeightsDiffer, IsVerified}
 use Rattle.step_code.specs.proof.LoopNesting.{Free, IsNested}
 use Rattle.step_code.specs.proof.CleanJumpsAndLoops.{Jumps, IsEnd, Clean}
-use Rattle.step_code.proofs.CleanNesting.{loop_is, clean_nested}
+use Rattle.step_code.proofs.NestingOfCleanCode.{loop_is, clean_nested}
 use Rattle.step_code.specs.proof.StuckFreedomConditions.{HasAgreeingHeights, HasSlotsAndPorts}
 use Rattle.step_code.proofs.LoopCrossings.{not_le, has_slot}
 use Rattle.step_code.proofs.FaultlessInstructions.{goes_well}

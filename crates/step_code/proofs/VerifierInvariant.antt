@@ -10,7 +10,7 @@ use Rattle.step_code.specs.declared.instr.CodeParts.{CodeParts}
 use Rattle.pals_base.specs.declared.limits.TheConstants.{INSTRUCTIONS}
 use Rattle.step_code.specs.proof.VerifierRules.{is_bad_entry, jumps_badly, finds, Rule, BadJump, rank, Finds}
 use Rattle.step_code.specs.proof.VerifierRules.{IsCleanBelow, IsFirst}
-use Rattle.step_code.specs.proof.VerifierAnswers.{IsLeast, AreHeights}
+use Rattle.step_code.specs.proof.VerifierIntermediateResults.{IsLeast, AreHeights}
 
 abbrev pub StandsFrom : ℕ → Option ℕ → Type 0
 StandsFrom at None = Unit {0}

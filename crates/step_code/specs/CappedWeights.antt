@@ -1,7 +1,7 @@
 -- Weights that stop at u64's greatest value.
 use Rattle.std.specs.Prelude.{◌≡◌, ℕ, ◌-◌, ◌^◌, ◌<◌, ◌≤◌, min, List, length, Some, slice_get}
 use Rattle.step_code.specs.declared.instr.Instr.{Instr}
-use Rattle.step_code.specs.PathWeights.{weight_at, heaviest}
+use Rattle.step_code.specs.SuccessorsAndWeights.{weight_at, heaviest}
 
 abbrev pub capped : ℕ → ℕ
 capped n = min n (2 ^ 64 - 1)

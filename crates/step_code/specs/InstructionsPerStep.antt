@@ -8,7 +8,7 @@ use Rattle.pals_base.specs.SingleStep.{holding, is_present}
 use Rattle.step_code.specs.declared.instr.Instr.{Instr}
 use Rattle.step_code.specs.declared.instr.CodeParts.{CodeParts}
 use Rattle.step_code.specs.InstructionEffects.{Next, Goes, Ends, Traps, Sticks, StepInputs, step}
-use Rattle.step_code.specs.PathWeights.{weight_of}
+use Rattle.step_code.specs.SuccessorsAndWeights.{weight_of}
 
 -- ---- a run
 -- how many of at most n instructions are made from a place on, the last one counted too

@@ -1,5 +1,5 @@
 pub mod Loops
-pub mod PathWeights
+pub mod SuccessorsAndWeights
 pub mod InstructionEffects
 pub mod InstructionsPerStep
 pub mod CappedWeights

@@ -4,8 +4,8 @@ pub mod CodeRuns
 pub mod StackHeights
 pub mod CodePaths
 pub mod VerifierRules
-pub mod VerifierAnswers
-pub mod CodeMeaning
+pub mod VerifierIntermediateResults
+pub mod CodeMatchesBehaviour
 pub mod Examples
 pub mod LoopNesting
 pub mod CleanJumpsAndLoops

@@ -1,6 +1,6 @@
 //! Code that is verified.
 ghost use Rattle.std.specs.Prelude.{◌≡◌};
-ghost use Rattle.step_code.specs.PathWeights.{weight_of};
+ghost use Rattle.step_code.specs.SuccessorsAndWeights.{weight_of};
 ghost use Rattle.step_code.specs.CappedWeights.{capped};
 
 use crate::instr::CodeParts;
@@ -26,7 +26,7 @@ impl Model for Code {
     ghost view = { λ code. code.parts };
 
     ghost use Rattle.std.specs.Prelude.{◌≡◌};
-    ghost use Rattle.step_code.specs.PathWeights.{weight_of};
+    ghost use Rattle.step_code.specs.SuccessorsAndWeights.{weight_of};
     ghost use Rattle.step_code.specs.proof.VerifierRules.{IsVerified};
     ghost use Rattle.step_code.specs.CappedWeights.{capped};
 
@@ -35,7 +35,7 @@ impl Model for Code {
 
 impl Code {
     ghost use Rattle.std.specs.Prelude.{◌≡◌};
-    ghost use Rattle.step_code.specs.PathWeights.{weight_of};
+    ghost use Rattle.step_code.specs.SuccessorsAndWeights.{weight_of};
     ghost use Rattle.step_code.specs.proof.VerifierRules.{IsVerified};
     ghost use Rattle.step_code.specs.CappedWeights.{capped};
 

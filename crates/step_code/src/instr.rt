@@ -1,4 +1,4 @@
-//! The instructions of step code.
+//! The instructions of step code, and the parts of which a code is made.
 ghost use Rattle.std.specs.Prelude.{◌≡◌, slice_get};
 
 use pals_base::Items;
@@ -59,7 +59,7 @@ pub enum Instr {
 
 impl Instr {
     ghost use Rattle.std.specs.Prelude.{◌≡◌, ◌<◌, ◌^◌, ◌-◌};
-    ghost use Rattle.step_code.specs.PathWeights.{jump_of, next_of};
+    ghost use Rattle.step_code.specs.SuccessorsAndWeights.{jump_of, next_of};
     ghost use Rattle.step_code.specs.proof.StackHeights.{takes, gives, back_of};
 
     /// The place to which it jumps.

@@ -6,7 +6,7 @@ ghost use Rattle.pals_base.specs.declared.basic_types.PortValue.{PortValue};
 ghost use Rattle.pals_base.specs.declared.basic_types.PortValue.TheVariants.{Present};
 ghost use Rattle.pals_base.specs.SingleStep.{Fired};
 ghost use Rattle.step_code.specs.declared.instr.CodeParts.{CodeParts};
-ghost use Rattle.step_code.specs.PathWeights.{weight_of};
+ghost use Rattle.step_code.specs.SuccessorsAndWeights.{weight_of};
 ghost use Rattle.step_code.specs.proof.CodeRuns.{FitsCode, exec, Leaves};
 ghost use Rattle.step_code.specs.proof.StackHeights.{Member};
 ghost use Rattle.step_code.specs.proof.CodePaths.{IsPath, path_weight};

@@ -1,7 +1,7 @@
 //! The stack heights at the places of a code, from its entries on, passed on by one instruction after the other.
 ghost use Rattle.std.specs.Prelude.{◌≤◌, ◌<◌, ◌↔◌, length, option_to_list, IfOk, IsTrue, Some};
-ghost use Rattle.step_code.specs.PathWeights.{forward_successors};
-ghost use Rattle.step_code.specs.proof.VerifierAnswers.{AreHeights, Clashes, AreThere, AreSet, Passed};
+ghost use Rattle.step_code.specs.SuccessorsAndWeights.{forward_successors};
+ghost use Rattle.step_code.specs.proof.VerifierIntermediateResults.{AreHeights, Clashes, AreThere, AreSet, Passed};
 ghost use Rattle.pals_base.specs.declared.limits.TheConstants.{INSTRUCTIONS};
 
 use crate::fault::CodeFault;

@@ -2,7 +2,7 @@
 ghost use Rattle.std.specs.Prelude.{◌≡◌, ◌<◌, ◌≤◌, ◌+◌, ℕ, Bool, false, length, IfOk, IfErr, OnOk};
 ghost use Rattle.step_code.specs.proof.InnermostLoops.{AreInnermost};
 ghost use Rattle.step_code.specs.proof.VerifierRules.{is_bad_entry, enters_badly, IsCleanBelow, IsFaultOf, IsVerified};
-ghost use Rattle.step_code.specs.proof.VerifierAnswers.{IsLeast, or_bad, AreHeights};
+ghost use Rattle.step_code.specs.proof.VerifierIntermediateResults.{IsLeast, or_bad, AreHeights};
 ghost use Rattle.pals_base.specs.declared.limits.TheConstants.{INSTRUCTIONS};
 
 use crate::code::Code;

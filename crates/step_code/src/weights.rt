@@ -1,10 +1,10 @@
 //! How many instructions one step may take.
 ghost use Rattle.std.specs.Prelude.{◌≡◌, ◌+◌, ◌-◌, ◌<◌, map, option_to_list, slice_index_or, length, IfOk, Some};
 ghost use Rattle.step_code.specs.proof.InnermostLoops.{AreInnermost};
-ghost use Rattle.step_code.specs.PathWeights.{forward_successors, greatest, weight_at, heaviest, entry_weight, weight_of};
+ghost use Rattle.step_code.specs.SuccessorsAndWeights.{forward_successors, greatest, weight_at, heaviest, entry_weight, weight_of};
 ghost use Rattle.step_code.specs.proof.StackHeights.{Member};
 ghost use Rattle.step_code.specs.proof.VerifierRules.{IsVerified};
-ghost use Rattle.step_code.specs.proof.VerifierAnswers.{AreThere};
+ghost use Rattle.step_code.specs.proof.VerifierIntermediateResults.{AreThere};
 ghost use Rattle.step_code.specs.CappedWeights.{capped, AreWeights, AreBest};
 ghost use Rattle.pals_base.specs.declared.limits.TheConstants.{INSTRUCTIONS};
 

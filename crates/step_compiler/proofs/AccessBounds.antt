@@ -6,7 +6,7 @@ use Rattle.pals_base.specs.ExpressionAndActionTrees.{Expression, Literal, Variab
 use Rattle.pals_base.specs.ExpressionAndActionTrees.{NoMore, Then, Action, Assign, Emit, If, For, Actions, Nothing, Do, Branches}
 use Rattle.pals_base.specs.ExpressionAndActionTrees.{NoBranch, Where, Edge, Trigger, Dispatch, Always, When}
 use Rattle.pals_base.specs.SingleStep.{is_dispatch}
-use Rattle.pals_base.specs.proof.SettledStates.{settles}
+use Rattle.pals_base.specs.proof.CycleSearchMarks.{settles}
 
 abbrev mutual
   -- the variables, held inputs and signs of freshness that it reads are there

@@ -10,7 +10,7 @@ use Rattle.pals_base.specs.ExpressionAndActionTrees.{Edge}
 use Rattle.pals_base.specs.SingleStep.{is_complete, leaving}
 use Rattle.pals_base.specs.UpwardNumbers.{upwards}
 use Rattle.pals_base.specs.BehaviourRules.{is_edge, IsBehaviour}
-use Rattle.pals_base.specs.proof.SettledStates.{settles}
+use Rattle.pals_base.specs.proof.CycleSearchMarks.{settles}
 use Rattle.pals_base.proofs.TransitionWaysAndCycles.{settled_unless_cycle}
 use Rattle.pals_base.proofs.UpwardNumbers.{length-upwards}
 use Rattle.step_code.specs.CodeLengths.{code_length}

@@ -21,21 +21,21 @@ use Rattle.pals_base.specs.SingleStep.{is_dispatch, first_open, along, settled, 
 use Rattle.pals_base.specs.SingleStep.{fire}
 use Rattle.pals_base.specs.SingleStep as base
 use Rattle.pals_base.specs.BehaviourRules.{is_edge, dispatch_count, ends_unguarded, has_ways, IsBehaviour}
-use Rattle.pals_base.specs.proof.SettledStates.{settles}
-use Rattle.pals_base.proofs.SettledStates.{rule_at}
+use Rattle.pals_base.specs.proof.CycleSearchMarks.{settles}
+use Rattle.pals_base.proofs.CycleSearchMarks.{rule_at}
 use Rattle.pals_base.proofs.TransitionWaysAndCycles.{settled_unless_cycle}
 use Rattle.pals_base.proofs.StepTermination.{leaving_sound}
 use Rattle.pals_base.proofs.UpwardNumbers.{length-upwards, slice_get-map_upwards}
 use Rattle.step_code.specs.declared.instr.Instr.{Instr}
 use Rattle.step_code.specs.declared.instr.CodeParts.{CodeParts}
 use Rattle.step_code.specs.InstructionEffects.{StepInputs}
-use Rattle.step_code.specs.PathWeights.{weight_of}
+use Rattle.step_code.specs.SuccessorsAndWeights.{weight_of}
 use Rattle.step_code.specs.proof.CodeRuns.{CodeOutcome, run, what_is_left, run_from, from_entry, unless_halted, exec, Leaves}
 use Rattle.step_code.specs.proof.CodeRuns.{has_entry, IsOver}
 use Rattle.step_code.specs.InstructionsPerStep.{silent, step_inputs}
 use Rattle.step_code.specs.proof.StackHeights.{Member}
 use Rattle.step_code.specs.proof.VerifierRules.{IsVerified}
-use Rattle.step_code.specs.proof.CodeMeaning.{Means}
+use Rattle.step_code.specs.proof.CodeMatchesBehaviour.{Means}
 use Rattle.step_code.specs.CodeLengths.{code_length}
 use Rattle.step_code.proofs.FuelMonotonicity.{longer}
 use Rattle.step_code.proofs.StepResults.{length-holding, member_at, run_over}

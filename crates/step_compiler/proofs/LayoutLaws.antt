@@ -23,7 +23,7 @@ use Rattle.step_compiler.specs.proof.CompiledCode.{block_starts, compiled}
 use Rattle.step_compiler.proofs.TransitionRules.{edge_has}
 use Rattle.step_compiler.proofs.BlockPlaces.{start_is}
 use Rattle.step_compiler.specs.proof.LayoutLaws.{HasLayout, LaidOutCodeIsOne, LaidOutCodesAreOne}
-use Rattle.step_compiler.proofs.UniqueBlockOrder.{blocks_are_ordered, order_is_one}
+use Rattle.step_compiler.proofs.SoundAndUniqueOrder.{blocks_are_ordered, order_is_one}
 
 -- ---- starts count at states alone
 targets : (b : BehaviourParts) (es : List Edge) → list_all (is_edge b) es ≡ true

@@ -4,7 +4,7 @@ pub mod ExpressionRuns
 pub mod ActionAndLoopEffects
 pub mod ActionRuns
 pub mod TransitionRuns
-pub mod JumpsWithinLoops
+pub mod LoopsClosedWithinParts
 pub mod AppendedCode
 pub mod LayoutSplits
 pub mod BlockOrderTurns
@@ -22,7 +22,7 @@ pub mod VerifiedActions
 pub mod LoopFreePlaces
 pub mod VerifierAcceptance
 pub mod BlockOrderMembers
-pub mod UniqueBlockOrder
+pub mod SoundAndUniqueOrder
 pub mod LayoutLaws
 pub mod UnguardedLastTransition
 pub mod TransitionRules

@@ -13,8 +13,8 @@ use Rattle.step_compiler.specs.BlockInstructions.{trigger_code, last_instr, fals
 use Rattle.step_compiler.specs.BlockInstructions.{start_of, blocks_code}
 use Rattle.step_compiler.proofs.PlacedCodeLengths.{HasAt, has_front, has_back, code-length, acts-length, trigger-length}
 use Rattle.step_compiler.proofs.PlacedCodeLengths.{edge-length, block-length}
-use Rattle.step_compiler.proofs.JumpsWithinLoops.{Outer, Closed, closed_both, one_closed, none_closed, starts_none}
-use Rattle.step_compiler.proofs.JumpsWithinLoops.{expr_closed, acts_closed}
+use Rattle.step_compiler.proofs.LoopsClosedWithinParts.{Outer, Closed, closed_both, one_closed, none_closed, starts_none}
+use Rattle.step_compiler.proofs.LoopsClosedWithinParts.{expr_closed, acts_closed}
 use Rattle.step_compiler.proofs.StackHeights.{height, edge_height, block_height}
 use Rattle.step_compiler.proofs.VerifiedActions.{Round}
 

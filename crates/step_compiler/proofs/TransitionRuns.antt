@@ -12,7 +12,7 @@ use Rattle.pals_base.specs.Actions.{Effect, acts}
 use Rattle.pals_base.specs.ExpressionAndActionTrees.{Edge, Trigger, Dispatch, Always, When}
 use Rattle.pals_base.specs.SingleStep.{Fired, is_complete, leaving, is_dispatch, opens, first_open, along, settled}
 use Rattle.pals_base.specs.BehaviourRules.{is_always}
-use Rattle.pals_base.specs.proof.SettledStates.{settles}
+use Rattle.pals_base.specs.proof.CycleSearchMarks.{settles}
 use Rattle.step_code.specs.declared.instr.Instr.{Instr}
 use Rattle.step_code.specs.declared.instr.Instr.TheVariants as code
 use Rattle.step_code.specs.InstructionEffects.{StepInputs, step}

@@ -21,9 +21,9 @@ use Rattle.step_compiler.specs.ExpressionAndActionInstructions.{code_of, code_ac
 use Rattle.step_compiler.proofs.AccessBounds.{Sees, Sizes, SeesAct, SeesActs, SeesBranches}
 use Rattle.step_compiler.proofs.PlacedCodeLengths.{HasAt, has_front, has_back, code-length, act-length, acts-length}
 use Rattle.step_compiler.proofs.PlacedCodeLengths.{branches-length}
-use Rattle.step_compiler.proofs.JumpsWithinLoops.{Outer, Closed, jump_stays, closed_both, one_closed, none_closed}
-use Rattle.step_compiler.proofs.JumpsWithinLoops.{loopless, starts_none, not_loop, expr-loopless, expr_closed}
-use Rattle.step_compiler.proofs.JumpsWithinLoops.{act_closed, acts_closed, branches_closed}
+use Rattle.step_compiler.proofs.LoopsClosedWithinParts.{Outer, Closed, jump_stays, closed_both, one_closed, none_closed}
+use Rattle.step_compiler.proofs.LoopsClosedWithinParts.{loopless, starts_none, not_loop, expr-loopless, expr_closed}
+use Rattle.step_compiler.proofs.LoopsClosedWithinParts.{act_closed, acts_closed, branches_closed}
 use Rattle.step_compiler.proofs.StackHeights.{height, height_next, height_at, expr_height, act_height, acts_height}
 use Rattle.step_compiler.proofs.StackHeights.{branches_height}
 use Rattle.step_compiler.proofs.VerifiedExpressions.{AreFine, less_not, one_fine, both_fine, none_fine, fine_at}

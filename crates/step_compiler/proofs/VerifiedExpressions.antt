@@ -10,7 +10,7 @@ use Rattle.pals_base.specs.ExpressionAndActionTrees.{NoMore, Then}
 use Rattle.step_code.specs.declared.instr.Instr.{Instr}
 use Rattle.step_code.specs.declared.instr.Instr.TheVariants as code
 use Rattle.step_code.specs.declared.instr.CodeParts.{CodeParts}
-use Rattle.step_code.specs.PathWeights.{jump_of, may_go_on, next_of}
+use Rattle.step_code.specs.SuccessorsAndWeights.{jump_of, may_go_on, next_of}
 use Rattle.step_code.specs.proof.StackHeights.{takes, after, Member, back_of, all_successors}
 use Rattle.step_code.specs.proof.VerifierRules.{stays, lacks_loop, misses_slot}
 use Rattle.step_code.specs.CodeLengths.{operand_length, length_of, length_rest}

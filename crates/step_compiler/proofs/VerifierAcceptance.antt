@@ -20,7 +20,7 @@ use Rattle.step_code.specs.declared.fault.CodeFault.{CodeFault}
 use Rattle.step_code.specs.declared.fault.CodeFault.TheVariants as fault
 use Rattle.step_code.specs.declared.loops.LoopSpan.{LoopSpan}
 use Rattle.step_code.specs.Loops.{around}
-use Rattle.step_code.specs.PathWeights.{jump_of, may_go_on, forward_successors}
+use Rattle.step_code.specs.SuccessorsAndWeights.{jump_of, may_go_on, forward_successors}
 use Rattle.step_code.specs.proof.CodeRuns.{has_entry}
 use Rattle.step_code.specs.proof.StackHeights.{after, Member, Reaches, back_of, all_successors}
 use Rattle.step_code.specs.proof.VerifierRules.{on_some, strays, stays, lacks_next, jumps_badly, jumps_back, lacks_loop}
@@ -44,8 +44,8 @@ use Rattle.step_compiler.proofs.BlockOrderInvariant.{start_below}
 use Rattle.step_compiler.proofs.BlockOrderCompleteness.{all_member, some_member, order_full}
 use Rattle.step_compiler.proofs.BlockPlaces.{whole_at, start_is, whole_block, lies_in}
 use Rattle.step_compiler.proofs.CompilerCorrectness.{sizes, fitting, onward_of, dispatch_of, compiled_length}
-use Rattle.step_compiler.proofs.JumpsWithinLoops.{Closed, jump_stays, closed_both, none_closed, expr_closed}
-use Rattle.step_compiler.proofs.JumpsWithinLoops.{acts_closed}
+use Rattle.step_compiler.proofs.LoopsClosedWithinParts.{Closed, jump_stays, closed_both, none_closed, expr_closed}
+use Rattle.step_compiler.proofs.LoopsClosedWithinParts.{acts_closed}
 use Rattle.step_compiler.proofs.StackHeights.{height, height_at, expr_height, acts_height, trigger_height, edge_height}
 use Rattle.step_compiler.proofs.VerifiedExpressions.{IsFine, AreFine, one_fine, both_fine, none_fine, fine_at}
 use Rattle.step_compiler.proofs.VerifiedExpressions.{jump_fine, zero_fine}

@@ -1,5 +1,5 @@
 -- Which code a behaviour has, with no search for it: how the blocks of states are put together. The instructions
--- inside them are in TreeInstructions and BlockInstructions.
+-- inside them are in ExpressionAndActionInstructions and BlockInstructions.
 use Rattle.std.specs.Prelude.{◌≡◌, ℕ, ◌<◌, ◌≤◌, List, length, map, take, Some, slice_get, filter}
 use Rattle.std.specs.List.{Contains}
 use Rattle.pals_base.specs.declared.behaviour.BehaviourParts.{BehaviourParts}

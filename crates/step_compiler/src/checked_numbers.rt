@@ -1,5 +1,5 @@
-//! Places and counts that fit into 32 bits, and items of lists at places that may not be there. For a number that
-//! does not fit, the error is that there is not enough memory.
+//! Places and counts that fit into 32 bits. For one that does not, the error is that there is not
+//! enough memory.
 ghost use Rattle.std.specs.Prelude.{◌≡◌, ◌+◌, ℕ, IfOk};
 ghost use Rattle.step_code.specs.CappedWeights.{capped};
 

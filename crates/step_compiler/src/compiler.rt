@@ -1,7 +1,7 @@
 //! The compiler: the step code of a behaviour, or that it is too long.
 ghost use Rattle.std.specs.Prelude.{◌≡◌, length, IfOk, IfErr};
 ghost use Rattle.step_code.specs.CodeLengths.{code_length};
-ghost use Rattle.step_code.specs.proof.CodeMeaning.{Means};
+ghost use Rattle.step_code.specs.proof.CodeMatchesBehaviour.{Means};
 ghost use Rattle.step_compiler.specs.proof.CompiledCode.{compiled};
 ghost use Rattle.step_compiler.specs.LaidOutCode.{IsLaidOut};
 ghost use Rattle.step_compiler.specs.proof.CompileFaultCauses.{IsCauseFor};

@@ -7,7 +7,7 @@ use Rattle.std.proofs.lemmas.List.{take_more, length-take-le}
 use Rattle.pals_base.specs.declared.basic_types.PortValue.{PortValue}
 use Rattle.pals_base.specs.declared.basic_types.PortValue.TheVariants.{Absent, Present}
 use Rattle.pals_base.specs.SingleStep.{held_of, holding}
-use Rattle.pals_base.proofs.StepSequences.{holding-none}
+use Rattle.pals_base.proofs.SequencesAndHaltedFrames.{holding-none}
 
 holding-present : (held : List ℤ) (xs : List PortValue) (v : ℤ) → length xs < length held
     → holding held (xs ++ Present v ∷ []) ≡ slice_set (holding held xs) (length xs) v

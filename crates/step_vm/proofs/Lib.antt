@@ -1,5 +1,5 @@
 pub mod StackCells
 pub mod HeldInputsAndVariables
 pub mod MachineInvariant
-pub mod StepOutcomes
+pub mod StepsFromEntries
 pub mod FittingFrames

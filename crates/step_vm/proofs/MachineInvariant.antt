@@ -10,7 +10,7 @@ use Rattle.pals_base.specs.SingleStep.{is_present}
 use Rattle.step_code.specs.declared.instr.Instr.{Instr}
 use Rattle.step_code.specs.declared.instr.CodeParts.{CodeParts}
 use Rattle.pals_base.specs.declared.limits.TheConstants.{INSTRUCTIONS}
-use Rattle.step_code.specs.PathWeights.{weight}
+use Rattle.step_code.specs.SuccessorsAndWeights.{weight}
 use Rattle.step_code.specs.InstructionEffects.{Next, Goes, Ends, Traps, step}
 use Rattle.step_code.specs.proof.CodeRuns.{CodeOutcome, Ended, Trapped, Continuation, then_run, run, IsOver}
 use Rattle.step_code.specs.InstructionsPerStep.{count, step_inputs}

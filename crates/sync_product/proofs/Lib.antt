@@ -1,4 +1,4 @@
-pub mod SizePreservation
+pub mod SizePreservingWrites
 pub mod PortColumns
 pub mod TupleLengths
 pub mod CompositionAgreement

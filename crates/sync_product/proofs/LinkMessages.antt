@@ -10,7 +10,7 @@ use Rattle.pals_base.specs.PeriodBoundAndReleases.{sent_steps}
 use Rattle.pals_model.specs.declared.design.Component.{Component}
 use Rattle.pals_model.specs.declared.design.Link.{Link}
 use Rattle.pals_model.specs.declared.design.DesignParts.{DesignParts}
-use Rattle.pals_model.specs.PortKinds.{rate_of, rate_in}
+use Rattle.pals_model.specs.PortKindsAndRates.{rate_of, rate_in}
 use Rattle.sync_product.specs.declared.component_stage.Stage.{Stage}
 use Rattle.sync_product.specs.proof.ProductSizes.{StageSize, stage_size, stage_size_of, stage_sizes, message_sizes}
 use Rattle.sync_product.proofs.TupleLengths.{count_of_rows}

@@ -10,7 +10,7 @@ use Rattle.std.specs.Prelude.{pos}
 use Rattle.pals_model.specs.declared.design.Component.{Component}
 use Rattle.pals_model.specs.declared.design.Link.{Link}
 use Rattle.pals_model.specs.declared.design.DesignParts.{DesignParts}
-use Rattle.pals_model.specs.PortKinds.{rate_of}
+use Rattle.pals_model.specs.PortKindsAndRates.{rate_of}
 use Rattle.sync_product.specs.proof.ProductStates.{opening_part}
 use Rattle.sync_product.specs.proof.ProductSizes.{FrameSize, PartSize, part_size, part_size_of}
 use Rattle.sync_product.specs.proof.ComponentWiring.{tap_ports}

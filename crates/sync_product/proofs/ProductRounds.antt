@@ -22,7 +22,7 @@ use Rattle.pals_model.specs.declared.design.Tap.{Tap}
 use Rattle.pals_model.specs.declared.design.DesignParts.{DesignParts}
 use Rattle.pals_model.specs.declared.part.Part.{Part}
 use Rattle.pals_model.specs.ComponentInputs.{inputs_of}
-use Rattle.pals_model.specs.PortKinds.{rate_in, outs_in}
+use Rattle.pals_model.specs.PortKindsAndRates.{rate_in, outs_in}
 use Rattle.pals_model.specs.DesignRules.{IsDesign, IsLink, IsTap}
 use Rattle.pals_model.specs.Composition.{steps_from, no_frame, part_of, taps_of, tuple_in, message_of}
 use Rattle.pals_model.proofs.CompositionLaws.{length-steps_from, steps_from-at}

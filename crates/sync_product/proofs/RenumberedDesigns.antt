@@ -6,7 +6,7 @@ use Rattle.pals_model.specs.declared.design.Component.{Component}
 use Rattle.pals_model.specs.declared.design.Link.{Link}
 use Rattle.pals_model.specs.declared.design.Feed.{Feed}
 use Rattle.pals_model.specs.declared.design.DesignParts.{DesignParts}
-use Rattle.pals_model.specs.PortKinds.{rate_of, rate_in}
+use Rattle.pals_model.specs.PortKindsAndRates.{rate_of, rate_in}
 use Rattle.sync_product.specs.proof.RenumberedDesigns.{renumbered_link, renumbered_feed, IsRenumbered}
 use Rattle.sync_product.proofs.ImageMembers.{there, comes_from}
 

@@ -1,7 +1,7 @@
 //! What a product begins with: a stage for each component, absent messages, and the parts before the first round.
 ghost use Rattle.std.specs.Prelude.{◌≡◌, IfOk, map, replicate};
 ghost use Rattle.pals_base.specs.declared.basic_types.PortValue.TheVariants.{Absent};
-ghost use Rattle.pals_model.specs.PortKinds.{rate_of};
+ghost use Rattle.pals_model.specs.PortKindsAndRates.{rate_of};
 ghost use Rattle.sync_product.specs.proof.ProductStates.{opening_parts};
 ghost use Rattle.sync_product.specs.proof.ProductSizes.{stage_size, stage_sizes};
 ghost use Rattle.sync_product.specs.proof.ComponentWiring.{all_taps};

@@ -1,4 +1,5 @@
-//! Tuples written place by place. The calls take no memory.
+//! The tuple of one port, taken as a column from the rows of steps and cut to those that count. The
+//! calls take no memory.
 ghost use Rattle.std.specs.Prelude.{◌≡◌, length};
 ghost use Rattle.pals_base.specs.Tuples.{column, cut};
 ghost use Rattle.sync_product.specs.proof.Rounds.{value_if_before};

@@ -11,4 +11,4 @@ mod gates;
 #[cfg(test)]
 mod list_clocks;
 #[cfg(test)]
-mod meetings;
+mod schedules_and_refused_starts;

@@ -11,7 +11,7 @@ use Rattle.pals_runs.specs.declared.events_and_faults.Event.TheVariants as event
 use Rattle.bus_machine.specs.Plans.{plan_of}
 use Rattle.bus_machine.specs.NodeEvents.{running_step}
 use Rattle.bus_machine.specs.BusStates.{BusState, node_at}
-use Rattle.bus_machine.specs.Runs.{Run}
+use Rattle.bus_machine.specs.RunParameters.{Run}
 use Rattle.bus_machine.specs.Machine.{BusEvent, Start, Step, Finish, Send, Arrive}
 use Rattle.bus_machine.specs.proof.AgreementLaws.{IsRunOf}
 use Rattle.pals_bus.specs.BusValues.{BusValue, Happens}
@@ -19,9 +19,9 @@ use Rattle.run_laws.specs.Worlds.{World, reading_at, sendings, bus_event, moved,
 use Rattle.run_laws.specs.EventFaults.{fault_of}
 use Rattle.run_laws.specs.proof.WorldInvariant.{KeepsTime}
 use Rattle.run_laws.proofs.FaultlessEventConditions.{starts_in_time}
-use Rattle.run_laws.proofs.StartTiming.{start_is}
+use Rattle.run_laws.proofs.WorldInvariantAfterStarts.{start_is}
 use Rattle.run_laws.proofs.KeptWorldInvariant.{event_keeps_time}
-use Rattle.timed_world.specs.proof.WorldValues.{WorldValue, world_of, KeepsWorld, BusMoves, Moves}
+use Rattle.timed_world.specs.proof.WorldValuesAndMoves.{WorldValue, world_of, KeepsWorld, BusMoves, Moves}
 
 -- ---- what is kept
 others_stay : (old : BusValue) (what : Option BusEvent) (new : BusValue) → BusMoves old what new

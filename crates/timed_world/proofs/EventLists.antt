@@ -1,12 +1,12 @@
 -- A list of events in a world, made one event longer.
 use Rattle.std.proofs.Common.{◌≡◌, ◌+◌, List, [], ◌∷◌, ◌++◌, None, refl, ap, ap₂, ◌∙◌, sym}
 use Rattle.pals_runs.specs.declared.events_and_faults.Event.{Event}
-use Rattle.bus_machine.specs.Runs.{Run}
+use Rattle.bus_machine.specs.RunParameters.{Run}
 use Rattle.pals_bus.specs.BusValues.{BusValue}
 use Rattle.run_laws.specs.Worlds.{World, world_after}
 use Rattle.run_laws.specs.EventFaults.{fault_of}
 use Rattle.run_laws.specs.EventLists.{IsWithin, world_left}
-use Rattle.timed_world.specs.proof.WorldValues.{WorldValue, world_of, Moves}
+use Rattle.timed_world.specs.proof.WorldValuesAndMoves.{WorldValue, world_of, Moves}
 use Rattle.timed_world.specs.proof.EventLists.{Leads}
 use Rattle.timed_world.proofs.EventEffects.{bus_stays}
 

@@ -3,5 +3,5 @@ pub mod NodeStandings
 pub mod FaultSearch
 pub mod SingleCopiesInFlight
 pub mod EventEffects
-pub mod MemoryRefusals
+pub mod RefusalsForMemoryAlone
 pub mod EventLists

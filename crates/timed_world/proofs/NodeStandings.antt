@@ -11,7 +11,7 @@ use Rattle.pals_base.specs.declared.period_bound_and_releases.Gamma.{Gamma}
 use Rattle.bus_machine.specs.declared.plan.Plan.{Plan}
 use Rattle.bus_machine.specs.Plans.{plan_of, component_at}
 use Rattle.bus_machine.specs.BusStates.{node_at}
-use Rattle.bus_machine.specs.Runs.{Run}
+use Rattle.bus_machine.specs.RunParameters.{Run}
 use Rattle.bus_machine.specs.Agreement.{PhaseAgrees}
 use Rattle.bus_machine.specs.proof.AgreementLaws.{IsRunOf}
 use Rattle.run_laws.specs.Worlds.{World, since_at, ready_at}
@@ -21,7 +21,7 @@ use Rattle.run_laws.proofs.WorldNodeTiming.{deadline_is, phase_agrees, rounds_at
 use Rattle.run_laws.proofs.WorldNodeTiming.{phase_last as of_phase}
 use Rattle.run_laws.proofs.WorldTimeRanges.{times_are_readings}
 use Rattle.timed_world.specs.declared.node_standing.NodeStanding.{NodeStanding}
-use Rattle.timed_world.specs.proof.WorldValues.{WorldValue, KeepsWorld, world_of}
+use Rattle.timed_world.specs.proof.WorldValuesAndMoves.{WorldValue, KeepsWorld, world_of}
 use Rattle.timed_world.specs.proof.NodeStandings.{IsSound, standing_of, phase_last, send_last, last_time}
 
 -- ---- a moment is at most the time, if there is a last time

@@ -17,7 +17,7 @@ use Rattle.bus_machine.specs.proof.AgreementLaws.{IsRunOf}
 use Rattle.pals_bus.specs.BusValues.{BusValue}
 use Rattle.run_laws.specs.Worlds.{world_run}
 use Rattle.run_laws.proofs.OpeningWorlds.{opening_keeps_time}
-use Rattle.timed_world.specs.proof.WorldValues.{WorldValue, KeepsWorld, opening_value}
+use Rattle.timed_world.specs.proof.WorldValuesAndMoves.{WorldValue, KeepsWorld, opening_value}
 
 -- ---- the delays
 one_within : (delay most : ℕ) → delay ≤ most → All (λ d. d ≤ most) (delay ∷ [])

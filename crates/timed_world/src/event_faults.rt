@@ -2,7 +2,7 @@
 ghost use Rattle.std.specs.Prelude.{◌≡◌, ◌<◌, length, true};
 ghost use Rattle.pals_runs.specs.declared.events_and_faults.Event.TheVariants as event;
 ghost use Rattle.run_laws.specs.EventFaults.{fault_of, event_fault, is_named};
-ghost use Rattle.timed_world.specs.proof.WorldValues.{world_of};
+ghost use Rattle.timed_world.specs.proof.WorldValuesAndMoves.{world_of};
 
 use crate::node_standing::too_soon;
 use crate::world::World;

@@ -8,7 +8,7 @@ ghost use Rattle.pals_node.specs.declared.refusals.StepEnd.TheVariants as step;
 ghost use Rattle.pals_bus.specs.declared.bus_error.BusError.TheVariants.{Refused};
 ghost use Rattle.pals_bus.specs.declared.bus_error.MessageError.TheVariants as message;
 ghost use Rattle.run_laws.specs.EventFaults.{fault_of};
-ghost use Rattle.timed_world.specs.proof.WorldValues.{Moves, world_of};
+ghost use Rattle.timed_world.specs.proof.WorldValuesAndMoves.{Moves, world_of};
 
 use crate::world::World;
 use pals_base::{Items, LinkNo, Nanos, NoMemory, NodeNo};

@@ -4,7 +4,7 @@ ghost use Rattle.std.specs.List.{enumerate_from};
 ghost use Rattle.pals_base.specs.UpwardNumbers.{upwards};
 ghost use Rattle.run_laws.specs.EventFaults.{first_of, clock_back, clock_apart, node_past, link_past, pass_fault, past};
 ghost use Rattle.timed_world.specs.proof.MessagesPastDeadline.{flying_past};
-ghost use Rattle.timed_world.specs.proof.WorldValues.{world_of};
+ghost use Rattle.timed_world.specs.proof.WorldValuesAndMoves.{world_of};
 
 use crate::world::World;
 use pals_base::{LinkNo, Nanos, NodeNo};

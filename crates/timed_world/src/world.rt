@@ -9,7 +9,7 @@ ghost use Rattle.pals_bus.specs.proof.StepCodesOfNodes.{AreCodes};
 ghost use Rattle.run_laws.specs.proof.WorldInvariant.{KeepsTime};
 ghost use Rattle.run_laws.specs.Worlds.{flight_since};
 ghost use Rattle.timed_world.specs.proof.NodeStandings.{IsSound, standing_of};
-ghost use Rattle.timed_world.specs.proof.WorldValues.{opening_value, world_of};
+ghost use Rattle.timed_world.specs.proof.WorldValuesAndMoves.{opening_value, world_of};
 
 use crate::initial_lists::{least_delays, no_moments, no_times};
 use crate::node_standing::NodeStanding;
@@ -37,7 +37,7 @@ pub struct World {
 }
 
 impl Model for World {
-    ghost use Rattle.timed_world.specs.proof.WorldValues.{WorldValue, KeepsWorld};
+    ghost use Rattle.timed_world.specs.proof.WorldValuesAndMoves.{WorldValue, KeepsWorld};
 
     ghost Value = { WorldValue };
 

@@ -10,7 +10,7 @@ use Rattle.pals_runs.specs.declared.journal.JournalEntry.TheVariants as entry
 use Rattle.pals_runs.specs.declared.verdicts.TraceRule.TheVariants as rule
 use Rattle.bus_machine.specs.Nodes.{NodeState}
 use Rattle.bus_machine.specs.BusStates.{BusState, opening}
-use Rattle.bus_machine.specs.Runs.{Run}
+use Rattle.bus_machine.specs.RunParameters.{Run}
 use Rattle.bus_machine.specs.Machine.{BusEvent, after}
 use Rattle.run_laws.specs.EntriesOfDesigns.{IsEntryIn}
 use Rattle.run_laws.specs.EntryEventsAndReadings.{event_of, has_reading, timed}

@@ -10,7 +10,7 @@ use Rattle.pals_runs.specs.JournalLines.{entry_line}
 use Rattle.pals_runs.specs.declared.verdicts.TraceRule.{TraceRule}
 use Rattle.pals_runs.specs.declared.verdicts.TraceRule.TheVariants as rule
 use Rattle.bus_machine.specs.BusStates.{BusState}
-use Rattle.bus_machine.specs.Runs.{Run}
+use Rattle.bus_machine.specs.RunParameters.{Run}
 use Rattle.bus_machine.specs.Machine.{BusEvent, is_allowed}
 use Rattle.bus_machine.specs.Replay.{entries}
 use Rattle.run_laws.specs.EntryEventsAndReadings.{timed, event_of}

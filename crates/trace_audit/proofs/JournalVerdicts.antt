@@ -7,7 +7,7 @@ use Rattle.pals_runs.specs.declared.journal.JournalEntry.{JournalEntry}
 use Rattle.pals_runs.specs.declared.verdicts.TraceRule.{TraceRule}
 use Rattle.pals_runs.specs.declared.verdicts.Verdict.{Verdict}
 use Rattle.pals_runs.specs.declared.verdicts.Verdict.TheVariants.{Sound, Wrong}
-use Rattle.bus_machine.specs.Runs.{Run}
+use Rattle.bus_machine.specs.RunParameters.{Run}
 use Rattle.run_laws.specs.EntriesInLines.{entry_of_line}
 use Rattle.run_laws.specs.TraceVerdicts.{Audit, audit_after, end_broken, entry_or, journal_verdict, line_broken}
 use Rattle.run_laws.specs.TraceVerdicts.{opening_audit, report_size, row_size, trace_verdict, verdict, wrong_or}

@@ -9,13 +9,13 @@ use Rattle.pals_runs.specs.declared.journal.JournalEntry.{JournalEntry}
 use Rattle.pals_runs.specs.declared.journal.JournalEntry.TheVariants as entry
 use Rattle.pals_runs.specs.declared.verdicts.TraceRule.TheVariants as rule
 use Rattle.bus_machine.specs.BusStates.{BusState}
-use Rattle.bus_machine.specs.Runs.{Run}
+use Rattle.bus_machine.specs.RunParameters.{Run}
 use Rattle.bus_machine.specs.Machine.{BusEvent, arrival, early_stop}
 use Rattle.bus_machine.specs.Replay.{entries, stop_entry}
 use Rattle.run_laws.specs.EntryEventsAndReadings.{event_of, timed}
 use Rattle.run_laws.specs.TraceRules.{broken, falls, fits, is_in_order, tells_stop, too_early, waits}
 use Rattle.run_laws.specs.TraceVerdicts.{second_entry}
-use Rattle.run_laws.proofs.SoundEntries.{same_arrived}
+use Rattle.run_laws.proofs.SoundEntryEvents.{same_arrived}
 use Rattle.trace_audit.specs.proof.FirstBrokenRule.{first_rule}
 use Rattle.trace_audit.specs.proof.OwedStops.{owed_by, stop_of}
 

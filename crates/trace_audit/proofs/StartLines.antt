@@ -21,7 +21,7 @@ use Rattle.pals_runs.specs.JournalLines.{entry_line}
 use Rattle.bus_machine.specs.Plans.{plan_of}
 use Rattle.bus_machine.specs.NodeEvents.{missing}
 use Rattle.bus_machine.specs.BusStates.{BusState, node_at}
-use Rattle.bus_machine.specs.Runs.{Run}
+use Rattle.bus_machine.specs.RunParameters.{Run}
 use Rattle.bus_machine.specs.MissedMessages.{link_into, missing_link}
 use Rattle.bus_machine.specs.Machine.{Start, missed_stop}
 use Rattle.bus_machine.specs.Replay.{start_entry}

@@ -5,7 +5,7 @@ use Rattle.std.specs.Fmt.{digits}
 use Rattle.pals_base.specs.SingleStep.{fire}
 use Rattle.triple_vote.specs.VotedComposition.{voted_composition, voted_tap}
 use Rattle.pals_model.specs.proof.TwoCounters.{two_counters}
-use Rattle.pals_runs.specs.declared.vote_faults.VoteFault.{VoteFault}
+use Rattle.pals_runs.specs.declared.replica_faults.VoteFault.{VoteFault}
 use Rattle.triple_vote.specs.proof.VoteLaws.{IsFault}
 use Rattle.triple_vote.specs.proof.CounterVotes.{liar, first_round, OneLiarIsOutvoted, TwoLiarsAreNot, OneLiarText}
 use Rattle.triple_vote.specs.proof.CounterVotes.{TwoLiarsText, OneLiarIsFault, OneLiarIsAllowed}

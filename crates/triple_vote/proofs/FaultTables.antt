@@ -9,7 +9,7 @@ use Rattle.std.proofs.lemmas.List.{drop_more, drop_all, get_or-set_same, get_or-
 use Rattle.std.proofs.lemmas.List.{length-replicate}
 use Rattle.std.proofs.lemmas.Option.{slice_get-get_or}
 use Rattle.pals_base.specs.declared.basic_types.PortValue.{PortValue}
-use Rattle.pals_runs.specs.declared.vote_faults.VoteFault.{VoteFault}
+use Rattle.pals_runs.specs.declared.replica_faults.VoteFault.{VoteFault}
 use Rattle.triple_vote.specs.VotedComposition.{is_fault, fault_or}
 use Rattle.triple_vote.specs.proof.FaultTables.{place, is_replica, is_placed, with_fault, fault_at, AreFirstOn}
 use Rattle.triple_vote.specs.proof.FaultTables.{AreFirst}

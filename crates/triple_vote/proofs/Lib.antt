@@ -3,7 +3,7 @@ pub mod ListTablesAndSearches
 pub mod ReplicaInputs
 pub mod VotesDespiteOneFault
 pub mod ReplicaRounds
-pub mod OutvotedFaults
+pub mod CompositionAgreement
 pub mod OutvotedFaultReports
 pub mod VotedStates
 pub mod CounterVotes
@@ -18,4 +18,4 @@ pub mod StageMessagesAndTaps
 pub mod FaultTables
 pub mod VotedMessagesAndTaps
 pub mod OpeningReplicas
-pub mod OpeningAndNextStates
+pub mod ProductStatesAndInvariant

@@ -16,7 +16,7 @@ use Rattle.pals_model.specs.declared.design.Tap.{Tap}
 use Rattle.pals_model.specs.declared.design.DesignParts.{DesignParts}
 use Rattle.pals_model.specs.declared.environment.Env.{Env}
 use Rattle.pals_model.specs.declared.part.Part.{Part}
-use Rattle.pals_model.specs.PortKinds.{out_kind}
+use Rattle.pals_model.specs.PortKindsAndRates.{out_kind}
 use Rattle.pals_model.specs.Composition.{state, steps_of_round, tuple_of, taps_of, part}
 use Rattle.pals_model.specs.RoundTexts.{text_of, round_line, component_line, tap_line, part_lines, tap_lines}
 use Rattle.pals_model.specs.RoundTexts.{taps_before, composed_lines}
@@ -24,7 +24,7 @@ use Rattle.pals_model.proofs.CompositionLaws.{state_goes_on, part_from_steps}
 use Rattle.triple_vote.specs.VotedComposition.{is_replicated, copies_of, frame_at, voted_composition, voted_tap}
 use Rattle.triple_vote.specs.VotedText.{replica_name, replica_lines, shown_line, voted_row, voted_lines, tripled_lines}
 use Rattle.triple_vote.specs.proof.VoteLaws.{ReportIsThrice, ThriceWithoutReplicas}
-use Rattle.triple_vote.proofs.OutvotedFaults.{replicas_are_states, taps_show_tuples}
+use Rattle.triple_vote.proofs.CompositionAgreement.{replicas_are_states, taps_show_tuples}
 
 -- ---- lists of equal elements
 map-same : {A B : Type 0} (f g : A → B) (xs : List A) → ((k : ℕ) (x : A) → slice_get xs k ≡ Some x → f x ≡ g x)

@@ -9,7 +9,7 @@ use Rattle.pals_base.proofs.ColumnsAndCutTuples.{cut_whole}
 use Rattle.pals_model.specs.declared.design.Link.{Link}
 use Rattle.pals_model.specs.declared.design.Tap.{Tap}
 use Rattle.pals_model.specs.declared.design.DesignParts.{DesignParts}
-use Rattle.pals_model.specs.PortKinds.{rate_of}
+use Rattle.pals_model.specs.PortKindsAndRates.{rate_of}
 use Rattle.pals_model.specs.DesignRules.{IsDesign, IsLink, IsTap}
 use Rattle.pals_model.proofs.FirstMatches.{at_element}
 use Rattle.sync_product.specs.declared.component_stage.Stage.{Stage}

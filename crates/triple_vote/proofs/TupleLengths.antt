@@ -11,11 +11,11 @@ use Rattle.pals_base.specs.Tuples.{column, cut}
 use Rattle.pals_base.proofs.ColumnsAndCutTuples.{length-cut}
 use Rattle.pals_model.specs.declared.design.Component.{Component}
 use Rattle.pals_model.specs.declared.design.DesignParts.{DesignParts}
-use Rattle.pals_model.specs.PortKinds.{rate_of, rate_in}
+use Rattle.pals_model.specs.PortKindsAndRates.{rate_of, rate_in}
 use Rattle.sync_product.specs.declared.component_stage.Stage.{Stage}
 use Rattle.sync_product.specs.proof.ProductSizes.{StageSize, stage_size, stage_size_of, stage_sizes}
 use Rattle.sync_product.proofs.PortColumns.{length-column}
-use Rattle.sync_product.proofs.SizePreservation.{same_sizes}
+use Rattle.sync_product.proofs.SizePreservingWrites.{same_sizes}
 use Rattle.sync_product.proofs.TupleLengths.{count_of_rows}
 use Rattle.sync_product.proofs.ComponentLists.{sized_at, count_of_sized}
 use Rattle.triple_vote.specs.proof.ReplicaLayers.{lengths}

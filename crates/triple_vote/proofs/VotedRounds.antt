@@ -18,12 +18,12 @@ use Rattle.pals_model.specs.declared.design.Link.{Link}
 use Rattle.pals_model.specs.declared.design.Tap.{Tap}
 use Rattle.pals_model.specs.declared.design.DesignParts.{DesignParts}
 use Rattle.pals_model.specs.ComponentInputs.{inputs_of}
-use Rattle.pals_model.specs.PortKinds.{rate_in, outs_in}
+use Rattle.pals_model.specs.PortKindsAndRates.{rate_in, outs_in}
 use Rattle.pals_model.specs.Composition.{no_frame}
 use Rattle.pals_model.specs.DesignRules.{IsDesign, IsLink, IsTap, IsSource}
 use Rattle.pals_model.proofs.FirstMatches.{at_element}
 use Rattle.pals_model.proofs.ShapeLaws.{component_at}
-use Rattle.pals_runs.specs.declared.vote_faults.VoteFault.{VoteFault}
+use Rattle.pals_runs.specs.declared.replica_faults.VoteFault.{VoteFault}
 use Rattle.sync_product.specs.proof.Rounds.{frames_of}
 use Rattle.triple_vote.specs.declared.replica_layer.Layer.{Layer}
 use Rattle.triple_vote.specs.Votes.{votes}

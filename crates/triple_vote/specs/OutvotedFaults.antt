@@ -1,7 +1,7 @@
 -- When faults are outvoted: no two replicas are at fault in one round, on one link, towards one replica of its
 -- target.
 use Rattle.std.specs.Prelude.{◌≡◌, ℕ, List, Contains}
-use Rattle.pals_runs.specs.declared.vote_faults.VoteFault.{VoteFault}
+use Rattle.pals_runs.specs.declared.replica_faults.VoteFault.{VoteFault}
 
 -- no two replicas are at fault in one round, on one link, towards one replica of its target
 abbrev pub AreOutvoted : (ℕ → List VoteFault) → Type 0

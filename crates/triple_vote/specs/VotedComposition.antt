@@ -16,9 +16,9 @@ use Rattle.pals_model.specs.declared.design.Tap.{Tap}
 use Rattle.pals_model.specs.declared.design.DesignParts.{DesignParts}
 use Rattle.pals_model.specs.declared.environment.Env.{Env}
 use Rattle.pals_model.specs.ComponentInputs.{inputs_of, values_at}
-use Rattle.pals_model.specs.PortKinds.{rate_of}
+use Rattle.pals_model.specs.PortKindsAndRates.{rate_of}
 use Rattle.pals_model.specs.Composition.{no_frame}
-use Rattle.pals_runs.specs.declared.vote_faults.VoteFault.{VoteFault}
+use Rattle.pals_runs.specs.declared.replica_faults.VoteFault.{VoteFault}
 use Rattle.triple_vote.specs.Votes.{votes}
 
 -- ---- replicas

@@ -9,10 +9,10 @@ use Rattle.pals_model.specs.declared.design.Component.{Component}
 use Rattle.pals_model.specs.declared.design.Tap.{Tap}
 use Rattle.pals_model.specs.declared.design.DesignParts.{DesignParts}
 use Rattle.pals_model.specs.declared.environment.Env.{Env}
-use Rattle.pals_model.specs.PortKinds.{out_kind}
+use Rattle.pals_model.specs.PortKindsAndRates.{out_kind}
 use Rattle.pals_model.specs.Composition.{state, steps_of_round, tuple_of}
 use Rattle.pals_model.specs.RoundTexts.{text_of, round_line, component_line, tap_line}
-use Rattle.pals_runs.specs.declared.vote_faults.VoteFault.{VoteFault}
+use Rattle.pals_runs.specs.declared.replica_faults.VoteFault.{VoteFault}
 use Rattle.triple_vote.specs.VotedComposition.{is_replicated, copies_of, frame_at, voted_composition, voted_tap}
 
 -- ---- the lines of a component: PATH, or PATH#1, PATH#2 and PATH#3

@@ -1,7 +1,7 @@
 //! The opening frames of replicas, and the absent tuples of root out ports.
 ghost use Rattle.std.specs.Prelude.{◌≡◌, IfOk, map, replicate};
 ghost use Rattle.pals_base.specs.declared.basic_types.PortValue.TheVariants.{Absent};
-ghost use Rattle.pals_model.specs.PortKinds.{rate_of};
+ghost use Rattle.pals_model.specs.PortKindsAndRates.{rate_of};
 ghost use Rattle.triple_vote.specs.proof.ReplicaLayers.{opening_part};
 
 use pals_base::tuples::absent;

@@ -1,4 +1,4 @@
-pub mod CounterSchedules
+pub mod CounterSchedulesAndFaults
 pub mod ScheduleTimes
 pub mod WorldsOnSchedule
 pub mod FaultlessEvents
@@ -17,4 +17,4 @@ pub mod NextSeriesEvents
 pub mod NextMoment
 pub mod DesignSeries
 pub mod PartialSchedules
-pub mod RingNumbers
+pub mod RingValuesAndSums

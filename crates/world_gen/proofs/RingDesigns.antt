@@ -20,7 +20,7 @@ use Rattle.pals_model.specs.declared.design.Feed.{Feed}
 use Rattle.pals_model.specs.declared.design.Tap.{Tap}
 use Rattle.pals_model.specs.declared.design.DesignParts.{DesignParts}
 use Rattle.pals_model.specs.ComponentInputs.{input_vectors}
-use Rattle.pals_model.specs.PortKinds.{rate_of, rate_in, ins_in, outs_in, in_kind, out_kind}
+use Rattle.pals_model.specs.PortKindsAndRates.{rate_of, rate_in, ins_in, outs_in, in_kind, out_kind}
 use Rattle.pals_model.specs.Composition.{comp, state}
 use Rattle.pals_model.specs.DesignRules.{IsComponent, IsSource, IsTarget, IsLink, IsFeed, IsTap, IsApart, AgreeInKind}
 use Rattle.pals_model.specs.DesignRules.{LinkPrecedes, FeedPrecedes, greatest_rate, IsDesign}

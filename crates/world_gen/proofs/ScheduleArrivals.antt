@@ -15,7 +15,7 @@ use Rattle.pals_runs.specs.declared.journal.Arrived.TheVariants.{Kept}
 use Rattle.bus_machine.specs.NodeEvents.{slot_at}
 use Rattle.bus_machine.specs.BusStates.{BusState, node_at, flight_at}
 use Rattle.bus_machine.specs.Plans.{link_at}
-use Rattle.bus_machine.specs.Runs.{Run}
+use Rattle.bus_machine.specs.RunParameters.{Run}
 use Rattle.bus_machine.specs.MissedMessages.{rounds_sent_on}
 use Rattle.bus_machine.specs.proof.AgreementLaws.{IsRunOf}
 use Rattle.run_laws.specs.Worlds.{World, since_at, ready_at, sendings, flight_since, world_after}
@@ -27,7 +27,7 @@ use Rattle.run_laws.proofs.Lists.{count_without}
 use Rattle.run_laws.proofs.WorldLinkTiming.{rule_of, under_way, counts_in_flight, one_of_true, one_of_false}
 use Rattle.run_laws.proofs.FaultlessEventConditions.{FaultlessArrival, arrives_in_time}
 use Rattle.world_gen.proofs.FaultlessEvents.{arrival_is_fine}
-use Rattle.run_laws.proofs.ArrivalTiming as arrive
+use Rattle.run_laws.proofs.WorldInvariantAfterArrivals as arrive
 use Rattle.world_gen.proofs.ScheduleTimes.{which_is, sends_rise}
 use Rattle.world_gen.proofs.WorldsOnSchedule.{NodeOnSchedule, LinkOnSchedule, IsOnSchedule, nodes_follow, follows_put}
 

@@ -20,7 +20,7 @@ use Rattle.bus_machine.specs.Nodes.{NodeState, sent_rounds}
 use Rattle.bus_machine.specs.NodeEvents.{may_send, slot_at}
 use Rattle.bus_machine.specs.AlarmsAndReleases.{start_alarm, step_alarm, release_reading}
 use Rattle.bus_machine.specs.BusStates.{node_at, flight_at}
-use Rattle.bus_machine.specs.Runs.{Run}
+use Rattle.bus_machine.specs.RunParameters.{Run}
 use Rattle.bus_machine.specs.MissedMessages.{rounds_sent_on}
 use Rattle.bus_machine.specs.Agreement.{PhaseAgrees}
 use Rattle.bus_machine.specs.proof.AgreementLaws.{IsRunOf}
@@ -35,7 +35,7 @@ use Rattle.run_laws.proofs.WorldNodeTiming.{phase_last, send_last, deadline_is}
 use Rattle.run_laws.proofs.WorldLinkTiming.{rule_of, one_of_true, under_way}
 use Rattle.world_gen.proofs.FaultlessEvents.{pass_is_fine, replicate_at}
 use Rattle.run_laws.proofs.TimePassage.{passes_in_time, pass_keeps_time}
-use Rattle.run_laws.proofs.NodePicks.{component_is}
+use Rattle.run_laws.proofs.NodePicksAndRunReplay.{component_is}
 use Rattle.world_gen.proofs.ScheduleTimes.{CountBefore, made_later, which_none, step_is, some_rate}
 use Rattle.world_gen.proofs.QuietTimes.{IsQuiet, is_quiet}
 use Rattle.world_gen.proofs.WorldsOnSchedule.{begun_by, ended_by, NodeOnSchedule, IsOnSchedule}

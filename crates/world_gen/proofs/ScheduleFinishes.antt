@@ -16,7 +16,7 @@ use Rattle.bus_machine.specs.Plans.{plan_of}
 use Rattle.bus_machine.specs.Nodes.{NodeState, round_of}
 use Rattle.bus_machine.specs.NodeEvents.{running_step, may_send}
 use Rattle.bus_machine.specs.BusStates.{node_at, with_node}
-use Rattle.bus_machine.specs.Runs.{Run}
+use Rattle.bus_machine.specs.RunParameters.{Run}
 use Rattle.bus_machine.specs.proof.AgreementLaws.{IsRunOf}
 use Rattle.run_laws.specs.Worlds.{World, since_at, ready_at, sendings, moved, world_after}
 use Rattle.run_laws.specs.EventFaults.{fault_of}
@@ -25,8 +25,8 @@ use Rattle.world_gen.specs.proof.Schedules.{step_time, finish_time, send_time, n
 use Rattle.run_laws.proofs.FaultlessEventConditions.{FaultlessFinish, finishes_in_time}
 use Rattle.world_gen.proofs.FaultlessEvents.{finish_is_fine}
 use Rattle.run_laws.proofs.LocalWorldChanges.{moved_here, moved_other}
-use Rattle.run_laws.proofs.FinishTiming.{Ends, goes_on, holds, waits_next, is_done, not_running}
-use Rattle.run_laws.proofs.FinishTiming as finish
+use Rattle.run_laws.proofs.WorldInvariantAfterFinishes.{Ends, goes_on, holds, waits_next, is_done, not_running}
+use Rattle.run_laws.proofs.WorldInvariantAfterFinishes as finish
 use Rattle.world_gen.proofs.ScheduleTimes.{CountBefore, which_is, which_next, made_next, step_is, finishes_rise}
 use Rattle.world_gen.proofs.WorldsOnSchedule.{begun_by, ended_by, NodeOnSchedule, IsOnSchedule, follows_again, follows_put}
 use Rattle.world_gen.proofs.WorldsOnSchedule.{links_follow}

@@ -18,7 +18,7 @@ use Rattle.bus_machine.specs.Plans.{plan_of, component_at, link_at}
 use Rattle.bus_machine.specs.Nodes.{NodeState, finished_steps, at_rest, sent_rounds}
 use Rattle.bus_machine.specs.NodeEvents.{after_send, may_send}
 use Rattle.bus_machine.specs.BusStates.{node_at, flight_at}
-use Rattle.bus_machine.specs.Runs.{Run}
+use Rattle.bus_machine.specs.RunParameters.{Run}
 use Rattle.bus_machine.specs.MissedMessages.{rounds_sent_on}
 use Rattle.bus_machine.specs.Agreement.{PhaseAgrees}
 use Rattle.bus_machine.specs.proof.AgreementLaws.{IsRunOf}
@@ -33,8 +33,8 @@ use Rattle.run_laws.proofs.WorldLinkTiming.{one_of_true, one_true}
 use Rattle.run_laws.proofs.FaultlessEventConditions.{FaultlessSend, sends_in_time}
 use Rattle.world_gen.proofs.FaultlessEvents.{send_is_fine}
 use Rattle.run_laws.proofs.LocalWorldChanges.{moved_here, moved_other}
-use Rattle.run_laws.proofs.SendTiming.{runs_before}
-use Rattle.run_laws.proofs.SendTiming as send
+use Rattle.run_laws.proofs.WorldInvariantAfterSends.{runs_before}
+use Rattle.run_laws.proofs.WorldInvariantAfterSends as send
 use Rattle.world_gen.proofs.ScheduleTimes.{CountBefore, which_is, which_next, made_next, step_is, sends_rise, send_after}
 use Rattle.world_gen.proofs.ScheduleTimes.{some_rate}
 use Rattle.world_gen.proofs.WorldsOnSchedule.{begun_by, ended_by, NodeOnSchedule, LinkOnSchedule, IsOnSchedule, follows_again}

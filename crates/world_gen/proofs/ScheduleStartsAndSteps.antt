@@ -18,7 +18,7 @@ use Rattle.bus_machine.specs.Nodes.{NodeState, sent_rounds}
 use Rattle.bus_machine.specs.NodeEvents.{is_waiting, next_step, stepped}
 use Rattle.bus_machine.specs.AlarmsAndReleases.{step_alarm}
 use Rattle.bus_machine.specs.BusStates.{node_at, with_node}
-use Rattle.bus_machine.specs.Runs.{Run}
+use Rattle.bus_machine.specs.RunParameters.{Run}
 use Rattle.bus_machine.specs.Agreement.{PhaseAgrees}
 use Rattle.bus_machine.specs.proof.AgreementLaws.{IsRunOf}
 use Rattle.run_laws.specs.Worlds.{World, reading_at, since_at, ready_at, sendings, world_after}
@@ -28,8 +28,8 @@ use Rattle.world_gen.specs.proof.Schedules.{step_time, finish_time, send_time, n
 use Rattle.run_laws.proofs.WorldNodeTiming.{fits_at, phase_agrees, rounds_at_most}
 use Rattle.run_laws.proofs.FaultlessEventConditions.{FaultlessStart, starts_in_time, FaultlessStep, steps_in_time}
 use Rattle.world_gen.proofs.FaultlessEvents.{start_is_fine, step_is_fine}
-use Rattle.run_laws.proofs.StartTiming as start
-use Rattle.run_laws.proofs.StepTiming as on
+use Rattle.run_laws.proofs.WorldInvariantAfterStarts as start
+use Rattle.run_laws.proofs.WorldInvariantAfterSteps as on
 use Rattle.world_gen.proofs.ScheduleTimes.{CountBefore, which_is, which_next, made_next, step_is, steps_rise, next_step_after}
 use Rattle.world_gen.proofs.ScheduleTimes.{send_before, some_rate}
 use Rattle.world_gen.proofs.WorldsOnSchedule.{begun_by, ended_by, NodeOnSchedule, IsOnSchedule, follows_again, follows_put}

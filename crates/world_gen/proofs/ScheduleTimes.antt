@@ -9,12 +9,12 @@ use Rattle.pals_base.proofs.UpwardNumbers.{slice_get-upwards, upwards_is}
 use Rattle.pals_model.specs.DesignRules.{IsComponent}
 use Rattle.pals_model.proofs.FirstMatches.{at_element, found_at}
 use Rattle.bus_machine.specs.Plans.{plan_of, component_at}
-use Rattle.bus_machine.specs.Runs.{Run}
+use Rattle.bus_machine.specs.RunParameters.{Run}
 use Rattle.bus_machine.specs.proof.AgreementLaws.{IsRunOf}
 use Rattle.bus_machine.proofs.ListsAndOldestCopies.{none_found}
 use Rattle.world_gen.specs.proof.Schedules.{step_time, finish_time, send_time, number_at_moment}
 use Rattle.run_laws.proofs.WorldNodeTiming.{FitsAt, fits_at}
-use Rattle.run_laws.proofs.NodePicks.{component_is}
+use Rattle.run_laws.proofs.NodePicksAndRunReplay.{component_is}
 
 -- ---- which one
 pub which_is : (time : ℕ → ℕ) (count moment number : ℕ) → number_at_moment time count moment ≡ Some number

@@ -13,7 +13,7 @@ use Rattle.pals_runs.specs.declared.phase.Phase.TheVariants.{Waiting, Running, B
 use Rattle.bus_machine.specs.Plans.{plan_of, component_at, link_at}
 use Rattle.bus_machine.specs.Nodes.{NodeState, opening_node, sent_rounds}
 use Rattle.bus_machine.specs.BusStates.{node_at, flight_at}
-use Rattle.bus_machine.specs.Runs.{Run}
+use Rattle.bus_machine.specs.RunParameters.{Run}
 use Rattle.bus_machine.specs.MissedMessages.{rounds_sent_on}
 use Rattle.bus_machine.specs.Agreement.{PhaseAgrees}
 use Rattle.bus_machine.specs.proof.AgreementLaws.{IsRunOf}

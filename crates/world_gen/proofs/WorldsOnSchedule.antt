@@ -14,7 +14,7 @@ use Rattle.bus_machine.specs.Nodes.{NodeState, round_of, sent_rounds}
 use Rattle.bus_machine.specs.NodeEvents.{may_send}
 use Rattle.pals_base.specs.UpwardNumbers.{upwards}
 use Rattle.bus_machine.specs.BusStates.{BusState, node_at, flight_at, with_node}
-use Rattle.bus_machine.specs.Runs.{Run}
+use Rattle.bus_machine.specs.RunParameters.{Run}
 use Rattle.bus_machine.specs.MissedMessages.{rounds_sent_on}
 use Rattle.bus_machine.proofs.NodeReplacement.{keeps_at}
 use Rattle.run_laws.specs.Worlds.{World, reading_at, since_at, ready_at, sendings, world_after}

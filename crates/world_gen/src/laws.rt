@@ -1,6 +1,6 @@
 //! Laws of schedules and rings. The functions do nothing: their contracts are the laws.
 ghost use Rattle.world_gen.specs.proof.ScheduleLaws.{SchedulesAreWhole, MomentsExist, MomentsAreOne};
-ghost use Rattle.world_gen.specs.proof.CounterSchedules.{CountersAreScheduled, FastIsScheduled, FastFaults};
+ghost use Rattle.world_gen.specs.proof.CounterSchedulesAndFaults.{CountersAreScheduled, FastIsScheduled, FastFaults};
 ghost use Rattle.world_gen.specs.proof.RingLaws.{RingsAreDesigns, RingNumbersAreSmall, RingsAddUp, DoneRingsAddUp};
 
 /// Each run has one schedule. It is within the bounds, and leaves all nodes done.

@@ -19,11 +19,11 @@ use Rattle.pals_runs.specs.declared.events_and_faults.Event.{Event}
 use Rattle.step_code.specs.declared.instr.CodeParts.{CodeParts}
 use Rattle.bus_machine.specs.Nodes.{NodeState}
 use Rattle.bus_machine.specs.BusStates.{node_at}
-use Rattle.bus_machine.specs.Runs.{Run}
+use Rattle.bus_machine.specs.RunParameters.{Run}
 use Rattle.bus_machine.specs.Agreement.{PhaseAgrees, Agrees}
 use Rattle.pals_bus.specs.BusValues.{BusValue}
 use Rattle.run_laws.specs.Worlds.{World, world_run}
-use Rattle.timed_world.specs.proof.WorldValues.{WorldValue, opening_value}
+use Rattle.timed_world.specs.proof.WorldValuesAndMoves.{WorldValue, opening_value}
 use Rattle.timed_world.specs.proof.EventLists.{Leads}
 use Rattle.loose_world.proofs.FinishedRows.{part_is}
 use Rattle.world_gen.specs.proof.ScheduleLaws.{IsWhole}

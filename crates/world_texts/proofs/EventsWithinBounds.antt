@@ -7,12 +7,12 @@ use Rattle.std.proofs.lemmas.Option.{none-some}
 use Rattle.pals_runs.specs.declared.events_and_faults.Event.{Event}
 use Rattle.pals_runs.specs.declared.events_and_faults.EventFault.{EventFault}
 use Rattle.pals_runs.specs.declared.events_and_faults.EventFault.TheVariants as fault
-use Rattle.bus_machine.specs.Runs.{Run}
+use Rattle.bus_machine.specs.RunParameters.{Run}
 use Rattle.pals_bus.specs.BusValues.{BusValue}
 use Rattle.run_laws.specs.Worlds.{World, world_after}
 use Rattle.run_laws.specs.EventFaults.{fault_of}
 use Rattle.run_laws.specs.EventLists.{IsWithin, world_left}
-use Rattle.timed_world.specs.proof.WorldValues.{WorldValue, world_of, Moves}
+use Rattle.timed_world.specs.proof.WorldValuesAndMoves.{WorldValue, world_of, Moves}
 use Rattle.timed_world.specs.proof.EventLists.{Leads}
 use Rattle.timed_world.proofs.EventLists.{leads_more}
 

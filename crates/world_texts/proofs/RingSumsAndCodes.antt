@@ -13,7 +13,7 @@ use Rattle.step_code.specs.CodeLengths.{code_length}
 use Rattle.bus_machine.specs.Plans.{no_component}
 use Rattle.design_codes.specs.OverlongCodes.{length_of, IsFirstTooLong}
 use Rattle.world_gen.specs.Rings.{ring, ring_component, ring_behaviour, ring_number}
-use Rattle.world_gen.proofs.RingNumbers.{ring_numbers_are_small}
+use Rattle.world_gen.proofs.RingValuesAndSums.{ring_numbers_are_small}
 
 -- ---- codes
 code_is_short : (n node : ℕ) → node < n → length_of (ring n) node ≤ INSTRUCTIONS

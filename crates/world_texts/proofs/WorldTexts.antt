@@ -13,7 +13,7 @@ use Rattle.pals_runs.specs.declared.events_and_faults.Event.{Event}
 use Rattle.pals_runs.specs.declared.events_and_faults.Event.TheVariants as event
 use Rattle.pals_runs.specs.declared.events_and_faults.EventFault.{EventFault}
 use Rattle.pals_runs.specs.declared.events_and_faults.EventFault.TheVariants.{BadName}
-use Rattle.bus_machine.specs.Runs.{Run}
+use Rattle.bus_machine.specs.RunParameters.{Run}
 use Rattle.bus_machine.specs.Machine.{Start, Step, Finish, Send, Arrive, Drop, Repeat}
 use Rattle.bus_machine.specs.proof.AgreementLaws.{IsRunOf}
 use Rattle.pals_bus.specs.BusValues.{BusValue}
@@ -27,7 +27,7 @@ use Rattle.loose_world.specs.LooseRuns.{InTurn, told_by}
 use Rattle.loose_world.specs.proof.BusAfterEvents.{Undergoes}
 use Rattle.loose_world.proofs.EventsAndLines.{turns_next, told_more}
 use Rattle.loose_world.proofs.WorldTexts.{world_is_told}
-use Rattle.timed_world.specs.proof.WorldValues.{WorldValue, world_of, opening_value, Moves}
+use Rattle.timed_world.specs.proof.WorldValuesAndMoves.{WorldValue, world_of, opening_value, Moves}
 use Rattle.timed_world.specs.proof.EventLists.{EndsAt}
 use Rattle.timed_world.proofs.EventLists.{leads_none}
 use Rattle.world_texts.specs.WorldTexts.{IsToldWorld, IsFirstFault}

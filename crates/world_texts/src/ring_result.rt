@@ -4,7 +4,7 @@ ghost use Rattle.pals_base.specs.declared.limits.TheConstants.{COMPONENTS, ROUND
 ghost use Rattle.pals_runs.specs.declared.events_and_faults.EventFault.TheVariants as fault;
 ghost use Rattle.pals_bus.specs.proof.StepCodesOfNodes.{AreCodes};
 ghost use Rattle.run_laws.specs.EventLists.{IsWithin};
-ghost use Rattle.timed_world.specs.proof.WorldValues.{world_of};
+ghost use Rattle.timed_world.specs.proof.WorldValuesAndMoves.{world_of};
 ghost use Rattle.timed_world.specs.proof.EventLists.{Leads};
 ghost use Rattle.world_gen.specs.Rings.{ring, ring_number, ring_sum};
 ghost use Rattle.world_texts.specs.RingResultLines.{ring_text, number_in, IsDoneRing};

@@ -8,7 +8,7 @@ use Rattle.aadl_uses.specs.PortsOfConnections.{connection_ports_at}
 use Rattle.aadl_uses.specs.proof.IncomingConnections.{first_into_at}
 use Rattle.aadl_chains.specs.proof.PortsJoinedInside.{ReachesIn}
 use Rattle.aadl_chains.specs.Chains.{Port}
-use Rattle.aadl_chains.specs.proof.Walks.{Crossing, at_root, crosses, walk_back, IsThreadPort}
+use Rattle.aadl_chains.specs.proof.UpwardWalks.{Crossing, at_root, crosses, walk_back, IsThreadPort}
 use Rattle.aadl_tree.specs.declared.declarations.Direction.TheVariants as directions
 
 -- connections lead to it from an own in port of the implementation

@@ -8,7 +8,7 @@ use Rattle.aadl_chains.specs.declared.chain_tracing.ChainRoute.{ChainRoute}
 use Rattle.aadl_chains.specs.declared.chain_tracing.ConnectionInto.{ConnectionInto}
 use Rattle.aadl_chains.specs.declared.chain_tracing.CrossConnection.{CrossConnection}
 use Rattle.aadl_chains.specs.declared.chain_tracing.WalkResult.{WalkResult}
-use Rattle.aadl_chains.specs.proof.Walks.{Crossing, WalkEnd, nowhere, at_root, crosses}
+use Rattle.aadl_chains.specs.proof.UpwardWalks.{Crossing, WalkEnd, nowhere, at_root, crosses}
 use Rattle.aadl_chains.specs.declared.chain_tracing.ChainStart.TheVariants as begins
 use Rattle.aadl_chains.specs.declared.chain_tracing.WalkResult.TheVariants as ends
 

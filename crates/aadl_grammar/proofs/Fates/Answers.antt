@@ -1,7 +1,7 @@
 -- The machine answers what the grammar says, whichever it is.
 use Rattle.std.proofs.Common.{◌≡◌, ◌↔◌, ℕ, ap, List}
 use Rattle.aadl_tree.specs.Terminals.{PlainTerminal, PlacedTerminal, kinds_of}
-use Rattle.aadl_tree.specs.LanguagesAndNesting.{IsShallow}
+use Rattle.aadl_tree.specs.PackagesBehavioursAndNesting.{IsShallow}
 use Rattle.aadl_tree.specs.TerminalFaults.{FailsAt, DeepAt}
 use Rattle.aadl_grammar.specs.proof.StackMachine.{Fate, finished, syntax_at, deep_at, fate}
 use Rattle.aadl_grammar.proofs.Fates.FateRuns.{Tells, tells}

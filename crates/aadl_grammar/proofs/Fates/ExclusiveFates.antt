@@ -3,7 +3,7 @@
 use Rattle.std.proofs.Common.{◌≡◌, ℕ, ◌∙◌, sym, ap, subst, refl, List, [], ◌∷◌, ◌++◌, arith, append_assoc}
 use Rattle.std.proofs.lemmas.List.{append-nil, map-append}
 use Rattle.aadl_tree.specs.Terminals.{PlainTerminal, PlacedTerminal, kinds_of}
-use Rattle.aadl_tree.specs.LanguagesAndNesting.{nesting, IsShallow}
+use Rattle.aadl_tree.specs.PackagesBehavioursAndNesting.{nesting, IsShallow}
 use Rattle.aadl_tree.specs.TerminalFaults.{Begins, IsStuck, place, FailsAt, DeepAt}
 use Rattle.aadl_grammar.proofs.HeadsAndTails.{heads, tails}
 

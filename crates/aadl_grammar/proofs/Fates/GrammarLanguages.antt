@@ -5,7 +5,7 @@ use Rattle.aadl_tree.specs.declared.nesting_limit.TheConstants.{GREATEST_NESTING
 use Rattle.aadl_tree.specs.Terminals.{PlainTerminal}
 use Rattle.aadl_tree.specs.Annexes.{AnnexTree}
 use Rattle.aadl_tree.specs.Declarations.{PackageTree}
-use Rattle.aadl_tree.specs.LanguagesAndNesting.{IsPackage, IsBehaviour}
+use Rattle.aadl_tree.specs.PackagesBehavioursAndNesting.{IsPackage, IsBehaviour}
 use Rattle.aadl_grammar.specs.proof.GrammarSymbols as s
 use Rattle.aadl_grammar.specs.proof.StackMachine.{depth, whole_package, annex_body}
 use Rattle.aadl_grammar.proofs.DerivationTrees.ForbiddenFollowers.{first_of, forbidden_after}

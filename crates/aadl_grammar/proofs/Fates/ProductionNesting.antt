@@ -4,7 +4,7 @@ use Rattle.std.proofs.Common.{◌≡◌, ℕ, ◌+◌, ◌-◌, Bool, true, fals
 use Rattle.aadl_tree.specs.declared.mark.Mark.{Mark}
 use Rattle.aadl_tree.specs.declared.mark.Mark.TheVariants as k
 use Rattle.aadl_tree.specs.Terminals.{PlainTerminal, word, whole, real, quoted, unread, mark, other}
-use Rattle.aadl_tree.specs.LanguagesAndNesting.{opened, is_end}
+use Rattle.aadl_tree.specs.PackagesBehavioursAndNesting.{opened, is_end}
 use Rattle.aadl_grammar.specs.proof.GrammarSymbols.{Class, the, Symbol, Row}
 use Rattle.aadl_grammar.specs.proof.GrammarSymbols as s
 use Rattle.aadl_grammar.specs.proof.ParseTable.{rows, can_omit}

@@ -4,7 +4,7 @@ use Rattle.std.proofs.Common.{None, option_and_then, unwrap_or}
 use Rattle.std.proofs.lemmas.Option.{same_Some}
 use Rattle.aadl_tree.specs.declared.nesting_limit.TheConstants.{GREATEST_NESTING}
 use Rattle.aadl_tree.specs.Terminals.{PlainTerminal}
-use Rattle.aadl_tree.specs.LanguagesAndNesting.{is_end, nesting_from}
+use Rattle.aadl_tree.specs.PackagesBehavioursAndNesting.{is_end, nesting_from}
 use Rattle.aadl_grammar.specs.proof.StackMachine.{Stack, stack_after, depth}
 use Rattle.aadl_grammar.proofs.DerivationTrees.ForbiddenFollowerMembership.{Clear}
 use Rattle.aadl_grammar.proofs.DerivationTrees.DerivationsAndMachineSteps.{Derives, steps, step_derives}

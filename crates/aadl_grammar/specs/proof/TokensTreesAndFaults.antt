@@ -3,7 +3,7 @@ use Rattle.std.specs.Prelude.{ℕ, ◌≢◌, List}
 use Rattle.aadl_lex.specs.declared.token.Token.{Token}
 use Rattle.aadl_lex.specs.declared.fault.LexFault.{LexFault}
 use Rattle.aadl_lex.specs.declared.fault.LexFault.TheVariants.{Memory}
-use Rattle.aadl_lex.specs.Tokens.{AreTokensOf, IsFaultOf}
+use Rattle.aadl_lex.specs.TokensAndFirstFaults.{AreTokensOf, IsFaultOf}
 use Rattle.aadl_tree.specs.Declarations.{PackageTree}
 use Rattle.aadl_tree.specs.TextTreesAndFaults.{IsTreeOf, StopsAt, NestsAt}
 

@@ -1,7 +1,7 @@
 use Rattle.std.proofs.Common.{length, ◌-◌, ◌≤◌, ◌++◌, List}
 use Rattle.aadl_lex.specs.declared.fault.LexFault.{LexFault}
 use Rattle.aadl_lex.specs.declared.token.Token.{Token}
-use Rattle.aadl_lex.specs.Tokens.{Lexes, Adds, Faults}
+use Rattle.aadl_lex.specs.TokensAndFirstFaults.{Lexes, Adds, Faults}
 use Rattle.aadl_lex.proofs.+read.Given as goal
 
 -- a body is shorter than the text round it

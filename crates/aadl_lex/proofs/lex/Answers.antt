@@ -3,7 +3,7 @@ use Rattle.std.proofs.lemmas.Result.{err_from_is_err_and}
 use Rattle.aadl_lex.specs.declared.rules.Reading.TheVariants.{Outside}
 use Rattle.aadl_lex.specs.declared.token.Token.{Token}
 use Rattle.aadl_lex.specs.declared.fault.LexFault.TheVariants.{NotUtf8}
-use Rattle.aadl_lex.specs.Tokens.{Lexes, Adds, IsFaultOf, not_utf8, not_lexed}
+use Rattle.aadl_lex.specs.TokensAndFirstFaults.{Lexes, Adds, IsFaultOf, not_utf8, not_lexed}
 use Rattle.aadl_lex.proofs.lex.Goals as goal
 
 pub returns-in-Err-clause-fault : goal.returns-in-Err-clause-fault

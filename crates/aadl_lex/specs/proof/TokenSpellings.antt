@@ -12,7 +12,7 @@ use Rattle.aadl_lex.specs.declared.rules.Reading.{Reading}
 use Rattle.aadl_lex.specs.declared.rules.Reading.TheVariants.{Outside, AfterName, Inside}
 use Rattle.aadl_lex.specs.Rules.{is_word, is_in_string, whole_len, decimal, most, body_len, symbols_of_three}
 use Rattle.aadl_lex.specs.Rules.{symbols_of_two, symbols_of_one, after}
-use Rattle.aadl_lex.specs.Tokens.{bytes_of, AreTokensOf}
+use Rattle.aadl_lex.specs.TokensAndFirstFaults.{bytes_of, AreTokensOf}
 
 -- digits, with a `_` only before a digit, that say this number
 pub record IsWhole (number : ℤ) (b : List ℕ) : Type 0 where

@@ -2,7 +2,7 @@
 use Rattle.std.specs.Prelude.{ℕ, true, List, [], ◌∷◌}
 use Rattle.aadl_lex.specs.declared.token.Token.{Token}
 use Rattle.aadl_tree.specs.Terminals.{spots_from}
-use Rattle.aadl_tree.specs.LanguagesAndNesting.{IsBehaviour}
+use Rattle.aadl_tree.specs.PackagesBehavioursAndNesting.{IsBehaviour}
 use Rattle.aadl_tree.specs.TerminalFaults.{FailsAt, DeepAt}
 use Rattle.aadl_tree.specs.TextTreesAndFaults.{outer_nesting}
 

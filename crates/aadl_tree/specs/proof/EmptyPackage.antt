@@ -2,7 +2,7 @@
 use Rattle.std.specs.Prelude.{ℕ, codes, List, [], ◌∷◌, ◌++◌}
 use Rattle.aadl_lex.specs.declared.token.Token.{Token}
 use Rattle.aadl_lex.specs.declared.token.TokenKind.TheVariants.{Word, Symbol}
-use Rattle.aadl_lex.specs.Tokens.{token}
+use Rattle.aadl_lex.specs.TokensAndFirstFaults.{token}
 use Rattle.aadl_tree.specs.Names.{Name}
 use Rattle.aadl_tree.specs.Declarations.{PackageTree}
 

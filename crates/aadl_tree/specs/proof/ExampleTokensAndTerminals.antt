@@ -1,7 +1,7 @@
 -- Examples of terminals: those of an annex, and those of a choice.
 use Rattle.std.specs.Prelude.{ℕ, pos, codes, List, [], ◌∷◌}
 use Rattle.aadl_lex.specs.declared.token.Token.{Token}
-use Rattle.aadl_lex.specs.Tokens.{token}
+use Rattle.aadl_lex.specs.TokensAndFirstFaults.{token}
 use Rattle.aadl_tree.specs.Terminals.{PlainTerminal, word, whole, mark}
 use Rattle.aadl_lex.specs.declared.token.TokenKind.TheVariants as class
 use Rattle.aadl_tree.specs.declared.mark.Mark.TheVariants as k

@@ -6,7 +6,7 @@ use Rattle.pals_model.specs.declared.design.Link.{Link}
 use Rattle.pals_model.specs.declared.design.Tap.{Tap}
 use Rattle.pals_model.specs.declared.design.DesignParts.{DesignParts}
 use Rattle.pals_model.specs.Composition.{state, msg, part}
-use Rattle.pals_model.specs.PortKinds.{out_kind}
+use Rattle.pals_model.specs.PortKindsAndRates.{out_kind}
 use Rattle.pals_model.specs.proof.ValuesFitKinds.{FrameFits, TupleFits, link_kind, EnvFits}
 use Rattle.pals_model.specs.proof.CompositionLaws.Kinds.{PartFits}
 use Rattle.pals_runs.specs.declared.commands.Command.{Command}

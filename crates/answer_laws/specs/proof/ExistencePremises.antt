@@ -1,7 +1,7 @@
 -- The premises from which each bundle has an answer: the laws of lower crates.
 use Rattle.std.specs.Prelude.{◌⊎◌, ◌≢◌, ℕ, List, []}
 use Rattle.aadl_tree.specs.Declarations.{PackageTree}
-use Rattle.aadl_tree.specs.proof.GivenTrees.{IsGiven}
+use Rattle.aadl_tree.specs.proof.TreesOfSomeText.{IsGiven}
 use Rattle.aadl_names.specs.declared.fault.PackageFault.{PackageFault}
 use Rattle.aadl_names.specs.declared.fault.PackageFault.TheVariants.{Memory}
 use Rattle.aadl_instance.specs.Faults.{IsFault}

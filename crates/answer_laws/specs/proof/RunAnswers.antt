@@ -9,11 +9,11 @@ use Rattle.pals_runs.specs.declared.journal.Stop.{Stop}
 use Rattle.pals_runs.specs.declared.verdicts.Verdict.TheVariants.{Sound}
 use Rattle.design_codes.specs.OverlongCodes.{AreShort}
 use Rattle.scenario_json.specs.declared.scenario.Scenario.{Scenario}
-use Rattle.bus_machine.specs.Runs.{Run}
+use Rattle.bus_machine.specs.RunParameters.{Run}
 use Rattle.run_laws.specs.TextLines.{lines_of}
 use Rattle.run_laws.specs.TraceVerdicts.{verdict}
 use Rattle.run_laws.specs.proof.TimelyRunsAndEnds.{InTime, AllPicked}
-use Rattle.run_laws.specs.StopBounds.{DelaysFit}
+use Rattle.run_laws.specs.BoundsBrokenAtStops.{DelaysFit}
 use Rattle.run_texts.specs.RunTexts.{journal_text}
 use Rattle.pals_top.specs.declared.status.TheConstants.{DONE, STOPPED, CLOCK_ENDED}
 use Rattle.pals_top.specs.AnalysisAnswers.{IsAnalysisAnswer}

@@ -1,6 +1,6 @@
 use Rattle.std.proofs.Common.{true}
 use Rattle.aadl_tree.specs.Terminals.{spots_from}
-use Rattle.aadl_tree.specs.LanguagesAndNesting.{IsBehaviour}
+use Rattle.aadl_tree.specs.PackagesBehavioursAndNesting.{IsBehaviour}
 use Rattle.aadl_tree.specs.proof.BehaviourFaultPlaces.{end_of}
 use Rattle.aadl_grammar.proofs.Fates.ExclusiveFates.{fails_once, fails_not_deep, deep_once}
 use Rattle.aadl_grammar.proofs.Fates.FateMeanings.{fails_no_text, deep_not_shallow}

@@ -4,7 +4,7 @@ use Rattle.std.specs.Prelude.{◌≤◌, List}
 use Rattle.pals_model.specs.DesignRules.{IsDesign}
 use Rattle.pals_runs.specs.declared.journal.JournalEntry.{JournalEntry}
 use Rattle.bus_machine.specs.BusStates.{BusState, opening}
-use Rattle.bus_machine.specs.Runs.{Run}
+use Rattle.bus_machine.specs.RunParameters.{Run}
 use Rattle.bus_machine.specs.Machine.{BusEvent, IsStep}
 use Rattle.bus_machine.specs.Replay.{Replays}
 use Rattle.bus_machine.specs.Agreement.{Agrees}

@@ -3,7 +3,7 @@ use Rattle.std.specs.Prelude.{slice_index_or}
 use Rattle.std.proofs.lemmas.List.{get_or_default}
 use Rattle.pals_base.specs.declared.limits.TheConstants.{INSTRUCTIONS}
 use Rattle.pals_model.specs.declared.design.Component.{Component}
-use Rattle.step_code.specs.proof.CodeMeaning.{Means}
+use Rattle.step_code.specs.proof.CodeMatchesBehaviour.{Means}
 use Rattle.step_code.specs.CodeLengths.{code_length}
 use Rattle.step_compiler.specs.LaidOutCode.{IsLaidOut}
 use Rattle.bus_machine.specs.Plans.{component_at, no_component}

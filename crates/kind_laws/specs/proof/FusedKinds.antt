@@ -3,7 +3,7 @@ use Rattle.std.specs.Prelude.{◌≡◌, ℕ, List, All, Some, slice_get}
 use Rattle.pals_model.specs.declared.design.Component.{Component}
 use Rattle.pals_model.specs.declared.design.DesignParts.{DesignParts}
 use Rattle.pals_model.specs.declared.environment.Env.{Env}
-use Rattle.pals_model.specs.PortKinds.{out_kind}
+use Rattle.pals_model.specs.PortKindsAndRates.{out_kind}
 use Rattle.pals_model.specs.DesignRules.{IsDesign}
 use Rattle.pals_model.specs.proof.ValuesFitKinds.{PortFits, PortsFit, FrameFits, EnvFits}
 use Rattle.pals_model.specs.proof.CompositionLaws.Kinds.{PartFits}

@@ -1,7 +1,7 @@
 -- What a ring of copies holds.
 use Rattle.std.specs.Prelude.{ℕ, ◌<◌, ◌≤◌, List, map, slice_index_or, All, AllPairs}
 use Rattle.pals_model.specs.declared.flight_copy.FlightCopy.{FlightCopy}
-use Rattle.link_buffers.specs.declared.ring_entries.RingEntry.{RingEntry}
+use Rattle.link_buffers.specs.declared.oldest_and_due_copies.RingEntry.{RingEntry}
 
 -- the copies alone
 abbrev pub copies_of : List RingEntry → List FlightCopy

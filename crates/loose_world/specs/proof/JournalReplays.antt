@@ -2,7 +2,7 @@
 use Rattle.std.specs.Prelude.{ℕ, false, List}
 use Rattle.step_code.specs.declared.instr.CodeParts.{CodeParts}
 use Rattle.pals_runs.specs.declared.events_and_faults.Event.{Event}
-use Rattle.bus_machine.specs.Runs.{Run}
+use Rattle.bus_machine.specs.RunParameters.{Run}
 use Rattle.bus_machine.specs.proof.AgreementLaws.{IsRunOf}
 use Rattle.pals_bus.specs.BusValues.{BusValue}
 use Rattle.pals_bus.specs.proof.OpeningNodes.{opening_bus}

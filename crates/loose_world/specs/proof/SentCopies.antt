@@ -1,7 +1,7 @@
 -- What is in flight directly behind a send: on each link from its node, a copy with the message of the round.
 use Rattle.std.specs.Prelude.{◌≡◌, ℕ, ◌+◌, Some, Contains}
 use Rattle.pals_model.specs.declared.flight_copy.FlightCopy.{FlightCopy}
-use Rattle.pals_model.specs.OutgoingLinks.{links_from}
+use Rattle.pals_model.specs.IncomingAndOutgoingLinks.{links_from}
 use Rattle.pals_model.specs.Composition.{msg}
 use Rattle.pals_model.specs.Flights.{oldest}
 use Rattle.bus_machine.specs.BusStates.{node_at, flight_at}

@@ -6,7 +6,7 @@ use Rattle.pals_model.specs.RoundTexts.{text_of, report}
 use Rattle.pals_runs.specs.declared.events_and_faults.Event.{Event}
 use Rattle.pals_runs.specs.declared.journal.Stop.{Stop}
 use Rattle.bus_machine.specs.BusStates.{BusState, node_at, finished_by_all}
-use Rattle.bus_machine.specs.Runs.{Run}
+use Rattle.bus_machine.specs.RunParameters.{Run}
 use Rattle.bus_machine.specs.Nodes.{sent_rounds}
 use Rattle.bus_machine.specs.Machine.{BusEvent, IsStep}
 use Rattle.bus_machine.specs.Agreement.{Agrees}

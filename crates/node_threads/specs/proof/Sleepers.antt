@@ -4,7 +4,7 @@ use Rattle.std.specs.Prelude.{slice_index_or, slice_set}
 use Rattle.pals_base.specs.declared.limits.TheConstants.{COMPONENTS}
 use Rattle.pals_runs.specs.declared.phase.Phase.TheVariants.{Waiting}
 use Rattle.bus_machine.specs.BusStates.{BusState, node_at}
-use Rattle.bus_machine.specs.Runs.{Run}
+use Rattle.bus_machine.specs.RunParameters.{Run}
 use Rattle.run_laws.specs.Runs.{target_of}
 use Rattle.node_threads.specs.declared.wake_list.WakeList.{WakeList}
 use Rattle.node_threads.specs.declared.wake_list.Sleeper.{Sleeper}

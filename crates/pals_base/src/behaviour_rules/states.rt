@@ -3,7 +3,7 @@ ghost use Rattle.std.specs.Prelude.{◌≡◌, ◌||◌, ◌+◌, IfOk, length, 
 ghost use Rattle.std.specs.List.{list_all};
 ghost use Rattle.pals_base.specs.SingleStep.{completes, is_complete};
 ghost use Rattle.pals_base.specs.UpwardNumbers.{upwards};
-ghost use Rattle.pals_base.specs.proof.SettledStates.{settles, marked, settles_next};
+ghost use Rattle.pals_base.specs.proof.CycleSearchMarks.{settles, marked, settles_next};
 ghost use Rattle.pals_base.specs.BehaviourRules.{dispatch_count, ends_unguarded, has_ways};
 
 use crate::basic_types::NoMemory;
@@ -120,7 +120,7 @@ fn settled_next(
 
 /// For each state, whether each way on from it comes to a complete one by at most as many
 /// transitions as there are states.
-#[tactic(auto, using(crate::proofs::SettledStates::settles_more))]
+#[tactic(auto, using(crate::proofs::CycleSearchMarks::settles_more))]
 pub fn settled_states(alloc: Global, parts: &BehaviourParts) -> Result<Vec<bool>, NoMemory>
     ensures { IfOk result (λ marks. marks.items ≡ map (settles (length parts.now.states) parts.now) (upwards 0 (length parts.now.states))) }
 {

@@ -1,4 +1,5 @@
-//! Laws of what each behaviour keeps.
+//! Laws of one step: it starts and ends in a frame of its behaviour's shape, and its ways are
+//! short.
 ghost use Rattle.std.specs.Prelude.{◌≡◌, ◌<◌, ℕ, List, length};
 ghost use Rattle.pals_base.specs.declared.frames.Frame.{Frame};
 ghost use Rattle.pals_base.specs.declared.basic_types.PortValue.{PortValue};

@@ -13,7 +13,7 @@ use Rattle.pals_node.specs.declared.refusals.StepEnd.{StepEnd}
 use Rattle.pals_node.specs.declared.refusals.FinishEnd.{FinishEnd}
 use Rattle.pals_node.specs.declared.refusals.SendEnd.{SendEnd}
 use Rattle.pals_node.specs.declared.job.Finished.{Finished}
-use Rattle.pals_node.specs.proof.NodeValues.{JobValue}
+use Rattle.pals_node.specs.proof.NodeAndJobValues.{JobValue}
 use Rattle.pals_node.specs.proof.Answers.{is_early, Starts, StartEnds, Steps, StepEnds, FinishesWith, NoneRuns}
 use Rattle.pals_node.specs.proof.Answers.{SendEnds}
 use Rattle.pals_bus.specs.declared.bus_error.BusError.{BusError}

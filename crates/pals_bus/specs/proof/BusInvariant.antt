@@ -9,13 +9,13 @@ use Rattle.pals_model.specs.declared.flight_copy.FlightCopy.{FlightCopy}
 use Rattle.pals_model.specs.Delays.{AreDelays}
 use Rattle.pals_model.specs.DesignRules.{IsDesign}
 use Rattle.link_buffers.specs.proof.Flights.{FlightState}
-use Rattle.step_code.specs.proof.CodeMeaning.{Means}
+use Rattle.step_code.specs.proof.CodeMatchesBehaviour.{Means}
 use Rattle.bus_machine.specs.Plans.{component_at, plan_of}
 use Rattle.bus_machine.specs.NodeEvents.{running_step}
 use Rattle.bus_machine.specs.BusStates.{BusState}
-use Rattle.bus_machine.specs.Runs.{Run}
+use Rattle.bus_machine.specs.RunParameters.{Run}
 use Rattle.bus_machine.specs.Replay.{Replays}
-use Rattle.pals_node.specs.proof.NodeValues.{NodeValue}
+use Rattle.pals_node.specs.proof.NodeAndJobValues.{NodeValue}
 use Rattle.pals_bus.specs.declared.bus_fields.BusFields.{BusFields}
 use Rattle.pals_bus.specs.BusValues.{BusValue}
 use Rattle.pals_bus.specs.proof.StepCodesOfNodes.{codes_in}

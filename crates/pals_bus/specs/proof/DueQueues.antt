@@ -11,7 +11,7 @@ use Rattle.link_buffers.specs.declared.due_queue.DueEntry.{DueEntry}
 use Rattle.link_buffers.specs.proof.DueQueues.{QueueState, queue_of, is_entry, with_entry, without_entry, is_due_at}
 use Rattle.link_buffers.specs.proof.Flights.{FlightState}
 use Rattle.bus_machine.specs.Plans.{no_link, link_at}
-use Rattle.pals_node.specs.proof.NodeValues.{NodeValue}
+use Rattle.pals_node.specs.proof.NodeAndJobValues.{NodeValue}
 use Rattle.pals_bus.specs.proof.OutOfRangeDefaults.{no_node_value, no_flight, no_queue}
 use Rattle.bus_machine.specs.BusStates.{flight_at}
 use Rattle.pals_bus.specs.BusValues.{BusValue}

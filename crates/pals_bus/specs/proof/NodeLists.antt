@@ -1,7 +1,7 @@
 -- The nodes of a run, in order, and a node of a bus as contracts see it.
 use Rattle.std.specs.Prelude.{ℕ, List, Option, option_map, slice_index_or}
 use Rattle.bus_machine.specs.ActionsAndTargets.{target, action_of}
-use Rattle.pals_node.specs.proof.NodeValues.{NodeValue, program_of}
+use Rattle.pals_node.specs.proof.NodeAndJobValues.{NodeValue, program_of}
 use Rattle.pals_bus.specs.proof.OutOfRangeDefaults.{no_node_value}
 use Rattle.bus_machine.specs.BusStates.{node_at}
 use Rattle.pals_bus.specs.BusValues.{BusValue}

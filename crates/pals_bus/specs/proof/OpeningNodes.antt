@@ -2,11 +2,11 @@
 use Rattle.std.specs.Prelude.{◌≡◌, ℕ, ◌<◌, List, length, slice_index_or, Bool, false, []}
 use Rattle.pals_model.specs.declared.design.DesignParts.{DesignParts}
 use Rattle.step_code.specs.declared.instr.CodeParts.{CodeParts}
-use Rattle.pals_node.specs.proof.NodeValues.{NodeValue, program_of, opening_value}
+use Rattle.pals_node.specs.proof.NodeAndJobValues.{NodeValue, program_of, opening_value}
 use Rattle.pals_bus.specs.proof.StepCodesOfNodes.{code_at}
 use Rattle.pals_bus.specs.proof.OutOfRangeDefaults.{no_node_value}
 use Rattle.bus_machine.specs.BusStates.{opening}
-use Rattle.bus_machine.specs.Runs.{Run}
+use Rattle.bus_machine.specs.RunParameters.{Run}
 use Rattle.pals_bus.specs.BusValues.{BusValue}
 
 -- each has the plan of its component and its code

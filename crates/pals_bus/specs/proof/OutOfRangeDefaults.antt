@@ -6,7 +6,7 @@ use Rattle.link_buffers.specs.proof.DueQueues.{QueueState, queue_of}
 use Rattle.bus_machine.specs.declared.plan.Plan.{Plan}
 use Rattle.bus_machine.specs.Plans.{no_behaviour}
 use Rattle.bus_machine.specs.BusStates.{no_node}
-use Rattle.pals_node.specs.proof.NodeValues.{NodeValue}
+use Rattle.pals_node.specs.proof.NodeAndJobValues.{NodeValue}
 use Rattle.pals_bus.specs.proof.StepCodesOfNodes.{no_code}
 
 abbrev pub no_plan : Plan

@@ -1,10 +1,10 @@
 -- The step codes of the nodes of a bus.
 use Rattle.std.specs.Prelude.{◌≡◌, ℕ, ◌<◌, List, [], length, map, slice_index_or}
 use Rattle.step_code.specs.declared.instr.CodeParts.{CodeParts}
-use Rattle.step_code.specs.proof.CodeMeaning.{Means}
+use Rattle.step_code.specs.proof.CodeMatchesBehaviour.{Means}
 use Rattle.pals_model.specs.declared.design.DesignParts.{DesignParts}
 use Rattle.bus_machine.specs.Plans.{component_at}
-use Rattle.pals_node.specs.proof.NodeValues.{NodeValue}
+use Rattle.pals_node.specs.proof.NodeAndJobValues.{NodeValue}
 
 abbrev pub no_code : CodeParts
 no_code = record { instrs = []; entries = []; vars = 0; loops = 0; ins = 0; outs = 0 }

@@ -2,7 +2,7 @@
 pub mod Kinds
 pub mod TextLines
 pub mod Names
-pub mod RootInputs
+pub mod RootInputsAndFeeds
 pub mod Shapes
 pub mod Sources
 pub mod PartialRounds

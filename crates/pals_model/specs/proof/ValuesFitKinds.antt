@@ -12,7 +12,7 @@ use Rattle.pals_model.specs.declared.design.Link.{Link}
 use Rattle.pals_model.specs.declared.design.DesignParts.{DesignParts}
 use Rattle.pals_model.specs.declared.environment.Env.{Env}
 use Rattle.pals_model.specs.ComponentInputs.{root_inputs, values_at}
-use Rattle.pals_model.specs.PortKinds.{out_kind, root_kind}
+use Rattle.pals_model.specs.PortKindsAndRates.{out_kind, root_kind}
 
 -- ---- values
 abbrev pub Fits : Kind → ℤ → Type 0

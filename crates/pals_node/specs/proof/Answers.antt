@@ -11,7 +11,7 @@ use Rattle.pals_node.specs.declared.refusals.StepEnd.{StepEnd}
 use Rattle.pals_node.specs.declared.refusals.SendEnd.{SendEnd}
 use Rattle.pals_node.specs.declared.job.Finished.{Finished}
 use Rattle.pals_node.specs.declared.job.Finished.TheVariants.{Used, Redone}
-use Rattle.pals_node.specs.proof.NodeValues.{NodeValue, JobValue, with_state, job_at}
+use Rattle.pals_node.specs.proof.NodeAndJobValues.{NodeValue, JobValue, with_state, job_at}
 use Rattle.pals_node.specs.declared.refusals.StartEnd.TheVariants as start
 use Rattle.pals_node.specs.declared.refusals.StepEnd.TheVariants as step
 use Rattle.pals_node.specs.declared.refusals.SendEnd.TheVariants as send

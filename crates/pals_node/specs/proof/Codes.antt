@@ -14,7 +14,7 @@ use Rattle.pals_base.specs.declared.basic_types.PortValue.{PortValue}
 use Rattle.pals_model.specs.declared.part.Part.{Part}
 use Rattle.pals_runs.specs.declared.phase.Phase.{Phase}
 use Rattle.bus_machine.specs.Nodes.{NodeState}
-use Rattle.pals_node.specs.proof.NodeValues.{Program, NodeValue}
+use Rattle.pals_node.specs.proof.NodeAndJobValues.{Program, NodeValue}
 
 abbrev pub program_code : Coded Program
 program_code =

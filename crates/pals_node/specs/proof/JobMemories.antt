@@ -5,7 +5,7 @@ use Rattle.pals_base.specs.declared.frames.Frame.{Frame}
 use Rattle.step_code.specs.declared.instr.CodeParts.{CodeParts}
 use Rattle.step_vm.specs.proof.RoomCapacity.{IsRoomOf}
 use Rattle.pals_node.specs.declared.job_memory.Memory.{Memory}
-use Rattle.pals_node.specs.proof.NodeValues.{JobValue}
+use Rattle.pals_node.specs.proof.NodeAndJobValues.{JobValue}
 
 -- a frame has a code's numbers of variables and in ports
 pub record HasSizes (code : CodeParts) (frame : Frame) : Type 0 where

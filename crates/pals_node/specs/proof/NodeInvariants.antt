@@ -11,15 +11,15 @@ use Rattle.pals_model.specs.declared.part.Part.{Part}
 use Rattle.pals_runs.specs.declared.phase.Phase.{Phase}
 use Rattle.pals_runs.specs.declared.phase.Phase.TheVariants.{Waiting, Running, Between, Holding, Done}
 use Rattle.step_code.specs.declared.instr.CodeParts.{CodeParts}
-use Rattle.step_code.specs.proof.CodeMeaning.{Means}
+use Rattle.step_code.specs.proof.CodeMatchesBehaviour.{Means}
 use Rattle.step_code.specs.proof.CodeRuns.{FitsCode}
 use Rattle.step_vm.specs.proof.RoomCapacity.{Capacity, IsRoomOf}
 use Rattle.bus_machine.specs.declared.plan.Plan.{Plan}
 use Rattle.pals_base.specs.Tuples.{with_places}
 use Rattle.bus_machine.specs.Nodes.{NodeState}
 use Rattle.bus_machine.specs.NodeEvents.{finished, finished_with}
-use Rattle.pals_node.specs.declared.node_fields.NodeFields.{NodeFields}
-use Rattle.pals_node.specs.proof.NodeValues.{Program, NodeValue, with_state}
+use Rattle.pals_node.specs.declared.node_fields_and_events.NodeFields.{NodeFields}
+use Rattle.pals_node.specs.proof.NodeAndJobValues.{Program, NodeValue, with_state}
 use Rattle.pals_node.specs.proof.JobMemories.{HasMemory}
 
 -- the numbers of a plan are in range, and its ports are the behaviour's

@@ -4,9 +4,9 @@ use Rattle.pals_base.specs.declared.basic_types.PortValue.{PortValue}
 use Rattle.bus_machine.specs.Nodes.{vectors_of}
 use Rattle.pals_base.specs.declared.frames.Frame.{Frame}
 use Rattle.pals_runs.specs.declared.phase.Phase.TheVariants.{Running}
-use Rattle.pals_node.specs.declared.node_fields.NodeFields.{NodeFields}
-use Rattle.pals_node.specs.declared.node_fields.RoundRoom.{RoundRoom}
-use Rattle.pals_node.specs.proof.NodeValues.{Program, JobValue, job_value}
+use Rattle.pals_node.specs.declared.node_fields_and_events.NodeFields.{NodeFields}
+use Rattle.pals_node.specs.declared.node_fields_and_events.RoundRoom.{RoundRoom}
+use Rattle.pals_node.specs.proof.NodeAndJobValues.{Program, JobValue, job_value}
 use Rattle.pals_base.specs.declared.basic_types.PortValue.TheVariants.{Absent}
 use Rattle.pals_base.specs.SingleStep.{initial}
 use Rattle.pals_model.specs.declared.part.Part.{Part}

@@ -15,7 +15,7 @@ use Rattle.pals_model.specs.declared.design.DesignParts.{DesignParts}
 use Rattle.pals_model.specs.declared.environment.Env.{Env}
 use Rattle.pals_model.specs.declared.port_sources.PortSource.{PortSource}
 use Rattle.pals_model.specs.ComponentInputs.{sources_of, brought_tuple, values_at}
-use Rattle.pals_model.specs.PortKinds.{rate_of}
+use Rattle.pals_model.specs.PortKindsAndRates.{rate_of}
 use Rattle.pals_model.specs.Composition.{Configuration, opening, no_frame}
 use Rattle.pals_runs.specs.declared.plant_pairs.Pair.{Pair}
 use Rattle.plant_fuse.specs.FusedComposition.{is_to_plant, is_to_controller, Inputs, inputs_to}

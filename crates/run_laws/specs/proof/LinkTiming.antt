@@ -12,7 +12,7 @@ use Rattle.pals_runs.specs.declared.journal.JournalEntry.{JournalEntry}
 use Rattle.bus_machine.specs.NodeEvents.{slot_at}
 use Rattle.bus_machine.specs.BusStates.{BusState, node_at, flight_at}
 use Rattle.bus_machine.specs.Plans.{link_at}
-use Rattle.bus_machine.specs.Runs.{Run}
+use Rattle.bus_machine.specs.RunParameters.{Run}
 use Rattle.run_laws.specs.JournalReadings.{starts, sends, latest}
 use Rattle.run_laws.specs.proof.RunQuantifiers.{InRuns}
 use Rattle.run_laws.specs.NodeLinkQuantifiers.{EachLink}

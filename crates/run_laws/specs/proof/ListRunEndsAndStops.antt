@@ -7,7 +7,7 @@ use Rattle.bus_machine.specs.ActionsAndTargets.{target}
 use Rattle.run_laws.specs.Runs.{HasEnded}
 use Rattle.run_laws.specs.proof.RunQuantifiers.{InListRuns}
 use Rattle.run_laws.specs.NodeLinkQuantifiers.{EachNode, EachLink}
-use Rattle.run_laws.specs.TimelyRounds.{IsTimely}
+use Rattle.run_laws.specs.TimelyMessages.{IsTimely}
 use Rattle.run_laws.specs.ListRunEndsAndStops.{AllOver, IsOver, PicksAll, PicksEndAt, ListStop}
 
 -- where all nodes have, each round of each link is in time

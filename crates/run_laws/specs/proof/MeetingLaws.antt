@@ -2,7 +2,7 @@
 use Rattle.std.specs.Prelude.{◌≡◌, ℕ, [], None, IfSome}
 use Rattle.run_laws.specs.proof.RunQuantifiers.{InMeetings}
 use Rattle.run_laws.specs.Meetings.{ShowTargets, AllDone, IsLate, MeetingStop}
-use Rattle.run_laws.specs.StopBounds.{DelaysFit}
+use Rattle.run_laws.specs.BoundsBrokenAtStops.{DelaysFit}
 
 abbrev pub MeetingsShowTargets : Type 0
 MeetingsShowTargets = InMeetings (λ run journal s. ShowTargets run [] journal)

@@ -11,7 +11,7 @@ use Rattle.pals_runs.specs.declared.journal.JournalEntry.{JournalEntry}
 use Rattle.bus_machine.specs.declared.plan.Plan.{Plan}
 use Rattle.bus_machine.specs.Plans.{plan_of}
 use Rattle.bus_machine.specs.BusStates.{BusState, node_at}
-use Rattle.bus_machine.specs.Runs.{Run}
+use Rattle.bus_machine.specs.RunParameters.{Run}
 use Rattle.run_laws.specs.JournalReadings.{starts, sends}
 use Rattle.run_laws.specs.proof.LinkTiming.{due_of}
 use Rattle.pals_clock.specs.declared.clock.Clocks.{Clocks}

@@ -7,7 +7,7 @@ use Rattle.pals_model.specs.declared.design.Component.{Component}
 use Rattle.pals_runs.specs.declared.phase.Phase.TheVariants.{Done}
 use Rattle.pals_runs.specs.declared.journal.JournalEntry.{JournalEntry}
 use Rattle.bus_machine.specs.BusStates.{BusState, node_at}
-use Rattle.bus_machine.specs.Runs.{Run}
+use Rattle.bus_machine.specs.RunParameters.{Run}
 use Rattle.bus_machine.specs.proof.AgreementLaws.{IsRunOf}
 use Rattle.run_laws.specs.Runs.{lists_in, HasEnded, HaveFreshClocks, Runs}
 use Rattle.run_laws.specs.proof.RunQuantifiers.{InRuns, InListRuns}

@@ -9,15 +9,15 @@ use Rattle.pals_runs.specs.declared.journal.JournalEntry.{JournalEntry}
 use Rattle.bus_machine.specs.proof.AgreementLaws.{IsRunOf}
 use Rattle.bus_machine.specs.Plans.{plan_of, link_at}
 use Rattle.bus_machine.specs.BusStates.{BusState}
-use Rattle.bus_machine.specs.Runs.{Run}
+use Rattle.bus_machine.specs.RunParameters.{Run}
 use Rattle.bus_machine.specs.ActionsAndTargets.{target}
 use Rattle.run_laws.specs.proof.RunQuantifiers.{InRuns}
 use Rattle.run_laws.specs.NodeLinkQuantifiers.{EachNode, EachLink}
-use Rattle.run_laws.specs.TimelyRounds.{IsTimely}
+use Rattle.run_laws.specs.TimelyMessages.{IsTimely}
 use Rattle.run_laws.specs.ListRunEndsAndStops.{AllAtEnd, PicksAll}
 use Rattle.run_laws.specs.proof.RunTermination.{IsFirstEnded}
 use Rattle.run_laws.specs.Meetings.{AllDone, IsLate}
-use Rattle.run_laws.specs.StopBounds.{DelaysFit}
+use Rattle.run_laws.specs.BoundsBrokenAtStops.{DelaysFit}
 use Rattle.run_laws.specs.ListPicks.{IsPickFor}
 use Rattle.run_laws.specs.Runs.{Runs, lists_in}
 use Rattle.bus_machine.specs.declared.node_action.NodeAction.TheVariants as action

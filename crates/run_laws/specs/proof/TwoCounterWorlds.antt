@@ -5,7 +5,7 @@ use Rattle.pals_model.specs.ComponentInputs.{no_env}
 use Rattle.pals_runs.specs.declared.events_and_faults.Event.{Event}
 use Rattle.pals_runs.specs.declared.events_and_faults.Event.TheVariants.{Pass, Start, Finish, Send, Arrive}
 use Rattle.pals_runs.specs.declared.events_and_faults.EventFault.{EventFault}
-use Rattle.bus_machine.specs.Runs.{Run}
+use Rattle.bus_machine.specs.RunParameters.{Run}
 use Rattle.run_laws.specs.Worlds.{World, world_run, opening_world, world_after}
 use Rattle.run_laws.specs.EventFaults.{fault_of}
 use Rattle.bus_machine.specs.WorldTexts.{world_lines}

@@ -4,7 +4,7 @@ use Rattle.pals_base.specs.declared.limits.TheConstants.{ROUNDS, CELLS}
 use Rattle.pals_model.specs.declared.design.DesignParts.{DesignParts}
 use Rattle.scenario_json.specs.RunCellCount.{cells_of}
 use Rattle.scenario_json.specs.proof.InputsDelaysAndClocks.{AreInputsOf, AreDelaysOf, AreClocksFor}
-use Rattle.analysis_fields.specs.proof.FaultAndProcessorValidity.{IsFaultOf, IsProcessorOf}
+use Rattle.analysis_fields.specs.proof.ReplicaFaultsAndProcessors.{IsFaultOf, IsProcessorOf}
 use Rattle.scenario_json.specs.declared.scenario.Scenario.{Scenario}
 
 pub record IsScenarioOf (design : DesignParts) (s : Scenario) : Type 0 where

@@ -1,7 +1,7 @@
 -- Paths through code as lists of places, and their weights.
 use Rattle.std.specs.Prelude.{ℕ, ◌+◌, List, [], ◌∷◌}
 use Rattle.step_code.specs.declared.instr.Instr.{Instr}
-use Rattle.step_code.specs.PathWeights.{forward_successors_at, weight_at}
+use Rattle.step_code.specs.SuccessorsAndWeights.{forward_successors_at, weight_at}
 use Rattle.step_code.specs.proof.StackHeights.{Member}
 
 -- a place and those behind it are a path: each leads to the next

@@ -4,7 +4,7 @@ use Rattle.std.specs.Prelude.{option_to_list, slice_get}
 use Rattle.step_code.specs.declared.instr.Instr.{Instr}
 use Rattle.step_code.specs.declared.instr.Instr.TheVariants.{Push, Load, Store, Port, Fresh, Neg, Abs, Not, Jump}
 use Rattle.step_code.specs.declared.instr.Instr.TheVariants.{JumpZero, LoopStart, LoopNext, Emit, End}
-use Rattle.step_code.specs.PathWeights.{forward_successors}
+use Rattle.step_code.specs.SuccessorsAndWeights.{forward_successors}
 
 -- how many operands an instruction takes
 abbrev pub takes : Instr → ℕ

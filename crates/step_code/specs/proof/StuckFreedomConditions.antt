@@ -2,7 +2,7 @@
 -- outcomes of runs that are not stuck.
 use Rattle.std.specs.Prelude.{◌≡◌, ℕ, ◌<◌, ◌≤◌, List, Option, Some, slice_get}
 use Rattle.step_code.specs.declared.instr.Instr.{Instr}
-use Rattle.step_code.specs.PathWeights.{forward_successors}
+use Rattle.step_code.specs.SuccessorsAndWeights.{forward_successors}
 use Rattle.step_code.specs.proof.CodeRuns.{CodeOutcome, Ended, Trapped, Stuck, Unfinished}
 use Rattle.step_code.specs.proof.StackHeights.{takes, after, Member, Reaches, all_successors}
 use Rattle.step_code.specs.proof.SlotsAndPorts.{FindsSlotsAndPorts}

@@ -9,7 +9,7 @@ use Rattle.step_code.specs.declared.fault.CodeFault.{CodeFault}
 use Rattle.pals_base.specs.declared.limits.TheConstants.{INSTRUCTIONS}
 use Rattle.step_code.specs.declared.loops.LoopSpan.{LoopSpan}
 use Rattle.step_code.specs.Loops.{loop_at, loops_below, around}
-use Rattle.step_code.specs.PathWeights.{jump_of, next_of}
+use Rattle.step_code.specs.SuccessorsAndWeights.{jump_of, next_of}
 use Rattle.step_code.specs.proof.CodeRuns.{has_entry}
 use Rattle.step_code.specs.proof.StackHeights.{takes, after, Member, Reaches, Given, all_successors}
 use Rattle.step_code.specs.declared.fault.CodeFault.TheVariants as fault

@@ -10,7 +10,7 @@ use Rattle.step_code.specs.proof.CodeRuns.{CodeOutcome, run}
 use Rattle.step_code.specs.InstructionsPerStep.{step_inputs}
 use Rattle.step_code.specs.declared.instr.Instr.{Instr}
 use Rattle.step_code.specs.declared.instr.CodeParts.{CodeParts}
-use Rattle.step_code.specs.PathWeights.{weight_of}
+use Rattle.step_code.specs.SuccessorsAndWeights.{weight_of}
 use Rattle.pals_base.specs.declared.basic_types.Trap.{Trap}
 use Rattle.pals_base.specs.declared.behaviour.Op.{Op}
 use Rattle.step_vm.specs.declared.instruction_effects.CodeInputs.{CodeInputs}

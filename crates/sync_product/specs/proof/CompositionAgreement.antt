@@ -1,4 +1,4 @@
--- Laws of products.
+-- The claims that a product keeps its design, stands at the composition after each round, and has the round's parts.
 use Rattle.std.specs.Prelude.{◌≡◌, ℕ, suc, map, length}
 use Rattle.pals_base.specs.UpwardNumbers.{upwards}
 use Rattle.pals_model.specs.declared.design.DesignParts.{DesignParts}

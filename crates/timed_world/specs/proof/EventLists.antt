@@ -4,7 +4,7 @@ use Rattle.pals_runs.specs.declared.events_and_faults.Event.{Event}
 use Rattle.pals_runs.specs.declared.events_and_faults.EventFault.{EventFault}
 use Rattle.run_laws.specs.EventFaults.{fault_of}
 use Rattle.run_laws.specs.EventLists.{IsWithin, world_left}
-use Rattle.timed_world.specs.proof.WorldValues.{WorldValue, world_of}
+use Rattle.timed_world.specs.proof.WorldValuesAndMoves.{WorldValue, world_of}
 use Rattle.timed_world.specs.declared.event_list.WorldEnd.{WorldEnd}
 use Rattle.timed_world.specs.declared.event_list.WorldEnd.TheVariants as end
 

@@ -6,7 +6,7 @@ use Rattle.pals_base.specs.declared.frames.Frame.{Frame}
 use Rattle.pals_base.specs.UpwardNumbers.{upwards}
 use Rattle.pals_model.specs.proof.TwoCounters.{two_counters}
 use Rattle.pals_model.specs.ComponentInputs.{no_env}
-use Rattle.pals_runs.specs.declared.vote_faults.VoteFault.{VoteFault}
+use Rattle.pals_runs.specs.declared.replica_faults.VoteFault.{VoteFault}
 use Rattle.pals_model.specs.RoundTexts.{line_end}
 use Rattle.triple_vote.specs.VotedComposition.{VotedConfiguration, voted_composition}
 use Rattle.triple_vote.specs.VotedText.{voted_report}

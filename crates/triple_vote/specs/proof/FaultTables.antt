@@ -2,7 +2,7 @@
 -- first fault there.
 use Rattle.std.specs.Prelude.{◌≡◌, ℕ, suc, ◌+◌, ◌*◌, ◌<◌, nat_lt, Bool, ◌&&◌, if◌then◌else◌, List, find, Option, None}
 use Rattle.std.specs.Prelude.{Some, slice_get, slice_set, slice_index_or}
-use Rattle.pals_runs.specs.declared.vote_faults.VoteFault.{VoteFault}
+use Rattle.pals_runs.specs.declared.replica_faults.VoteFault.{VoteFault}
 use Rattle.triple_vote.specs.VotedComposition.{is_fault}
 
 -- a link has nine places: of a replica of its source and one of its target, both numbered from 1; so the first place

@@ -11,8 +11,8 @@ use Rattle.pals_model.specs.declared.design.Tap.{Tap}
 use Rattle.pals_model.specs.declared.design.DesignParts.{DesignParts}
 use Rattle.pals_model.specs.declared.environment.Env.{Env}
 use Rattle.pals_model.specs.ComponentInputs.{values_at}
-use Rattle.pals_model.specs.PortKinds.{rate_of}
-use Rattle.pals_runs.specs.declared.vote_faults.VoteFault.{VoteFault}
+use Rattle.pals_model.specs.PortKindsAndRates.{rate_of}
+use Rattle.pals_runs.specs.declared.replica_faults.VoteFault.{VoteFault}
 use Rattle.triple_vote.specs.VotedComposition.{VotedConfiguration, voted_opening, next_voted, voted_tap_by}
 
 -- a design, which of its components have replicas, what stands after some rounds, and what the root out ports showed

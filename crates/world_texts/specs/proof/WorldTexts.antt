@@ -2,13 +2,13 @@
 use Rattle.std.specs.Prelude.{◌≡◌, ℕ, false, List, ◌++◌}
 use Rattle.pals_model.specs.RoundTexts.{text_of}
 use Rattle.pals_runs.specs.declared.events_and_faults.Event.{Event}
-use Rattle.bus_machine.specs.Runs.{Run}
+use Rattle.bus_machine.specs.RunParameters.{Run}
 use Rattle.pals_bus.specs.proof.OpeningNodes.{opening_bus}
 use Rattle.run_laws.specs.Worlds.{opening_world}
 use Rattle.loose_world.specs.LooseRuns.{InTurn}
 use Rattle.loose_world.specs.proof.BusAfterEvents.{Undergoes}
 use Rattle.timed_world.specs.declared.event_list.WorldEnd.{WorldEnd}
-use Rattle.timed_world.specs.proof.WorldValues.{WorldValue, world_of}
+use Rattle.timed_world.specs.proof.WorldValuesAndMoves.{WorldValue, world_of}
 use Rattle.timed_world.specs.proof.EventLists.{Leads, EndsAt}
 use Rattle.world_texts.specs.declared.world_text.WorldReport.{WorldReport}
 use Rattle.world_texts.specs.declared.world_text.WorldReport.TheVariants.{Whole, Refused}

@@ -1,6 +1,6 @@
 use Rattle.std.proofs.Common.{◌≡◌, ◌≤◌, length, reverse, take, None}
 use Rattle.aadl_tree.specs.proof.PackageViews.{placed}
-use Rattle.aadl_chains.specs.proof.Walks as walks
+use Rattle.aadl_chains.specs.proof.UpwardWalks as walks
 use Rattle.aadl_chains.proofs.chain_tracing.climb.Given as goal
 
 -- the rest of the walk

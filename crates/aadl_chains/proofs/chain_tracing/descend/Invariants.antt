@@ -2,7 +2,7 @@ use Rattle.std.proofs.Common.{◌≡◌, ℕ, false, reverse, Some}
 use Rattle.aadl_tree.specs.proof.PackageViews.{placed}
 use Rattle.aadl_uses.specs.ContainmentAndUse as uses
 use Rattle.aadl_chains.specs.proof.PortsJoinedInside.{is_in_at}
-use Rattle.aadl_chains.specs.proof.Walks.{OneEach}
+use Rattle.aadl_chains.specs.proof.UpwardWalks.{OneEach}
 use Rattle.aadl_chains.proofs.DeclarationRanks.{rank}
 use Rattle.aadl_chains.proofs.TracedChains.{Descending}
 use Rattle.aadl_chains.proofs.chain_tracing.descend.Given as goal

@@ -1,4 +1,4 @@
-use Rattle.aadl_tree.specs.LanguagesAndNesting.{IsPackage}
+use Rattle.aadl_tree.specs.PackagesBehavioursAndNesting.{IsPackage}
 use Rattle.aadl_grammar.proofs.Fates.GrammarLanguages.{packages}
 use Rattle.aadl_grammar.proofs.Fates.Answers.{answers_text, answers_fault, answers_depth}
 use Rattle.aadl_grammar.proofs.fate_and_uniqueness_laws.fate_of_package.Goals as goal

@@ -1,6 +1,6 @@
 use Rattle.std.proofs.Common.{◌≡◌, [], map, drop}
 use Rattle.scenario_values.specs.FaultPlaces.{place_text}
-use Rattle.analysis_fields.specs.ReplicasAndFaults.{with_fault_value}
+use Rattle.analysis_fields.specs.ReplicasAndTheirFaults.{with_fault_value}
 use Rattle.serde_json.specs.View.{view}
 use Rattle.scenario_values.specs.ResultCombinators.{through}
 use Rattle.analysis_fields.proofs.replica_faults.fault_values.Given as goal

@@ -1,5 +1,5 @@
 use Rattle.std.proofs.Common.{◌≡◌, [], map, drop}
-use Rattle.analysis_fields.specs.ReplicasAndFaults.{key_of, with_fault}
+use Rattle.analysis_fields.specs.ReplicasAndTheirFaults.{key_of, with_fault}
 use Rattle.serde_json.specs.View.{view}
 use Rattle.scenario_values.specs.ResultCombinators.{through}
 use Rattle.analysis_fields.proofs.replica_faults.read_faults.Given as goal

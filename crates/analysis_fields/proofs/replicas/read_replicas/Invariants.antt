@@ -1,5 +1,5 @@
 use Rattle.std.proofs.Common.{◌≡◌, [], map, drop}
-use Rattle.analysis_fields.specs.ReplicasAndFaults.{with_replica}
+use Rattle.analysis_fields.specs.ReplicasAndTheirFaults.{with_replica}
 use Rattle.serde_json.specs.View.{view}
 use Rattle.scenario_values.specs.ResultCombinators.{through}
 use Rattle.analysis_fields.proofs.replicas.read_replicas.Given as goal

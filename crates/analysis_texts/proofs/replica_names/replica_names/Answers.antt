@@ -3,7 +3,7 @@ use Rattle.std.proofs.lemmas.Result.{IfOk-weaker}
 use Rattle.pals_base.specs.UpwardNumbers.{upwards}
 use Rattle.pals_base.proofs.UpwardNumbers.{length-map_upwards}
 use Rattle.pals_model.specs.declared.design.Component.{Component}
-use Rattle.analysis_fields.specs.ReplicasAndFaults.{is_among}
+use Rattle.analysis_fields.specs.ReplicasAndTheirFaults.{is_among}
 use Rattle.analysis_texts.specs.ReplicasAndRoundFaults.{replicated_in}
 use Rattle.analysis_texts.specs.proof.ReplicaNamesAndLines.{all_names}
 use Rattle.analysis_texts.proofs.replica_names.replica_names.Goals as goal

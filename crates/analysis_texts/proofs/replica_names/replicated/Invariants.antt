@@ -1,6 +1,6 @@
 use Rattle.std.proofs.Common.{◌≡◌, map, take}
 use Rattle.pals_base.specs.UpwardNumbers.{upwards}
-use Rattle.analysis_fields.specs.ReplicasAndFaults.{is_among}
+use Rattle.analysis_fields.specs.ReplicasAndTheirFaults.{is_among}
 use Rattle.analysis_texts.proofs.replica_names.replicated.Given as goal
 
 -- the replicas so far are marked

@@ -5,7 +5,7 @@ use Rattle.pals_base.specs.UpwardNumbers.{upwards}
 use Rattle.pals_base.proofs.UpwardNumbers.{length-map_upwards}
 use Rattle.pals_model.specs.declared.design.Component.{Component}
 use Rattle.pals_model.specs.declared.design.DesignParts.{DesignParts}
-use Rattle.analysis_fields.specs.ReplicasAndFaults.{is_among}
+use Rattle.analysis_fields.specs.ReplicasAndTheirFaults.{is_among}
 use Rattle.triple_vote.specs.proof.VotedStates.{VotedState, voted_begun}
 use Rattle.analysis_texts.specs.ReplicasAndRoundFaults.{replicated_in}
 use Rattle.analysis_texts.proofs.replicas.product_of.Goals as goal

@@ -7,7 +7,7 @@ use Rattle.pals_base.proofs.UpwardNumbers.{get_or-map_upwards}
 use Rattle.pals_model.specs.declared.design.DesignParts.{DesignParts}
 use Rattle.pals_model.specs.ComponentInputs.{values_at}
 use Rattle.pals_model.proofs.ShapeLaws.{length-values_at}
-use Rattle.pals_runs.specs.declared.vote_faults.VoteFault.{VoteFault}
+use Rattle.pals_runs.specs.declared.replica_faults.VoteFault.{VoteFault}
 use Rattle.triple_vote.specs.proof.VoteLaws.{IsFault}
 use Rattle.triple_vote.specs.VotedComposition.{voted_composition, voted_tap_by}
 use Rattle.triple_vote.specs.proof.VotedStates.{VotedState, voted_advanced}

@@ -1,6 +1,6 @@
 use Rattle.std.proofs.Common.{◌≡◌, ℕ, List, length, map}
 use Rattle.pals_base.specs.UpwardNumbers.{upwards}
-use Rattle.pals_runs.specs.declared.vote_faults.VoteFault.{VoteFault}
+use Rattle.pals_runs.specs.declared.replica_faults.VoteFault.{VoteFault}
 use Rattle.analysis_texts.proofs.VotedRows.{HasVoted}
 use Rattle.analysis_texts.proofs.replicas.rows.Given as goal
 

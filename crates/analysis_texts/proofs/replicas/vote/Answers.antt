@@ -2,7 +2,7 @@ use Rattle.std.proofs.Common.{◌≡◌, ◌∙◌, [], All, IfOk, sym, ap, subs
 use Rattle.std.proofs.lemmas.Result.{IfOk-weaker}
 use Rattle.pals_model.specs.declared.design.DesignParts.{DesignParts}
 use Rattle.pals_model.specs.RoundTexts.{report}
-use Rattle.analysis_fields.specs.proof.FaultAndProcessorValidity.{IsFaultOf}
+use Rattle.analysis_fields.specs.proof.ReplicaFaultsAndProcessors.{IsFaultOf}
 use Rattle.triple_vote.specs.proof.VotedStates.{VotedState, voted_begun}
 use Rattle.triple_vote.specs.VotedText.{voted_report, tripled_report}
 use Rattle.triple_vote.specs.OutvotedFaults.{AreOutvoted}

@@ -2,7 +2,7 @@ use Rattle.std.proofs.Common.{codes, ◌∷◌, ◌++◌, List, length, ap, ap�
 use Rattle.pals_model.specs.RoundTexts.{line_end, text_of}
 use Rattle.step_code.specs.declared.instr.Instr.{Instr}
 use Rattle.step_code.specs.declared.instr.CodeParts.{CodeParts}
-use Rattle.step_code.specs.PathWeights.{weight_of}
+use Rattle.step_code.specs.SuccessorsAndWeights.{weight_of}
 use Rattle.step_code.specs.CappedWeights.{capped}
 use Rattle.code_listing.specs.Listings.{number_line, state_lines, initial_line, instr_lines, code_lines}
 use Rattle.code_listing.specs.NumberRanges.{NumberFits, EntriesFit}

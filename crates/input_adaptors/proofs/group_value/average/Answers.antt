@@ -6,7 +6,7 @@ use mir.Val.{SFits, to_z}
 use Rattle.pals_base.specs.Adaptors.{present, of_present, average_of}
 use Rattle.input_adaptors.specs.proof.PortValuesAsNumbers.{mean_of}
 use Rattle.input_adaptors.proofs.PresentNumbers.{IsSummed, IsSummed-absent, IsSummed-present}
-use Rattle.input_adaptors.proofs.GroupSums.{mean_of_sum}
+use Rattle.input_adaptors.proofs.MeanFromSum.{mean_of_sum}
 use Rattle.input_adaptors.proofs.group_value.average.Goals as goal
 use Rattle.input_adaptors.proofs.group_value.average.Goals.{in-Present, in_default}
 

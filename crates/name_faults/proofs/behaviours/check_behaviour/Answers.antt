@@ -6,7 +6,7 @@ use Rattle.aadl_tree.specs.proof.PlaceMaps.{kept_place}
 use Rattle.aadl_names.specs.proof.FirstFaultSoFar.{found}
 use Rattle.aadl_names.specs.NameResolution.{type_numbered}
 use Rattle.aadl_names.specs.PackageNameFaults.{comes_first, behaviour_faults}
-use Rattle.name_faults.proofs.EqualNameUses.{for_all, same_uses, same_order}
+use Rattle.name_faults.proofs.EqualNameRoles.{for_all, same_uses, same_order}
 use Rattle.name_faults.proofs.behaviours.check_behaviour.Goals as goal
 
 pub returns : goal.returns

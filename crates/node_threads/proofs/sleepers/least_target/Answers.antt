@@ -1,7 +1,7 @@
 use Rattle.std.proofs.Common.{ℕ, ◌≤◌, ◌≡◌, Option, Some, ◌∙◌, subst, arith}
 use Rattle.std.specs.Prelude.{IfSome}
 use Rattle.run_laws.specs.Runs.{target_of}
-use Rattle.node_threads.proofs.NodeThreadStates.{one_more}
+use Rattle.node_threads.proofs.ThreadSlotLists.{one_more}
 use Rattle.node_threads.proofs.sleepers.least_target.Goals as goal
 
 pub loop-number-preserved : goal.loop-number-preserved

@@ -1,4 +1,4 @@
-use Rattle.pals_node.specs.proof.NodeValues.{NodeValue}
+use Rattle.pals_node.specs.proof.NodeAndJobValues.{NodeValue}
 use Rattle.pals_bus.specs.proof.OutOfRangeDefaults.{no_queue, no_node_value}
 use Rattle.pals_bus.proofs.Openings.{map_more}
 use Rattle.pals_bus.proofs.opening.empty_queues.Goals as goal

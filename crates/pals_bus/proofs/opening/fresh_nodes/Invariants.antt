@@ -1,5 +1,5 @@
 use Rattle.std.proofs.Common.{◌≡◌, map, take}
-use Rattle.pals_node.specs.proof.NodeValues.{NodeValue, opening_value}
+use Rattle.pals_node.specs.proof.NodeAndJobValues.{NodeValue, opening_value}
 use Rattle.pals_bus.proofs.opening.fresh_nodes.Given as goal
 
 -- the first nodes are fresh

@@ -1,5 +1,5 @@
 use Rattle.std.proofs.Common.{◌≡◌, ◌∙◌, ◌∷◌, [], ◌++◌, ℕ, length, sym, ap, subst, arith}
-use Rattle.pals_node.specs.proof.NodeValues.{Program, program_of, opening_value}
+use Rattle.pals_node.specs.proof.NodeAndJobValues.{Program, program_of, opening_value}
 use Rattle.pals_bus.specs.proof.OpeningNodes.{AreOpening}
 use Rattle.pals_bus.proofs.Openings.{opening_one}
 use Rattle.pals_bus.proofs.opening.opening_nodes.Goals as goal

@@ -1,6 +1,6 @@
 use Rattle.std.proofs.Common.{◌<◌, ◌≤◌, rules, tests}
 use Rattle.std.proofs.lemmas.Iterator.{YieldsList-from_slice, IsFirst-from_position}
-use Rattle.pals_clock.proofs.RemainingReadings.{passed_first}
+use Rattle.pals_clock.proofs.RemainingReadingsAndPicks.{passed_first}
 use Rattle.pals_clock.proofs.clock.passed_over.Goals as goal
 
 pub returns : goal.returns

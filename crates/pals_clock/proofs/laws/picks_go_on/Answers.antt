@@ -1,4 +1,4 @@
-use Rattle.pals_clock.proofs.RemainingReadings.{picks_append}
+use Rattle.pals_clock.proofs.RemainingReadingsAndPicks.{picks_append}
 use Rattle.pals_clock.proofs.laws.picks_go_on.Goals as goal
 
 pub returns : goal.returns

@@ -1,4 +1,4 @@
-use Rattle.pals_clock.proofs.RemainingReadings.{reached_filter}
+use Rattle.pals_clock.proofs.RemainingReadingsAndPicks.{reached_filter}
 use Rattle.pals_clock.proofs.laws.reached_is_what_is_not_below.Goals as goal
 
 pub returns : goal.returns

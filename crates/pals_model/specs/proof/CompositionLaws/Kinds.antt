@@ -12,7 +12,7 @@ use Rattle.pals_model.specs.declared.design.DesignParts.{DesignParts}
 use Rattle.pals_model.specs.declared.environment.Env.{Env}
 use Rattle.pals_model.specs.declared.part.Part.{Part}
 use Rattle.pals_model.specs.Composition.{state, msg, part, taps_of}
-use Rattle.pals_model.specs.PortKinds.{out_kind}
+use Rattle.pals_model.specs.PortKindsAndRates.{out_kind}
 use Rattle.pals_model.specs.DesignRules.{IsDesign}
 use Rattle.pals_model.specs.proof.ValuesFitKinds.{FrameFits, PortsFit, TupleFits, link_kind, EnvFits}
 

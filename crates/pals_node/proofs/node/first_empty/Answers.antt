@@ -6,7 +6,7 @@ use Rattle.pals_base.specs.declared.basic_types.PortValue.{PortValue}
 use Rattle.bus_machine.specs.declared.plan.Input.{Input}
 use Rattle.bus_machine.specs.declared.plan.Input.TheVariants.{Nothing}
 use Rattle.bus_machine.specs.NodeEvents.{lacks}
-use Rattle.pals_node.proofs.TuplesAndSlots.{fails_more, none_left}
+use Rattle.pals_node.proofs.TuplesSlotsAndZips.{fails_more, none_left}
 use Rattle.pals_node.proofs.node.first_empty.Goals as goal
 
 abbrev test : Input × Option (List PortValue) → Bool

@@ -3,7 +3,7 @@ use Rattle.std.specs.Prelude.{Option, slice_set}
 use Rattle.std.proofs.lemmas.List.{length-map, length-set}
 use Rattle.list_lemmas.proofs.ListOperations.{filled_more, filled_all}
 use Rattle.pals_base.specs.declared.basic_types.PortValue.{PortValue}
-use Rattle.pals_node.proofs.TuplesAndSlots.{no_message, empty_at}
+use Rattle.pals_node.proofs.TuplesSlotsAndZips.{no_message, empty_at}
 use Rattle.pals_node.proofs.slots_and_input_vectors.empty_all.Goals as goal
 
 pub loop-at-preserved : goal.loop-at-preserved

@@ -1,7 +1,7 @@
 use Rattle.std.proofs.Common.{◌≡◌, List, length, map, take}
 use Rattle.std.specs.Prelude.{Option}
 use Rattle.pals_base.specs.declared.basic_types.PortValue.{PortValue}
-use Rattle.pals_node.proofs.TuplesAndSlots.{no_message}
+use Rattle.pals_node.proofs.TuplesSlotsAndZips.{no_message}
 use Rattle.pals_node.proofs.slots_and_input_vectors.empty_all.Given as goal
 
 -- the first slots are empty

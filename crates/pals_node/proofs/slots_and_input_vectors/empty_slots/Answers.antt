@@ -1,5 +1,5 @@
 use Rattle.std.proofs.Common.{◌∙◌, ◌++◌, ◌∷◌, [], ap₂}
-use Rattle.pals_node.proofs.TuplesAndSlots.{empty_more}
+use Rattle.pals_node.proofs.TuplesSlotsAndZips.{empty_more}
 use Rattle.pals_node.proofs.slots_and_input_vectors.empty_slots.Goals as goal
 
 pub loop-input-preserved : goal.loop-input-preserved

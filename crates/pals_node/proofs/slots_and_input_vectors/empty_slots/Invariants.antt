@@ -1,6 +1,6 @@
 use Rattle.std.proofs.Common.{◌≡◌, map, take}
 use Rattle.bus_machine.specs.declared.plan.Input.{Input}
-use Rattle.pals_node.proofs.TuplesAndSlots.{no_message}
+use Rattle.pals_node.proofs.TuplesSlotsAndZips.{no_message}
 use Rattle.pals_node.proofs.slots_and_input_vectors.empty_slots.Given as goal
 
 abbrev pub invariant-loop-input : goal.invariant-loop-input

@@ -4,7 +4,7 @@ use Rattle.pals_base.specs.declared.basic_types.PortValue.{PortValue}
 use Rattle.pals_base.specs.declared.basic_types.PortValue.TheVariants.{Absent}
 use Rattle.bus_machine.specs.declared.plan.Input.{Input}
 use Rattle.bus_machine.specs.Nodes.{brought}
-use Rattle.pals_node.proofs.TuplesAndSlots.{zips_more, zip_all, column_of}
+use Rattle.pals_node.proofs.TuplesSlotsAndZips.{zips_more, zip_all, column_of}
 use Rattle.pals_node.proofs.slots_and_input_vectors.vector_at.Goals as goal
 
 pub loop-at-preserved : goal.loop-at-preserved

@@ -3,7 +3,7 @@ use Rattle.std.proofs.lemmas.Grind.{common_steps}
 use Rattle.list_lemmas.proofs.ListOperations.{filled_more, filled_all}
 use Rattle.pals_base.specs.Tuples.{cut}
 use Rattle.pals_base.proofs.ColumnsAndCutTuples.{length-cut}
-use Rattle.pals_node.proofs.TuplesAndSlots.{cut_place}
+use Rattle.pals_node.proofs.TuplesSlotsAndZips.{cut_place}
 use Rattle.pals_node.proofs.written_tuples.write_cut.Goals as goal
 
 pub loop-at-preserved : goal.loop-at-preserved

@@ -5,7 +5,7 @@ use Rattle.std.proofs.lemmas.List.Elements.{All-set}
 use Rattle.pals_base.specs.declared.basic_types.PortValue.{PortValue}
 use Rattle.pals_base.specs.declared.basic_types.PortValue.TheVariants.{Absent}
 use Rattle.pals_base.specs.Tuples.{with_places}
-use Rattle.pals_node.proofs.TuplesAndSlots.{places_more}
+use Rattle.pals_node.proofs.TuplesSlotsAndZips.{places_more}
 use Rattle.pals_node.proofs.written_tuples.write_places.Goals as goal
 
 pub loop-port-preserved : goal.loop-port-preserved

@@ -1,7 +1,7 @@
 use Rattle.std.proofs.Common.{◌≡◌, ◌∙◌, List, length, sym, ap, subst}
 use Rattle.std.specs.List.{list_all}
 use Rattle.pals_model.specs.declared.design.Link.{Link}
-use Rattle.pals_model.specs.PortKinds.{rate_of}
+use Rattle.pals_model.specs.PortKindsAndRates.{rate_of}
 use Rattle.plant_fuse.specs.proof.Fusibility.{AreTwo, stays_inside}
 use Rattle.plant_fuse.proofs.FusiblePairs.{pair_by, all_inside}
 use Rattle.plant_fuse.proofs.fusibility.is_pair.Goals as goal

@@ -7,11 +7,11 @@ use Rattle.pals_base.specs.declared.basic_types.PortValue.{PortValue}
 use Rattle.pals_base.proofs.ColumnsAndCutTuples.{length-cut}
 use Rattle.pals_model.specs.declared.design.DesignParts.{DesignParts}
 use Rattle.pals_model.specs.declared.design.Link.{Link}
-use Rattle.pals_model.specs.PortKinds.{rate_of}
+use Rattle.pals_model.specs.PortKindsAndRates.{rate_of}
 use Rattle.pals_model.specs.DesignRules.{IsLink}
 use Rattle.pals_model.proofs.FirstMatches.{at_element}
 use Rattle.sync_product.specs.proof.ProductSizes.{message_sizes}
-use Rattle.sync_product.proofs.SizePreservation.{same_sizes}
+use Rattle.sync_product.proofs.SizePreservingWrites.{same_sizes}
 use Rattle.sync_product.proofs.ComponentLists.{count_of_sized}
 use Rattle.sync_product.proofs.LinkMessages.{sized_message}
 use Rattle.sync_product.proofs.PortColumns.{length-column}

@@ -3,7 +3,7 @@ use Rattle.std.proofs.lemmas.List.{get_or-map}
 use Rattle.pals_model.specs.declared.part.Part.{Part}
 use Rattle.pals_model.specs.Composition.{no_frame}
 use Rattle.sync_product.specs.proof.ProductSizes.{frame_size, part_size, stage_size}
-use Rattle.sync_product.proofs.SizePreservation.{same_sizes}
+use Rattle.sync_product.proofs.SizePreservingWrites.{same_sizes}
 use Rattle.sync_product.proofs.ComponentSizes.{count_of_parts, count_of_stages, fits_sources, fits_part, fits_frame}
 use Rattle.sync_product.proofs.ComponentSizes.{fits_stage}
 use Rattle.plant_fuse.proofs.RoundWork.{alone_is_run}

@@ -7,7 +7,7 @@ use Rattle.std.proofs.lemmas.List.Sums.{sum_by_push}
 use Rattle.pals_base.specs.declared.basic_types.NodeNo.{NodeNo}
 use Rattle.step_code.specs.declared.instr.CodeParts.{CodeParts}
 use Rattle.step_code.specs.CappedWeights.{capped}
-use Rattle.step_code.specs.PathWeights.{weight_of}
+use Rattle.step_code.specs.SuccessorsAndWeights.{weight_of}
 use Rattle.round_budget.specs.Budgets.{most_in, most_of, numbers}
 use Rattle.round_budget.proofs.ProcessorMembers.{member_at}
 use Rattle.round_budget.proofs.processor_load.total.Goals as goal

@@ -1,5 +1,5 @@
 use Rattle.run_laws.proofs.LinePicks.{lines_are_picks}
-use Rattle.run_laws.proofs.NodePicks.{nodes_pick, readings_are_picks}
+use Rattle.run_laws.proofs.NodePicksAndRunReplay.{nodes_pick, readings_are_picks}
 use Rattle.run_laws.proofs.laws.lists_show_picks.Goals as goal
 
 pub returns : goal.returns

@@ -1,4 +1,4 @@
-use Rattle.run_laws.proofs.NodePicks.{runs_replay, runs_agree}
+use Rattle.run_laws.proofs.NodePicksAndRunReplay.{runs_replay, runs_agree}
 use Rattle.run_laws.proofs.laws.runs_replay.Goals as goal
 
 pub returns : goal.returns

@@ -1,4 +1,4 @@
-use Rattle.run_laws.proofs.StopBounds.{stops_are_bounded}
+use Rattle.run_laws.proofs.BoundsBrokenAtStops.{stops_are_bounded}
 use Rattle.run_laws.proofs.laws.stops_are_bounded.Goals as goal
 
 pub returns : goal.returns

@@ -1,5 +1,5 @@
 use Rattle.std.proofs.Common.{length, option_to_list, sym, subst}
-use Rattle.step_code.specs.proof.VerifierAnswers.{AreThere}
+use Rattle.step_code.specs.proof.VerifierIntermediateResults.{AreThere}
 use Rattle.step_code.proofs.HeightPropagation.{there_jump, there_next}
 use Rattle.step_code.proofs.stack_heights.pass_on.Goals as goal
 

@@ -1,7 +1,7 @@
 use Rattle.std.proofs.Common.{None, Some, length, pos, sym, subst, slice_index_or}
 use Rattle.step_code.specs.declared.instr.Instr.TheVariants.{Push}
-use Rattle.step_code.specs.PathWeights.{forward_successors}
-use Rattle.step_code.specs.proof.VerifierAnswers.{AreThere}
+use Rattle.step_code.specs.SuccessorsAndWeights.{forward_successors}
+use Rattle.step_code.specs.proof.VerifierIntermediateResults.{AreThere}
 use Rattle.step_code.proofs.ReachedHeights.{held_at, low_held, unreached_heights}
 use Rattle.step_code.proofs.CheckedPlaces.{known_by, unreached_clean, passed_clean, passed_heights, passed_fault}
 use Rattle.step_code.proofs.CheckedPlaces.{known_there}

@@ -1,6 +1,6 @@
 use Rattle.std.proofs.Common.{◌+◌, Some, sym, subst, take}
 use Rattle.step_code.specs.proof.VerifierRules.{is_bad_entry}
-use Rattle.step_code.specs.proof.VerifierAnswers.{IsLeast}
+use Rattle.step_code.specs.proof.VerifierIntermediateResults.{IsLeast}
 use Rattle.step_code.proofs.LeastBadEntryPoint.{least_more, least_none}
 use Rattle.step_code.proofs.verifier.first_bad_entry.Goals as goal
 use Rattle.step_code.proofs.verifier.first_bad_entry.Goals.{in-Some, in_default}

@@ -1,6 +1,6 @@
 use Rattle.std.proofs.Common.{take}
 use Rattle.step_code.specs.proof.VerifierRules.{is_bad_entry}
-use Rattle.step_code.specs.proof.VerifierAnswers.{IsLeast}
+use Rattle.step_code.specs.proof.VerifierIntermediateResults.{IsLeast}
 use Rattle.step_code.proofs.verifier.first_bad_entry.Given as goal
 
 abbrev pub invariant-loop-entry : goal.invariant-loop-entry

@@ -2,8 +2,8 @@ use Rattle.std.proofs.Common.{◌≡◌, ◌∙◌, ◌+◌, Some, map, pos, sym
 use Rattle.std.specs.Prelude.{slice_get}
 use Rattle.std.proofs.lemmas.Option.{slice_get-get_or, get_or_from_slice_get}
 use Rattle.step_code.specs.declared.instr.Instr.TheVariants.{Push}
-use Rattle.step_code.specs.PathWeights.{forward_successors, greatest, weight_at}
-use Rattle.step_code.specs.proof.VerifierAnswers.{AreThere}
+use Rattle.step_code.specs.SuccessorsAndWeights.{forward_successors, greatest, weight_at}
+use Rattle.step_code.specs.proof.VerifierIntermediateResults.{AreThere}
 use Rattle.step_code.specs.CappedWeights.{capped}
 use Rattle.step_code.proofs.CheckedPlaces.{known_there}
 use Rattle.step_code.proofs.VerifiedInstructionsAndEntries.{verified_known}

@@ -1,6 +1,6 @@
 use Rattle.std.proofs.Common.{◌∙◌, ℕ, length, map, max, option_to_list, sym, ap, subst, slice_index_or}
-use Rattle.step_code.specs.PathWeights.{greatest, jump_of, next_of}
-use Rattle.step_code.specs.proof.VerifierAnswers.{AreThere}
+use Rattle.step_code.specs.SuccessorsAndWeights.{greatest, jump_of, next_of}
+use Rattle.step_code.specs.proof.VerifierIntermediateResults.{AreThere}
 use Rattle.step_code.proofs.HeightPropagation.{there_jump, there_next}
 use Rattle.step_code.proofs.CappedWeights.{greatest_both}
 use Rattle.step_code.proofs.weights.best_onward.Goals as goal

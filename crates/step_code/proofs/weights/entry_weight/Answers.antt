@@ -1,6 +1,6 @@
 use Rattle.std.proofs.Common.{◌∙◌, sym, ap, subst}
 use Rattle.step_code.specs.proof.StackHeights.{Member}
-use Rattle.step_code.specs.PathWeights.{entry_weight}
+use Rattle.step_code.specs.SuccessorsAndWeights.{entry_weight}
 use Rattle.step_code.specs.CappedWeights.{capped}
 use Rattle.step_code.proofs.CappedWeights.{entry_best}
 use Rattle.step_code.proofs.weights.entry_weight.Goals as goal

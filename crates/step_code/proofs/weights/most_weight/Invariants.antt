@@ -1,5 +1,5 @@
 use Rattle.std.proofs.Common.{◌≡◌, take}
-use Rattle.step_code.specs.PathWeights.{weight}
+use Rattle.step_code.specs.SuccessorsAndWeights.{weight}
 use Rattle.step_code.specs.CappedWeights.{capped}
 use Rattle.step_code.proofs.weights.most_weight.Given as goal
 

@@ -2,7 +2,7 @@ use Rattle.std.proofs.Common.{◌≡◌, ◌∙◌, ◌*◌, ◌<◌, None, Some
 use Rattle.std.proofs.lemmas.Option.{get_or_from_slice_get}
 use Rattle.step_code.specs.Loops.{turns_of}
 use Rattle.step_code.specs.proof.InnermostLoops.{innermost}
-use Rattle.step_code.specs.PathWeights.{weight_at}
+use Rattle.step_code.specs.SuccessorsAndWeights.{weight_at}
 use Rattle.step_code.specs.CappedWeights.{capped}
 use Rattle.step_code.proofs.InnermostLoops.{read_innermost}
 use Rattle.step_code.proofs.CappedWeights.{capped_product, weight_outside, weight_inside, starts_before}

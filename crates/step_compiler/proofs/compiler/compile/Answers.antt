@@ -3,7 +3,7 @@ use Rattle.pals_base.specs.declared.limits.TheConstants.{INSTRUCTIONS}
 use Rattle.pals_base.specs.declared.behaviour.BehaviourParts.{BehaviourParts}
 use Rattle.step_code.specs.declared.instr.CodeParts.{CodeParts}
 use Rattle.step_code.specs.proof.VerifierRules.{IsVerified}
-use Rattle.step_code.specs.proof.CodeMeaning.{Means}
+use Rattle.step_code.specs.proof.CodeMatchesBehaviour.{Means}
 use Rattle.step_code.specs.CodeLengths.{length_edges, code_length}
 use Rattle.step_compiler.specs.LaidOutCode.{IsLaidOut}
 use Rattle.step_compiler.proofs.LayoutLaws.{compiled_is_laid_out}

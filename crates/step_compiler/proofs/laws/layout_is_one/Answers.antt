@@ -1,4 +1,4 @@
-use Rattle.step_compiler.proofs.UniqueBlockOrder.{order_is_one}
+use Rattle.step_compiler.proofs.SoundAndUniqueOrder.{order_is_one}
 use Rattle.step_compiler.proofs.LayoutLaws.{has_layout, laid_out_code_is_one, laid_out_codes_are_one}
 use Rattle.step_compiler.proofs.laws.layout_is_one.Goals as goal
 

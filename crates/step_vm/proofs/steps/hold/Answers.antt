@@ -2,7 +2,7 @@ use Rattle.std.proofs.Common.{◌∙◌, length, take, sym, ap, arith, rules, w6
 use Rattle.std.proofs.lemmas.Int.{to_z-of_z}
 use mir.Val.{SFits}
 use Rattle.pals_base.specs.declared.basic_types.PortValue.TheVariants.{Absent}
-use Rattle.pals_base.proofs.StepSequences.{holding-none}
+use Rattle.pals_base.proofs.SequencesAndHaltedFrames.{holding-none}
 use Rattle.step_code.proofs.StepResults.{length-holding}
 use Rattle.step_vm.proofs.HeldInputsAndVariables.{hold_present, hold_absent}
 use Rattle.step_vm.proofs.steps.hold.Goals as goal

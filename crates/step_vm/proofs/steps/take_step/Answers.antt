@@ -4,7 +4,7 @@ use Rattle.std.specs.Option.{is_some}
 use Rattle.pals_base.specs.declared.frames.Frame.{Frame}
 use Rattle.pals_base.specs.SingleStep.{Fired}
 use Rattle.step_code.proofs.StepResults.{length-holding, member_at}
-use Rattle.step_vm.proofs.StepOutcomes.{stepped}
+use Rattle.step_vm.proofs.StepsFromEntries.{stepped}
 use Rattle.step_vm.proofs.steps.take_step.Goals as goal
 
 none_of : {A : Type 0} (o : Option A) (b : Bool) → b ≡ is_some o → b ≡ false → o ≡ None

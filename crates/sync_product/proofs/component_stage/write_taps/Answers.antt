@@ -4,7 +4,7 @@ use Rattle.list_lemmas.proofs.ListOperations.{filled_more}
 use Rattle.pals_base.specs.declared.basic_types.PortValue.{PortValue}
 use Rattle.pals_base.specs.Tuples.{column}
 use Rattle.pals_base.proofs.ColumnsAndCutTuples.{cut_whole}
-use Rattle.sync_product.proofs.SizePreservation.{same_sizes}
+use Rattle.sync_product.proofs.SizePreservingWrites.{same_sizes}
 use Rattle.sync_product.proofs.PortColumns.{length-column}
 use Rattle.sync_product.proofs.TupleLengths.{size_of_out, count_of_outs}
 use Rattle.sync_product.proofs.component_stage.write_taps.Goals as goal

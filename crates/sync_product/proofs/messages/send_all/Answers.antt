@@ -11,11 +11,11 @@ use Rattle.pals_model.specs.DesignRules.{IsLink}
 use Rattle.pals_model.proofs.FirstMatches.{at_element}
 use Rattle.sync_product.specs.proof.ProductSizes.{stage_size, stage_size_of, stage_sizes, message_sizes}
 use Rattle.sync_product.specs.proof.Rounds.{sent_by}
-use Rattle.sync_product.proofs.SizePreservation.{same_sizes}
+use Rattle.sync_product.proofs.SizePreservingWrites.{same_sizes}
 use Rattle.sync_product.proofs.ComponentLists.{count_of_sized, within_same}
 use Rattle.sync_product.proofs.LinkMessages.{sized_message, sent_item}
 use Rattle.sync_product.proofs.PortColumns.{length-column}
-use Rattle.pals_model.specs.PortKinds.{rate_of}
+use Rattle.pals_model.specs.PortKindsAndRates.{rate_of}
 use Rattle.sync_product.proofs.messages.send_all.Goals as goal
 
 pub write_port_tuple-requires : goal.write_port_tuple-requires

@@ -2,7 +2,7 @@ use Rattle.std.proofs.Common.{◌≡◌, List, [], ◌∷◌, ◌++◌, take, No
 use Rattle.std.proofs.lemmas.List.{take_more}
 use Rattle.pals_runs.specs.declared.events_and_faults.Event.{Event}
 use Rattle.run_laws.specs.EventFaults.{fault_of}
-use Rattle.timed_world.specs.proof.WorldValues.{world_of}
+use Rattle.timed_world.specs.proof.WorldValuesAndMoves.{world_of}
 use Rattle.timed_world.specs.proof.EventLists.{Leads}
 use Rattle.timed_world.proofs.EventLists.{leads_more}
 use Rattle.timed_world.proofs.event_list.run_list.Goals as goal

@@ -3,7 +3,7 @@ use Rattle.std.specs.Prelude.{IfOk}
 use Rattle.std.specs.Arc.{arc_value}
 use Rattle.pals_model.specs.declared.design.DesignParts.{DesignParts}
 use Rattle.pals_runs.specs.declared.verdicts.Verdict.{Verdict}
-use Rattle.bus_machine.specs.Runs.{Run}
+use Rattle.bus_machine.specs.RunParameters.{Run}
 use Rattle.run_laws.specs.TraceVerdicts.{opening_audit, row_size}
 use Rattle.trace_audit.specs.proof.ReportEnds.{ReportEnds}
 use Rattle.trace_audit.proofs.JournalVerdicts.{judged_whole}

@@ -2,7 +2,7 @@ use Rattle.std.proofs.Common.{◌≡◌, ap, ◌∙◌, subst, rules}
 use Rattle.std.specs.Prelude.{IfOk}
 use Rattle.std.specs.Arc.{arc_value}
 use Rattle.pals_model.specs.declared.design.DesignParts.{DesignParts}
-use Rattle.bus_machine.specs.Runs.{Run}
+use Rattle.bus_machine.specs.RunParameters.{Run}
 use Rattle.pals_bus.specs.BusValues.{BusValue}
 use Rattle.trace_audit.specs.declared.replay.Replay.{Replay}
 use Rattle.trace_audit.proofs.trace_verdict.open.Goals as goal

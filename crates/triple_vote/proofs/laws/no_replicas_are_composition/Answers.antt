@@ -1,4 +1,4 @@
-use Rattle.triple_vote.proofs.OutvotedFaults.{no_replicas_are_composition}
+use Rattle.triple_vote.proofs.CompositionAgreement.{no_replicas_are_composition}
 use Rattle.triple_vote.proofs.laws.no_replicas_are_composition.Goals as goal
 
 pub returns : goal.returns

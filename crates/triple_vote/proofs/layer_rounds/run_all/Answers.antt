@@ -5,7 +5,7 @@ use Rattle.pals_base.specs.StepSequences.{frame_after, outputs}
 use Rattle.pals_model.specs.declared.part.Part.{Part}
 use Rattle.sync_product.specs.proof.ProductSizes.{PartSize, frame_size, part_size, stage_size}
 use Rattle.sync_product.specs.proof.Rounds.{frames_of, vectors}
-use Rattle.sync_product.proofs.SizePreservation.{same_sizes}
+use Rattle.sync_product.proofs.SizePreservingWrites.{same_sizes}
 use Rattle.triple_vote.proofs.TupleLengths.{stage_within}
 use Rattle.triple_vote.proofs.LayerSteps.{run_skip, run_more, frame_by, rows_by, component_is, node_within, part_within}
 use Rattle.triple_vote.proofs.LayerSteps.{part_room, stage_room, sources_within, sources_are, sources_count}

@@ -1,4 +1,4 @@
-use Rattle.world_gen.proofs.RingNumbers.{done_rings_add_up}
+use Rattle.world_gen.proofs.RingValuesAndSums.{done_rings_add_up}
 use Rattle.world_gen.proofs.laws.done_rings_add_up.Goals as goal
 
 pub returns : goal.returns

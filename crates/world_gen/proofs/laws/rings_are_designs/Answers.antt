@@ -1,5 +1,5 @@
 use Rattle.world_gen.proofs.RingDesigns.{rings_are_designs, rings_add_up}
-use Rattle.world_gen.proofs.RingNumbers.{ring_numbers_are_small}
+use Rattle.world_gen.proofs.RingValuesAndSums.{ring_numbers_are_small}
 use Rattle.world_gen.proofs.laws.rings_are_designs.Goals as goal
 
 pub returns : goal.returns

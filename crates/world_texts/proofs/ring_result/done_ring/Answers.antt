@@ -4,7 +4,7 @@ use Rattle.pals_model.specs.declared.design.DesignParts.{DesignParts}
 use Rattle.pals_model.specs.declared.environment.Env.{Env}
 use Rattle.pals_model.specs.ComponentInputs.{no_env}
 use Rattle.pals_runs.specs.declared.events_and_faults.Event.{Event}
-use Rattle.timed_world.specs.proof.WorldValues.{WorldValue, opening_value}
+use Rattle.timed_world.specs.proof.WorldValuesAndMoves.{WorldValue, opening_value}
 use Rattle.timed_world.specs.proof.EventLists.{Leads}
 use Rattle.world_texts.proofs.DoneRings.{all_done}
 use Rattle.world_texts.proofs.ring_result.done_ring.Goals as goal

@@ -1,7 +1,7 @@
 use Rattle.std.proofs.Common.{◌≡◌, None, sym, subst}
 use Rattle.pals_runs.specs.declared.events_and_faults.Event.{Event}
 use Rattle.run_laws.specs.EventFaults.{fault_of}
-use Rattle.timed_world.specs.proof.WorldValues.{world_of, Moves}
+use Rattle.timed_world.specs.proof.WorldValuesAndMoves.{world_of, Moves}
 use Rattle.world_texts.proofs.EventsWithinBounds.{next_is_fine, only_memory, leads_next}
 use Rattle.world_texts.proofs.ring_result.go_through.Goals as goal
 

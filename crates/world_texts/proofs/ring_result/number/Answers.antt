@@ -3,7 +3,7 @@ use Rattle.std.proofs.lemmas.Int.{to_z-of_z}
 use mir.Syntax.{w64}
 use mir.Val.{SFits}
 use Rattle.pals_base.proofs.UpwardNumbers.{length-map_upwards}
-use Rattle.bus_machine.specs.Runs.{Run}
+use Rattle.bus_machine.specs.RunParameters.{Run}
 use Rattle.world_gen.specs.Rings.{ring_component}
 use Rattle.world_texts.proofs.DoneRings.{part_is_there, last_number}
 use Rattle.world_texts.proofs.ring_result.number.Goals as goal

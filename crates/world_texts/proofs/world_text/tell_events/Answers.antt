@@ -5,7 +5,7 @@ use Rattle.pals_runs.specs.declared.events_and_faults.Event.{Event}
 use Rattle.pals_bus.specs.BusValues.{BusValue}
 use Rattle.run_laws.specs.EventFaults.{fault_of}
 use Rattle.loose_world.specs.LooseRuns.{told_by}
-use Rattle.timed_world.specs.proof.WorldValues.{world_of, Moves}
+use Rattle.timed_world.specs.proof.WorldValuesAndMoves.{world_of, Moves}
 use Rattle.world_texts.proofs.WorldTexts.{telling_more}
 use Rattle.world_texts.proofs.world_text.tell_events.Goals as goal
 

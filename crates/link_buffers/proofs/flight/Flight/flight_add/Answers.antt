@@ -1,5 +1,5 @@
 use Rattle.std.proofs.Common.{◌≡◌, ◌-◌, ◌≤◌, [], ◌∷◌, ◌++◌, length, drop, sym, ap, ◌∙◌, subst, arith, length-append}
-use Rattle.link_buffers.specs.declared.ring_entries.RingEntry.{RingEntry}
+use Rattle.link_buffers.specs.declared.oldest_and_due_copies.RingEntry.{RingEntry}
 use Rattle.link_buffers.specs.proof.RingCopies.{AreTopped}
 use Rattle.link_buffers.proofs.RingCopies.{topped_push}
 use Rattle.link_buffers.proofs.flight.Flight.flight_add.Goals as goal

@@ -1,5 +1,5 @@
 use Rattle.std.proofs.Common.{sym, ap, ◌∙◌}
-use Rattle.link_buffers.specs.proof.ListSearches.{least}
+use Rattle.link_buffers.specs.proof.FirstAndLeastItems.{least}
 use Rattle.link_buffers.proofs.RingCopies.{due_ring_entries}
 use Rattle.link_buffers.proofs.flight.Flight.flight_due.Goals as goal
 

@@ -5,7 +5,7 @@ use Rattle.std.proofs.lemmas.Grind.{common_steps}
 use Rattle.std.proofs.lemmas.List.Edits.{length-remove}
 use Rattle.pals_model.specs.declared.flight_copy.FlightCopy.{FlightCopy}
 use Rattle.pals_model.specs.Flights.{is_of, oldest}
-use Rattle.link_buffers.specs.declared.ring_entries.RingEntry.{RingEntry}
+use Rattle.link_buffers.specs.declared.oldest_and_due_copies.RingEntry.{RingEntry}
 use Rattle.link_buffers.specs.proof.RingCopies.{copies_of, AreTopped}
 use Rattle.link_buffers.proofs.FirstPassingItem.{find_some, find_none, without_some}
 use Rattle.link_buffers.proofs.RingCopies.{oldest_within, entry_there, tuple_at, copies_remove, topped_remove}

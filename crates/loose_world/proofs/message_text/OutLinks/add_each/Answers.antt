@@ -2,7 +2,7 @@ use Rattle.std.proofs.Common.{◌≡◌, ◌∙◌, ◌-◌, ◌++◌, ℕ, List
 use Rattle.std.specs.Prelude.{flat_map}
 use Rattle.std.proofs.lemmas.List.{take_all}
 use Rattle.pals_base.specs.declared.basic_types.LinkNo.{LinkNo}
-use Rattle.pals_model.specs.OutgoingLinks.{links_from}
+use Rattle.pals_model.specs.IncomingAndOutgoingLinks.{links_from}
 use Rattle.pals_model.specs.RoundTexts.{text_of}
 use Rattle.bus_machine.specs.BusStates.{node_at}
 use Rattle.loose_world.specs.SentLines.{message_lines}

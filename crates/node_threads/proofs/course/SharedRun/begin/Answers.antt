@@ -1,4 +1,4 @@
-use Rattle.node_threads.proofs.ReadyNodes.{to_start, to_step, to_send}
+use Rattle.node_threads.proofs.ReadyNodeActions.{to_start, to_step, to_send}
 use Rattle.node_threads.proofs.course.SharedRun.begin.Goals as goal
 
 pub start-requires-clause-waits : goal.start-requires-clause-waits

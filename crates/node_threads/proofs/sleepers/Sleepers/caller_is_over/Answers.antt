@@ -1,7 +1,7 @@
 use Rattle.std.proofs.Common.{◌≡◌, ℕ, true, arith}
 use Rattle.node_threads.specs.proof.SharedCourses.{IsOpen, IsDone}
 use Rattle.node_threads.specs.proof.Sleepers.{slot_at}
-use Rattle.node_threads.proofs.NodeThreadStates.{one_more}
+use Rattle.node_threads.proofs.ThreadSlotLists.{one_more}
 use Rattle.node_threads.proofs.sleepers.Sleepers.caller_is_over.Goals as goal
 
 pub loop-number-preserved : goal.loop-number-preserved

@@ -1,5 +1,5 @@
 use Rattle.std.proofs.Common.{sym}
-use Rattle.node_threads.proofs.NodeThreadStates.{none_slot}
+use Rattle.node_threads.proofs.ThreadSlotLists.{none_slot}
 use Rattle.node_threads.proofs.sleepers.Sleepers.slot.Goals as goal
 
 pub returns-in-None : goal.returns-in-None

@@ -1,6 +1,6 @@
 use Rattle.std.proofs.Common.{ℕ, arith}
 use Rattle.node_threads.specs.proof.Sleepers.{IsAbove}
-use Rattle.node_threads.proofs.NodeThreadStates.{one_more}
+use Rattle.node_threads.proofs.ThreadSlotLists.{one_more}
 use Rattle.node_threads.proofs.sleepers.Sleepers.some_at_hour.Goals as goal
 
 pub loop-number-preserved : goal.loop-number-preserved

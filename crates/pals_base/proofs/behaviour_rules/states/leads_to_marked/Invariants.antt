@@ -1,7 +1,7 @@
 use Rattle.std.proofs.Common.{◌≡◌, drop, nat_eq}
 use Rattle.std.specs.Prelude.{filter}
 use Rattle.std.specs.List.{list_all}
-use Rattle.pals_base.specs.proof.SettledStates.{marked}
+use Rattle.pals_base.specs.proof.CycleSearchMarks.{marked}
 use Rattle.pals_base.proofs.behaviour_rules.states.leads_to_marked.Given as goal
 
 -- all lead to marked states exactly where those that are left do

@@ -1,5 +1,5 @@
 use Rattle.std.proofs.Common.{◌≡◌, map}
-use Rattle.pals_base.specs.proof.SettledStates.{settles_next}
+use Rattle.pals_base.specs.proof.CycleSearchMarks.{settles_next}
 use Rattle.pals_base.specs.UpwardNumbers.{upwards}
 use Rattle.pals_base.proofs.behaviour_rules.states.settled_next.Given as goal
 

@@ -1,5 +1,5 @@
 use Rattle.std.proofs.Common.{◌≡◌, length, map}
-use Rattle.pals_base.specs.proof.SettledStates.{settles}
+use Rattle.pals_base.specs.proof.CycleSearchMarks.{settles}
 use Rattle.pals_base.specs.UpwardNumbers.{upwards}
 use Rattle.pals_base.proofs.behaviour_rules.states.settled_states.Given as goal
 

@@ -1,4 +1,4 @@
-use Rattle.pals_base.proofs.StepSequences.{fire-halted, frame_after-halted, outputs-halted}
+use Rattle.pals_base.proofs.SequencesAndHaltedFrames.{fire-halted, frame_after-halted, outputs-halted}
 use Rattle.pals_base.proofs.laws.step_sequences.halted_frame_stays.Goals as goal
 
 pub returns-clause-frame : goal.returns-clause-frame

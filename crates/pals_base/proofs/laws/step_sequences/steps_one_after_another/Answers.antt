@@ -1,4 +1,4 @@
-use Rattle.pals_base.proofs.StepSequences.{outputs-take, frame_after-append, outputs-append}
+use Rattle.pals_base.proofs.SequencesAndHaltedFrames.{outputs-take, frame_after-append, outputs-append}
 use Rattle.pals_base.proofs.laws.step_sequences.steps_one_after_another.Goals as goal
 
 pub returns-clause-first : goal.returns-clause-first

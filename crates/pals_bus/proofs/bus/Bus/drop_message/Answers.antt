@@ -4,7 +4,7 @@ use Rattle.std.proofs.lemmas.Grind.{common_steps}
 use Rattle.pals_runs.specs.declared.journal.JournalEntry.TheVariants as entry
 use Rattle.pals_bus.specs.declared.bus_fields.BusFields.{BusFields}
 use Rattle.pals_bus.proofs.NodeEventCalls.{journal_shows}
-use Rattle.pals_bus.proofs.CopyRemovalAndLoss.{Takes, none_keeps, none_value}
+use Rattle.pals_bus.proofs.OldestCopyRemoval.{Takes, none_keeps, none_value}
 use Rattle.pals_bus.proofs.MessageLosses.{drop_happens, drop_keeps}
 use Rattle.pals_bus.proofs.bus.Bus.drop_message.Goals as goal
 

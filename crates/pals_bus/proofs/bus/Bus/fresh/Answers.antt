@@ -4,8 +4,8 @@ use Rattle.step_code.specs.declared.instr.CodeParts.{CodeParts}
 use Rattle.pals_model.specs.declared.design.DesignParts.{DesignParts}
 use Rattle.pals_model.specs.declared.delays.Delays.{Delays}
 use Rattle.pals_model.specs.Delays.{AreDelays}
-use Rattle.bus_machine.specs.Runs.{Run}
-use Rattle.pals_node.specs.proof.NodeValues.{NodeValue, opening_value}
+use Rattle.bus_machine.specs.RunParameters.{Run}
+use Rattle.pals_node.specs.proof.NodeAndJobValues.{NodeValue, opening_value}
 use Rattle.pals_bus.specs.BusValues.{BusValue}
 use Rattle.pals_bus.specs.proof.BusInvariant.{value_of}
 use Rattle.pals_bus.specs.proof.OpeningNodes.{AreOpening, opening_bus}

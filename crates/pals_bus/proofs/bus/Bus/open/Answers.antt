@@ -2,7 +2,7 @@ use Rattle.std.proofs.Common.{◌∙◌, None, false, map, length, refl, ap, sub
 use Rattle.pals_model.specs.declared.design.DesignParts.{DesignParts}
 use Rattle.pals_model.specs.declared.design.Link.{Link}
 use Rattle.pals_model.specs.DesignRules.{IsDesign}
-use Rattle.pals_node.specs.proof.NodeValues.{NodeValue}
+use Rattle.pals_node.specs.proof.NodeAndJobValues.{NodeValue}
 use Rattle.pals_bus.specs.declared.bus_fields.BusFields.{BusFields}
 use Rattle.pals_bus.specs.proof.OutOfRangeDefaults.{no_flight, no_queue}
 use Rattle.pals_bus.specs.proof.LinksFromNodes.{AreOutgoing}

@@ -2,7 +2,7 @@ use Rattle.std.proofs.Common.{◌≡◌, List, Some, None, inr, refl, ap, subst,
 use Rattle.std.proofs.lemmas.Grind.{common_steps}
 use Rattle.pals_runs.specs.declared.journal.JournalEntry.TheVariants as entry
 use Rattle.pals_node.specs.proof.Answers.{StartEnds}
-use Rattle.pals_node.specs.proof.NodeValues.{NodeValue}
+use Rattle.pals_node.specs.proof.NodeAndJobValues.{NodeValue}
 use Rattle.pals_bus.specs.declared.bus_fields.BusFields.{BusFields}
 use Rattle.pals_bus.specs.proof.NodeLists.{node_of}
 use Rattle.pals_bus.proofs.ChangedNodeValues.{Turned}

@@ -1,7 +1,7 @@
 use Rattle.std.proofs.Common.{◌≡◌, ◌∙◌, ◌∷◌, [], ◌++◌, List, None, ap, ap₂, arith}
 use Rattle.std.proofs.lemmas.Grind.{common_steps}
 use Rattle.pals_runs.specs.declared.journal.JournalEntry.TheVariants as entry
-use Rattle.pals_node.specs.proof.NodeValues.{NodeValue}
+use Rattle.pals_node.specs.proof.NodeAndJobValues.{NodeValue}
 use Rattle.pals_node.specs.proof.Answers.{StepEnds}
 use Rattle.pals_bus.specs.declared.bus_fields.BusFields.{BusFields}
 use Rattle.pals_bus.proofs.ChangedNodeValues.{Turned}

@@ -4,9 +4,9 @@ use Rattle.std.specs.Arc.{arc_value}
 use Rattle.pals_model.specs.declared.design.DesignParts.{DesignParts}
 use Rattle.pals_model.specs.declared.design.Link.{Link}
 use Rattle.bus_machine.specs.Plans.{no_link}
-use Rattle.pals_node.specs.proof.NodeValues.{NodeValue}
+use Rattle.pals_node.specs.proof.NodeAndJobValues.{NodeValue}
 use Rattle.pals_bus.specs.declared.bus_fields.BusFields.{BusFields}
-use Rattle.pals_bus.proofs.CopyRemovalAndLoss.{Takes, none_keeps, none_value, none_in_flight, none_holds}
+use Rattle.pals_bus.proofs.OldestCopyRemoval.{Takes, none_keeps, none_value, none_in_flight, none_holds}
 use Rattle.pals_bus.proofs.Arrivals.{Comes, node_after, reached_within, slot_reached, arrival_is, comes_by}
 use Rattle.pals_bus.proofs.Arrivals.{arrive_happens, arrive_keeps_bus}
 use Rattle.pals_bus.proofs.bus_fields.BusFields.arrive.Goals as goal

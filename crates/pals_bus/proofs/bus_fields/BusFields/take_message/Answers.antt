@@ -1,7 +1,7 @@
 use Rattle.std.proofs.Common.{◌≡◌, ◌∙◌, ◌<◌, length, None, sym, ap, arith}
 use Rattle.pals_model.specs.declared.design.DesignParts.{DesignParts}
 use Rattle.pals_model.specs.Flights.{oldest}
-use Rattle.pals_bus.proofs.CopyRemovalAndLoss.{none_taken, oldest_none, taken_copies, queues_left}
+use Rattle.pals_bus.proofs.OldestCopyRemoval.{none_taken, oldest_none, taken_copies, queues_left}
 use Rattle.pals_bus.proofs.bus_fields.BusFields.take_message.Goals as goal
 
 pub returns-in_err-due-clause-copies : goal.returns-in_err-due-clause-copies

@@ -1,5 +1,5 @@
 use Rattle.std.proofs.Common.{◌<◌, List, length, sym, subst}
-use Rattle.pals_node.specs.proof.NodeValues.{NodeValue}
+use Rattle.pals_node.specs.proof.NodeAndJobValues.{NodeValue}
 use Rattle.pals_bus.proofs.TargetUpdates.{targets_kept}
 use Rattle.pals_bus.proofs.node_list.NodeList.finish_here.Goals as goal
 

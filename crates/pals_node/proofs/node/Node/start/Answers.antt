@@ -6,7 +6,7 @@ use Rattle.pals_base.specs.PeriodBoundAndReleases.{alarm}
 use Rattle.bus_machine.specs.declared.plan.Input.{Input}
 use Rattle.bus_machine.specs.declared.plan.Plan.{Plan}
 use Rattle.bus_machine.specs.NodeEvents.{lacks}
-use Rattle.pals_node.specs.proof.NodeValues.{Program}
+use Rattle.pals_node.specs.proof.NodeAndJobValues.{Program}
 use Rattle.pals_node.specs.proof.Answers.{is_early}
 use Rattle.pals_node.proofs.node.Node.start.Goals as goal
 

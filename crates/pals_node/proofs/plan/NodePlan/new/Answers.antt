@@ -1,5 +1,5 @@
 use Rattle.std.proofs.Common.{sym, subst}
-use Rattle.step_code.specs.proof.CodeMeaning.{Means}
+use Rattle.step_code.specs.proof.CodeMatchesBehaviour.{Means}
 use Rattle.bus_machine.specs.declared.plan.Plan.{Plan}
 use Rattle.pals_node.specs.proof.NodeInvariants.{IsPlan}
 use Rattle.pals_node.proofs.Plans.{plan_keeps}

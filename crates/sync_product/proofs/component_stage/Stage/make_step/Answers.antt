@@ -3,7 +3,7 @@ use Rattle.std.proofs.lemmas.List.{with_items_is, get_or_default}
 use Rattle.std.specs.Vec.{with_items}
 use Rattle.pals_base.specs.declared.basic_types.PortValue.{PortValue}
 use Rattle.sync_product.specs.proof.ProductSizes.{FrameSize, StageSize, frame_size}
-use Rattle.sync_product.proofs.SizePreservation.{same_sizes}
+use Rattle.sync_product.proofs.SizePreservingWrites.{same_sizes}
 use Rattle.sync_product.proofs.component_stage.Stage.make_step.Goals as goal
 
 pub returns-clause-stage_size : goal.returns-clause-stage_size

@@ -5,7 +5,7 @@ use Rattle.pals_base.specs.SingleStep.{fire}
 use Rattle.pals_base.specs.StepSequences.{frame_after, outputs}
 use Rattle.pals_base.specs.Tuples.{column, columns}
 use Rattle.pals_base.proofs.UpwardNumbers.{map_upwards_more}
-use Rattle.pals_base.proofs.StepSequences.{frame_after-append, outputs-append}
+use Rattle.pals_base.proofs.SequencesAndHaltedFrames.{frame_after-append, outputs-append}
 use Rattle.sync_product.specs.proof.Rounds.{brought}
 use Rattle.sync_product.specs.proof.ProductSizes.{StageSize, stage_size}
 use Rattle.sync_product.proofs.TupleLengths.{count_of_rows, length_of_row}

@@ -1,8 +1,8 @@
 use Rattle.std.proofs.Common.{sym, subst}
 use Rattle.pals_runs.specs.declared.events_and_faults.Event.TheVariants as event
-use Rattle.timed_world.specs.proof.WorldValues.{WorldValue}
+use Rattle.timed_world.specs.proof.WorldValuesAndMoves.{WorldValue}
 use Rattle.timed_world.proofs.EventEffects.{HasNoFault, arrived, moves_keep}
-use Rattle.timed_world.proofs.MemoryRefusals.{arrival_only}
+use Rattle.timed_world.proofs.RefusalsForMemoryAlone.{arrival_only}
 use Rattle.timed_world.proofs.world.World.arrive.Goals as goal
 
 pub refused_arrival-requires : goal.refused_arrival-requires

@@ -5,7 +5,7 @@ use Rattle.pals_runs.specs.declared.events_and_faults.EventFault.TheVariants as 
 use Rattle.pals_base.specs.declared.period_bound_and_releases.Gamma.{Gamma}
 use Rattle.pals_model.specs.declared.design.DesignParts.{DesignParts}
 use Rattle.run_laws.specs.EventFaults.{Reading, apart, clock_apart}
-use Rattle.timed_world.specs.proof.WorldValues.{WorldValue}
+use Rattle.timed_world.specs.proof.WorldValuesAndMoves.{WorldValue}
 use Rattle.timed_world.proofs.FaultSearch.{readings_left, readings_more, goes_past, has_found, within_found}
 use Rattle.timed_world.proofs.FaultSearch.{within_past}
 use Rattle.timed_world.proofs.world.World.clock_apart.Goals as goal

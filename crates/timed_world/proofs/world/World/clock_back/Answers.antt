@@ -3,7 +3,7 @@ use Rattle.std.specs.Prelude.{slice_index_or}
 use Rattle.pals_runs.specs.declared.events_and_faults.EventFault.{EventFault}
 use Rattle.pals_runs.specs.declared.events_and_faults.EventFault.TheVariants as fault
 use Rattle.run_laws.specs.EventFaults.{Reading, clock_back}
-use Rattle.timed_world.specs.proof.WorldValues.{WorldValue, world_of}
+use Rattle.timed_world.specs.proof.WorldValuesAndMoves.{WorldValue, world_of}
 use Rattle.timed_world.proofs.FaultSearch.{readings_left, readings_more, goes_past, has_found, below_found, below_past}
 use Rattle.timed_world.proofs.world.World.clock_back.Goals as goal
 

@@ -1,6 +1,6 @@
 use Rattle.std.proofs.Common.{◌≡◌}
 use Rattle.run_laws.specs.EventFaults.{clock_back}
-use Rattle.timed_world.specs.proof.WorldValues.{world_of}
+use Rattle.timed_world.specs.proof.WorldValuesAndMoves.{world_of}
 use Rattle.timed_world.proofs.FaultSearch.{readings_left}
 use Rattle.timed_world.proofs.world.World.clock_back.Given as goal
 

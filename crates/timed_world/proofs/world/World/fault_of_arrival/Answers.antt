@@ -5,7 +5,7 @@ use Rattle.pals_model.specs.declared.flight_copy.FlightCopy.{FlightCopy}
 use Rattle.pals_model.specs.declared.design.DesignParts.{DesignParts}
 use Rattle.bus_machine.specs.LinkEvents.{is_in_flight}
 use Rattle.bus_machine.specs.BusStates.{flight_at}
-use Rattle.timed_world.specs.proof.WorldValues.{WorldValue, KeepsWorld, world_of}
+use Rattle.timed_world.specs.proof.WorldValuesAndMoves.{WorldValue, KeepsWorld, world_of}
 use Rattle.timed_world.proofs.SingleCopiesInFlight.{arrival_fits}
 use Rattle.timed_world.proofs.world.World.fault_of_arrival.Goals as goal
 

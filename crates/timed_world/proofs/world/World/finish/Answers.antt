@@ -6,7 +6,7 @@ use Rattle.bus_machine.specs.NodeEvents.{running_step}
 use Rattle.bus_machine.specs.BusStates.{node_at}
 use Rattle.run_laws.specs.Worlds.{is_last_sent}
 use Rattle.timed_world.specs.declared.node_standing.NodeStanding.{NodeStanding}
-use Rattle.timed_world.specs.proof.WorldValues.{WorldValue}
+use Rattle.timed_world.specs.proof.WorldValuesAndMoves.{WorldValue}
 use Rattle.timed_world.proofs.EventEffects.{HasNoFault, ends_sent, moves_on, stays_put, ended, moves_keep}
 use Rattle.timed_world.proofs.world.World.finish.Goals as goal
 

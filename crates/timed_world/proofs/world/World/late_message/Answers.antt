@@ -1,7 +1,7 @@
 use Rattle.std.proofs.Common.{ℕ, ◌+◌, ◌<◌, length, Option, sym, ◌∙◌, arith}
 use Rattle.pals_runs.specs.declared.events_and_faults.EventFault.{EventFault}
 use Rattle.run_laws.specs.EventFaults.{link_past}
-use Rattle.timed_world.specs.proof.WorldValues.{world_of}
+use Rattle.timed_world.specs.proof.WorldValuesAndMoves.{world_of}
 use Rattle.timed_world.proofs.FaultSearch.{numbers_left, numbers_all, numbers_more, goes_past, has_found}
 use Rattle.timed_world.proofs.world.World.late_message.Goals as goal
 

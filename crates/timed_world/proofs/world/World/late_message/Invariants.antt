@@ -1,6 +1,6 @@
 use Rattle.std.proofs.Common.{◌≡◌, length}
 use Rattle.run_laws.specs.EventFaults.{link_past}
-use Rattle.timed_world.specs.proof.WorldValues.{world_of}
+use Rattle.timed_world.specs.proof.WorldValuesAndMoves.{world_of}
 use Rattle.timed_world.proofs.FaultSearch.{numbers_left}
 use Rattle.timed_world.proofs.world.World.late_message.Given as goal
 

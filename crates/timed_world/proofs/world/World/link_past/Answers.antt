@@ -3,7 +3,7 @@ use Rattle.std.proofs.lemmas.Grind.{common_steps}
 use Rattle.bus_machine.specs.BusStates.{node_at}
 use Rattle.bus_machine.specs.Plans.{link_at}
 use Rattle.timed_world.specs.proof.MessagesPastDeadline.{flying_past}
-use Rattle.timed_world.specs.proof.WorldValues.{WorldValue, KeepsWorld, world_of}
+use Rattle.timed_world.specs.proof.WorldValuesAndMoves.{WorldValue, KeepsWorld, world_of}
 use Rattle.timed_world.proofs.SingleCopiesInFlight.{first_is_past, first_is_not}
 use Rattle.timed_world.proofs.world.World.link_past.Goals as goal
 

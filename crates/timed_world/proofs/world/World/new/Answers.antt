@@ -6,7 +6,7 @@ use Rattle.pals_model.specs.Delays.{AreDelays}
 use Rattle.pals_model.specs.DesignRules.{IsDesign}
 use Rattle.pals_bus.specs.proof.OpeningNodes.{opening_bus}
 use Rattle.run_laws.specs.Worlds.{zeros}
-use Rattle.timed_world.specs.proof.WorldValues.{KeepsWorld, opening_value}
+use Rattle.timed_world.specs.proof.WorldValuesAndMoves.{KeepsWorld, opening_value}
 use Rattle.timed_world.proofs.OpeningWorlds.{least_delays, no_sendings, opening_kept, same_world}
 use Rattle.timed_world.proofs.world.World.new.Goals as goal
 

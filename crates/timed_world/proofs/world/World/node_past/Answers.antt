@@ -2,7 +2,7 @@ use Rattle.std.proofs.Common.{◌≡◌, ap, ◌∙◌}
 use Rattle.pals_runs.specs.declared.events_and_faults.EventSubject.TheVariants as subject
 use Rattle.pals_model.specs.declared.design.DesignParts.{DesignParts}
 use Rattle.run_laws.specs.EventFaults.{past}
-use Rattle.timed_world.specs.proof.WorldValues.{WorldValue, world_of}
+use Rattle.timed_world.specs.proof.WorldValuesAndMoves.{WorldValue, world_of}
 use Rattle.timed_world.proofs.NodeStandings.{last_is}
 use Rattle.timed_world.proofs.world.World.node_past.Goals as goal
 

@@ -1,6 +1,6 @@
 use Rattle.std.proofs.Common.{sym, subst}
 use Rattle.pals_runs.specs.declared.events_and_faults.Event.TheVariants as event
-use Rattle.timed_world.specs.proof.WorldValues.{WorldValue}
+use Rattle.timed_world.specs.proof.WorldValuesAndMoves.{WorldValue}
 use Rattle.timed_world.proofs.EventEffects.{HasNoFault, passed, moves_keep}
 use Rattle.timed_world.proofs.world.World.pass.Goals as goal
 

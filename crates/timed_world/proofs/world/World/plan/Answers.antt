@@ -1,7 +1,7 @@
 use Rattle.std.proofs.Common.{◌<◌, length, sym, subst}
 use Rattle.pals_node.specs.proof.NodeInvariants.{IsPlan}
 use Rattle.pals_node.proofs.Plans.{plan_keeps}
-use Rattle.timed_world.specs.proof.WorldValues.{WorldValue}
+use Rattle.timed_world.specs.proof.WorldValuesAndMoves.{WorldValue}
 use Rattle.timed_world.proofs.world.World.plan.Goals as goal
 
 pub returns-clause-keeps : goal.returns-clause-keeps

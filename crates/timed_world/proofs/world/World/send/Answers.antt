@@ -4,9 +4,9 @@ use Rattle.bus_machine.specs.BusStates.{node_at}
 use Rattle.run_laws.specs.Worlds.{is_held}
 use Rattle.run_laws.proofs.FaultlessEventConditions.{sends_in_time}
 use Rattle.timed_world.specs.declared.node_standing.NodeStanding.{NodeStanding}
-use Rattle.timed_world.specs.proof.WorldValues.{WorldValue, world_of}
+use Rattle.timed_world.specs.proof.WorldValuesAndMoves.{WorldValue, world_of}
 use Rattle.timed_world.proofs.EventEffects.{HasNoFault, reads, moves_on, stays_put, sent, moves_keep}
-use Rattle.timed_world.proofs.MemoryRefusals.{send_reads}
+use Rattle.timed_world.proofs.RefusalsForMemoryAlone.{send_reads}
 use Rattle.timed_world.proofs.world.World.send.Goals as goal
 
 pub send-requires-clause-reading : goal.send-requires-clause-reading

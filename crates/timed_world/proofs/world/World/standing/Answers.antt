@@ -3,7 +3,7 @@ use Rattle.std.proofs.lemmas.List.{get_or_default}
 use Rattle.bus_machine.specs.Plans.{plan_of}
 use Rattle.timed_world.specs.declared.node_standing.NodeStanding.{NodeStanding}
 use Rattle.timed_world.specs.proof.NodeStandings.{IsSound}
-use Rattle.timed_world.specs.proof.WorldValues.{WorldValue}
+use Rattle.timed_world.specs.proof.WorldValuesAndMoves.{WorldValue}
 use Rattle.timed_world.proofs.NodeStandings.{sound_again}
 use Rattle.timed_world.proofs.world.World.standing.Goals as goal
 

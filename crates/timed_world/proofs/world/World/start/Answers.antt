@@ -2,9 +2,9 @@ use Rattle.std.proofs.Common.{ap, sym, ◌∙◌, subst}
 use Rattle.pals_runs.specs.declared.events_and_faults.Event.TheVariants as event
 use Rattle.pals_bus.specs.BusValues.{BusValue}
 use Rattle.run_laws.proofs.FaultlessEventConditions.{starts_in_time}
-use Rattle.timed_world.specs.proof.WorldValues.{WorldValue, KeepsWorld, Moves, world_of}
+use Rattle.timed_world.specs.proof.WorldValuesAndMoves.{WorldValue, KeepsWorld, Moves, world_of}
 use Rattle.timed_world.proofs.EventEffects.{HasNoFault, reads, begun, moves_keep}
-use Rattle.timed_world.proofs.MemoryRefusals.{start_only}
+use Rattle.timed_world.proofs.RefusalsForMemoryAlone.{start_only}
 use Rattle.timed_world.proofs.world.World.start.Goals as goal
 
 pub refused_start-requires : goal.refused_start-requires

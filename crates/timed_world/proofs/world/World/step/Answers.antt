@@ -1,9 +1,9 @@
 use Rattle.std.proofs.Common.{sym, subst}
 use Rattle.pals_runs.specs.declared.events_and_faults.Event.TheVariants as event
 use Rattle.run_laws.proofs.FaultlessEventConditions.{steps_in_time}
-use Rattle.timed_world.specs.proof.WorldValues.{WorldValue, world_of}
+use Rattle.timed_world.specs.proof.WorldValuesAndMoves.{WorldValue, world_of}
 use Rattle.timed_world.proofs.EventEffects.{HasNoFault, reads, stepped, moves_keep}
-use Rattle.timed_world.proofs.MemoryRefusals.{step_only}
+use Rattle.timed_world.proofs.RefusalsForMemoryAlone.{step_only}
 use Rattle.timed_world.proofs.world.World.step.Goals as goal
 
 pub refused_step-requires : goal.refused_step-requires

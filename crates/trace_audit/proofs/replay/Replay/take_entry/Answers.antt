@@ -1,7 +1,7 @@
 use Rattle.std.proofs.Common.{Ok, length, sym, ap, ◌∙◌, subst}
 use Rattle.std.specs.Prelude.{IfSome}
 use Rattle.pals_model.specs.declared.design.DesignParts.{DesignParts}
-use Rattle.bus_machine.specs.Runs.{Run}
+use Rattle.bus_machine.specs.RunParameters.{Run}
 use Rattle.run_laws.specs.EntriesOfDesigns.{IsEntryIn}
 use Rattle.run_laws.specs.TraceVerdicts.{noted}
 use Rattle.run_laws.proofs.SoundTraces.{length-noted}

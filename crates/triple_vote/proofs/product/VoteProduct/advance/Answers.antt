@@ -4,7 +4,7 @@ use Rattle.pals_model.specs.declared.design.DesignParts.{DesignParts}
 use Rattle.triple_vote.specs.proof.ReplicaLayers.{tap_sizes}
 use Rattle.triple_vote.specs.proof.VotedStates.{VotedState, voted_advanced}
 use Rattle.triple_vote.specs.proof.ThreeLayers.{AreThree, HasReceivedSizes}
-use Rattle.triple_vote.proofs.OpeningAndNextStates.{tables_stay, replicas_turn, state_advanced_by}
+use Rattle.triple_vote.proofs.ProductStatesAndInvariant.{tables_stay, replicas_turn, state_advanced_by}
 use Rattle.triple_vote.proofs.product.VoteProduct.advance.Goals as goal
 
 pub invariant_of-self-2 : goal.invariant_of-self-2

@@ -3,7 +3,7 @@ use Rattle.std.specs.Arc.{arc_value}
 use Rattle.pals_model.specs.declared.part.Part.{Part}
 use Rattle.triple_vote.specs.VotedComposition.{copies_of, frame_at}
 use Rattle.triple_vote.specs.proof.VotedStates.{VotedState}
-use Rattle.triple_vote.proofs.OpeningAndNextStates.{frame_read, before_three, parts_there}
+use Rattle.triple_vote.proofs.ProductStatesAndInvariant.{frame_read, before_three, parts_there}
 use Rattle.triple_vote.proofs.product.VoteProduct.frame.Goals as goal
 
 pub returns : goal.returns

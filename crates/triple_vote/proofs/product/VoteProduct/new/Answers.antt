@@ -5,14 +5,14 @@ use Rattle.pals_base.specs.declared.basic_types.PortValue.TheVariants.{Absent}
 use Rattle.pals_model.specs.declared.design.Tap.{Tap}
 use Rattle.pals_model.specs.declared.design.DesignParts.{DesignParts}
 use Rattle.pals_model.specs.ComponentInputs.{all_sources}
-use Rattle.pals_model.specs.PortKinds.{rate_of}
+use Rattle.pals_model.specs.PortKindsAndRates.{rate_of}
 use Rattle.pals_model.specs.Composition.{opening}
 use Rattle.sync_product.specs.proof.ProductSizes.{stage_sizes}
 use Rattle.triple_vote.specs.proof.VotedStates.{voted_begun}
 use Rattle.triple_vote.specs.proof.ReplicaLayers.{lengths}
 use Rattle.triple_vote.specs.proof.ThreeLayers.{AreOpened}
 use Rattle.triple_vote.proofs.OpeningReplicas.{shown_fits, are_heard}
-use Rattle.triple_vote.proofs.OpeningAndNextStates.{state_begun}
+use Rattle.triple_vote.proofs.ProductStatesAndInvariant.{state_begun}
 use Rattle.triple_vote.proofs.product.VoteProduct.new.Goals as goal
 
 abbrev silent : DesignParts → List (List (List PortValue))

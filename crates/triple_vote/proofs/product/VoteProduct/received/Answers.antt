@@ -3,11 +3,11 @@ use Rattle.std.specs.Arc.{arc_value}
 use Rattle.std.proofs.lemmas.Option.{slice_get-get_or}
 use Rattle.pals_base.specs.declared.basic_types.PortValue.{PortValue}
 use Rattle.pals_model.specs.declared.design.Link.{Link}
-use Rattle.pals_model.specs.PortKinds.{rate_of}
+use Rattle.pals_model.specs.PortKindsAndRates.{rate_of}
 use Rattle.triple_vote.specs.VotedComposition.{copies_of, received_at}
 use Rattle.triple_vote.specs.proof.VotedStates.{VotedState}
 use Rattle.triple_vote.specs.proof.ThreeLayers.{parts_in}
-use Rattle.triple_vote.proofs.OpeningAndNextStates.{received_read, before_three}
+use Rattle.triple_vote.proofs.ProductStatesAndInvariant.{received_read, before_three}
 use Rattle.triple_vote.proofs.VotedMessagesAndTaps.{no_link}
 use Rattle.triple_vote.proofs.ThreeLayerUpdates.{received_sizes}
 use Rattle.triple_vote.proofs.TupleLengths.{tuple_within}

@@ -1,6 +1,6 @@
 use denote.Param.Send.{sendable}
 use Rattle.std.proofs.Crossing.{crosses}
-use Rattle.node_threads.proofs.ThreadSafety.{locked_send, bells_sync}
+use Rattle.node_threads.proofs.SendAndSync.{locked_send, bells_sync}
 use Rattle.node_threads.proofs.workers.fn.work_all.scope.Goals as goal
 
 pub spawn-requires-send-F : goal.spawn-requires-send-F
