@@ -1,6 +1,6 @@
 //! The chains of an instance. Numbers count in the text's order, from 0.
 
-use pals_base::{Items, NodeNo, Text};
+use pals_base::{ItemList, NodeNo, Text};
 
 /// Connections, one behind the other, from where a message begins to where it ends.
 pub struct Chain {

@@ -12,16 +12,16 @@ use crate::chain_search_context::{ChainSearchContext, NumberedThread};
 use crate::numbered_ends::{node_end, root_end, start_end};
 use aadl_chains::{ChainRoute, ChainStart, trace_back, trace_tap};
 use aadl_uses::standing;
-use pals_base::{Items, NodeNo};
+use pals_base::{ItemList, NodeNo};
 use std::alloc::{AllocError, Global};
 
 /// The chains into threads.
 #[derive(Drop)]
 pub struct Incoming {
     /// From threads.
-    pub links: Items<Chain>,
+    pub links: ItemList<Chain>,
     /// From the root.
-    pub feeds: Items<Chain>,
+    pub feeds: ItemList<Chain>,
 }
 
 /// All links and feeds, in order of their targets.
@@ -31,8 +31,8 @@ pub fn incoming_of(alloc: Global, network: &ChainSearchContext<'_>) -> Result<In
     ensures feeds { IfOk result (λ incoming. Shows network.now IsFeed TargetBefore incoming.feeds) }
 {
     let mut incoming = Incoming {
-        links: Items::new(alloc),
-        feeds: Items::new(alloc),
+        links: ItemList::new(alloc),
+        feeds: ItemList::new(alloc),
     };
     for (number, thread) in network.threads.iter().enumerate() {
         add_thread(
@@ -131,11 +131,14 @@ impl Incoming {
 }
 
 /// All taps, in order of the ports to which they go.
-pub fn taps_of(alloc: Global, network: &ChainSearchContext<'_>) -> Result<Items<Chain>, AllocError>
+pub fn taps_of(
+    alloc: Global,
+    network: &ChainSearchContext<'_>,
+) -> Result<ItemList<Chain>, AllocError>
     requires { IsReady network.now }
     ensures { IfOk result (λ taps. Shows network.now IsTap PortBefore taps) }
 {
-    let mut taps = Items::new(alloc);
+    let mut taps = ItemList::new(alloc);
     for port in 0..network.wires.uses.ports(network.root).len() {
         add_tap(alloc, &mut taps, network, port)?;
     }
@@ -145,7 +148,7 @@ pub fn taps_of(alloc: Global, network: &ChainSearchContext<'_>) -> Result<Items<
 // Adds the tap to a port of the root, if there is one.
 fn add_tap(
     alloc: Global,
-    taps: &mut Items<Chain>,
+    taps: &mut ItemList<Chain>,
     network: &ChainSearchContext<'_>,
     port: usize,
 ) -> Result<(), AllocError>

@@ -4,7 +4,7 @@ ghost use Rattle.aadl_instance.specs.InstancesByNumbers.{IsInstance};
 
 use crate::chain::Chain;
 use aadl_uses::{PackageConnections, ThreadAt};
-use pals_base::Items;
+use pals_base::ItemList;
 
 /// The instance of a package below one root. Its type keeps that the package has no fault, and that
 /// these are all threads, links, feeds and taps, each once, in their order.
@@ -14,13 +14,13 @@ pub struct Instance<'t> {
     /// The number of the root's implementation among the package's declarations.
     pub root: usize,
     /// The threads, in depth-first order of declaration.
-    pub threads: Items<ThreadAt>,
+    pub threads: ItemList<ThreadAt>,
     /// The chains between threads, in order of target thread, then of the in port's declaration.
-    pub links: Items<Chain>,
+    pub links: ItemList<Chain>,
     /// The chains from the root's in ports to threads, in the same order.
-    pub feeds: Items<Chain>,
+    pub feeds: ItemList<Chain>,
     /// The chains from threads to the root's out ports, in order of these ports' declaration.
-    pub taps: Items<Chain>,
+    pub taps: ItemList<Chain>,
     pub ghost flat: { ∥ IsInstance (placed wires.uses.names.tree.now) root threads links feeds taps ∥₁ },
 }
 

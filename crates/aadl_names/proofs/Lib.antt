@@ -3,7 +3,6 @@ pub mod NameTables
 pub mod AtMostOneEntry
 pub mod MemberNumbers
 pub mod UnequalWordLists
-pub mod NumberedDeclarations
 pub mod EarliestDeclarations
 pub mod ListBuildingLoops
 pub mod ListMembers
@@ -13,3 +12,4 @@ pub mod FirstPackageFault
 pub mod RisingPlaces
 pub mod PiecewiseComparison
 pub mod FirstMatches
+pub mod DeclarationsAndMembers

@@ -19,7 +19,7 @@ use crate::qualified_names::spelled_implementation;
 use aadl_tree::{
     Declaration, Feature, Identifier, Implementation, PackageTree, Reference, Subcomponent,
 };
-use pals_base::Items;
+use pals_base::ItemList;
 use std::alloc::{AllocError, Global};
 
 /// A package with its names.
@@ -29,7 +29,7 @@ pub struct Names<'t> {
     types: NameTable<usize>,
     implementations: NameTable<usize>,
     // the ports of each type, and the subcomponents of each implementation
-    members: Items<NameTable<usize>>,
+    members: ItemList<NameTable<usize>>,
     ghost of_types: { (name : List ℕ) → value_of types name ≡ first_number (is_type name) (placed tree.now).declarations } by { Prim.hlevel props },
     ghost of_implementations: { (name : List ℕ) → value_of implementations name
         ≡ first_number (is_implementation name) (placed tree.now).declarations } by { Prim.hlevel props },
@@ -213,11 +213,11 @@ fn implementations_of(
 fn members_of(
     alloc: Global,
     declarations: &[Declaration],
-) -> Result<Items<NameTable<usize>>, AllocError>
+) -> Result<ItemList<NameTable<usize>>, AllocError>
     ensures { IfOk result (λ members. (number : ℕ) (name : List ℕ) → value_of (slice_index_or members number []) name
         ≡ member_of (slice_get (map (declaration_view kept_place) declarations.now) number) name) }
 {
-    let mut members = Items::new(alloc);
+    let mut members = ItemList::new(alloc);
     for declaration in declarations {
         members.push(member_numbers(alloc, declaration)?)?;
     }

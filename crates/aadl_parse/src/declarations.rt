@@ -10,7 +10,7 @@ ghost use Rattle.aadl_tree.specs.proof.DeclarationViews.{declaration_view, imple
 ghost use Rattle.aadl_tree.specs.proof.PlaceMaps.{kept_place};
 ghost use Rattle.aadl_grammar.specs.proof.GrammarSymbols as s;
 ghost use Rattle.aadl_grammar.specs.proof.ParserAnswers.{Parses, AnyRoom, Room};
-ghost use Rattle.aadl_parse.specs.proof.DeclarationAndPackageParts.{rest_parts};
+ghost use Rattle.aadl_parse.specs.proof.DeclarationRestsAndPackageParts.{rest_parts};
 
 use crate::annexes::annexes;
 use crate::declaration_members::{category, connections, features, own_properties, subcomponents};

@@ -9,7 +9,7 @@ ghost use Rattle.aadl_tree.specs.proof.DeclarationViews.{with_view};
 ghost use Rattle.aadl_tree.specs.proof.PlaceMaps.{kept_place};
 ghost use Rattle.aadl_grammar.specs.proof.GrammarSymbols as s;
 ghost use Rattle.aadl_grammar.specs.proof.ParserAnswers.{Parses, AnyRoom, Room};
-ghost use Rattle.aadl_parse.specs.proof.DeclarationAndPackageParts.{package_of};
+ghost use Rattle.aadl_parse.specs.proof.DeclarationRestsAndPackageParts.{package_of};
 
 use crate::declarations::declarations;
 use aadl_grammar::{Parsed, Reader, followers, name};

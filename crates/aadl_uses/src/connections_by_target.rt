@@ -8,7 +8,7 @@ ghost use Rattle.aadl_uses.specs.proof.FirstConnections as inner;
 
 use aadl_names::NumberedPort;
 use indexmap::IndexMap;
-use pals_base::Items;
+use pals_base::ItemList;
 use std::alloc::{AllocError, Global};
 use std::marker::Model;
 
@@ -21,7 +21,7 @@ pub struct ConnectionPorts {
 
 /// The connections of a declaration. Contracts see their list.
 pub struct Connections {
-    wires: Items<ConnectionPorts>,
+    wires: ItemList<ConnectionPorts>,
     // of those that go into one port, the first
     firsts: IndexMap<NumberedPort, usize>,
 }
@@ -52,7 +52,7 @@ impl Model for Connections {
 
 impl Connections {
     /// Connections in their order.
-    pub fn of(alloc: Global, wires: Items<ConnectionPorts>) -> Result<Connections, AllocError>
+    pub fn of(alloc: Global, wires: ItemList<ConnectionPorts>) -> Result<Connections, AllocError>
         ensures { IfOk result (λ connections. connections ≡ wires) }
     {
         let firsts = firsts_of(alloc, wires.as_slice())?;

@@ -8,7 +8,7 @@ ghost use Rattle.aadl_uses.specs.proof.ImplementationTypes.{type_in};
 use aadl_names::Names;
 use aadl_names::declarations_by_number::type_number;
 use aadl_tree::Declaration;
-use pals_base::Items;
+use pals_base::ItemList;
 use std::alloc::{AllocError, Global};
 
 /// The number of the type of each declaration that is an implementation.
@@ -16,10 +16,10 @@ pub fn types_of(
     alloc: Global,
     names: &Names<'_>,
     declarations: &[Declaration],
-) -> Result<Items<Option<usize>>, AllocError>
+) -> Result<ItemList<Option<usize>>, AllocError>
     ensures { IfOk result (λ types. types ≡ map (type_in (placed names.now.tree.now)) (map (declaration_view kept_place) declarations.now)) }
 {
-    let mut types = Items::new(alloc);
+    let mut types = ItemList::new(alloc);
     for declaration in declarations {
         types.push(type_of(alloc, names, declaration)?)?;
     }

@@ -16,14 +16,14 @@ use crate::ports_of_connections::wiring_of;
 use crate::resolved_package::Uses;
 use aadl_names::NumberedPort;
 use aadl_tree::{Connection, Direction};
-use pals_base::Items;
+use pals_base::ItemList;
 use std::alloc::{AllocError, Global};
 
 /// A package with the ports of its implementations, and its connections.
 pub struct PackageConnections<'t> {
     /// What the subcomponents of the package name.
     pub uses: Uses<'t>,
-    connections: Items<Connections>,
+    connections: ItemList<Connections>,
     ghost of_connections: { connections ≡ map (wires_in (placed uses.names.tree.now)) (placed uses.names.tree.now).declarations } by { Prim.hlevel props },
 }
 

@@ -12,7 +12,7 @@ use crate::connections_by_target::{ConnectionPorts, Connections};
 use crate::ports_of_ends::site_of;
 use crate::resolved_package::Uses;
 use aadl_tree::{Connection, Declaration};
-use pals_base::Items;
+use pals_base::ItemList;
 use std::alloc::{AllocError, Global};
 
 /// The connections of each declaration.
@@ -20,11 +20,11 @@ pub fn wiring_of(
     alloc: Global,
     uses: &Uses<'_>,
     declarations: &[Declaration],
-) -> Result<Items<Connections>, AllocError>
+) -> Result<ItemList<Connections>, AllocError>
     requires all { map (declaration_view kept_place) declarations.now ≡ (placed uses.now.names.tree.now).declarations }
     ensures { IfOk result (λ wiring. wiring ≡ map (wires_in (placed uses.now.names.tree.now)) (map (declaration_view kept_place) declarations.now)) }
 {
-    let mut wiring = Items::new(alloc);
+    let mut wiring = ItemList::new(alloc);
     for (number, declaration) in declarations.iter().enumerate() {
         let wires = wires_of(alloc, uses, number, declaration)?;
         wiring.push(Connections::of(alloc, wires)?)?;
@@ -38,12 +38,12 @@ fn wires_of(
     uses: &Uses<'_>,
     number: usize,
     declaration: &Declaration,
-) -> Result<Items<ConnectionPorts>, AllocError>
+) -> Result<ItemList<ConnectionPorts>, AllocError>
     requires stands { slice_get (placed uses.now.names.tree.now).declarations number ≡ Some (declaration_view kept_place declaration.now) }
     ensures { IfOk result (λ wires. wires ≡ wires_in (placed uses.now.names.tree.now) (declaration_view kept_place declaration.now)) }
 {
     match declaration {
-        Declaration::Type(_) => Ok(Items::new(alloc)),
+        Declaration::Type(_) => Ok(ItemList::new(alloc)),
         Declaration::Implementation(x) => {
             wires_of_each(alloc, uses, number, x.connections.as_slice())
         }
@@ -56,11 +56,11 @@ fn wires_of_each(
     uses: &Uses<'_>,
     number: usize,
     connections: &[Connection],
-) -> Result<Items<ConnectionPorts>, AllocError>
+) -> Result<ItemList<ConnectionPorts>, AllocError>
     ensures { IfOk result (λ wires. (x : Implementation ℕ) → implementation_at (placed uses.now.names.tree.now) number ≡ Some x
         → wires ≡ map (spec.ports_of_connection (placed uses.now.names.tree.now) x) (map (connection_view kept_place) connections.now)) }
 {
-    let mut wires = Items::new(alloc);
+    let mut wires = ItemList::new(alloc);
     for connection in connections {
         wires.push(ports_of_connection(alloc, uses, number, connection)?)?;
     }

@@ -26,7 +26,7 @@ use aadl_names::Names;
 use aadl_names::declarations_by_number::{implementation_at, subcomponent_at, type_numbered};
 use aadl_tree::{Category, Declaration, Feature, Implementation, PackageTree, Subcomponent};
 use indexmap::IndexSet;
-use pals_base::Items;
+use pals_base::ItemList;
 use pals_base::limits::COMPONENTS;
 use std::alloc::{AllocError, Global};
 
@@ -36,7 +36,7 @@ pub struct Uses<'t> {
     /// The package with its names.
     pub names: Names<'t>,
     graph: Containment,
-    types: Items<Option<usize>>,
+    types: ItemList<Option<usize>>,
     ghost of_subs: { graph ≡ spec.containment (placed names.tree.now) } by { Prim.hlevel props },
     ghost of_types: { types ≡ map (type_in (placed names.tree.now)) (placed names.tree.now).declarations } by { Prim.hlevel props },
 }

@@ -5,7 +5,7 @@ ghost use Rattle.aadl_uses.specs.ContainmentAndUse as ways;
 ghost use Rattle.aadl_uses.specs.ThreadLocations as spec;
 
 use crate::Uses;
-use pals_base::{Items, NoMemory, Text};
+use pals_base::{ItemList, NoMemory, Text};
 use std::alloc::Global;
 
 /// A thread below a root. Numbers count in the text's order, from 0.
@@ -13,7 +13,7 @@ pub struct ThreadAt {
     /// The names of the subcomponents on the way to it, with a `.` between each two.
     pub path: Text,
     /// The subcomponents on the way to it, the outermost first; the last one is the thread's own.
-    pub subs: Items<SubAt>,
+    pub subs: ItemList<SubAt>,
 }
 
 impl Drop for ThreadAt {
@@ -51,7 +51,7 @@ pub fn thread_at(
     ensures { IfOk result (λ thread. thread ≡ spec.thread_at (placed uses.now.names.tree.now) root (reverse path.now)) }
 {
     let mut names = String::new(alloc);
-    let mut subs = Items::new(alloc);
+    let mut subs = ItemList::new(alloc);
     let mut here = root;
     for (at, sub) in path.iter().enumerate() {
         let Some(declared) = uses.subcomponent(here, *sub) else {
@@ -82,11 +82,11 @@ pub fn threads_at(
     uses: &Uses<'_>,
     root: usize,
     paths: &[Vec<usize>],
-) -> Result<Items<ThreadAt>, NoMemory>
+) -> Result<ItemList<ThreadAt>, NoMemory>
     requires { All (λ path. IsSome (ways.number_at_path (placed uses.now.names.tree.now) root (reverse path.items))) paths.now }
     ensures { IfOk result (λ threads. threads ≡ map (λ path. spec.thread_at (placed uses.now.names.tree.now) root (reverse path.items)) paths.now) }
 {
-    let mut threads = Items::new(alloc);
+    let mut threads = ItemList::new(alloc);
     for path in paths {
         threads.push(thread_at(alloc, uses, root, path.as_slice())?)?;
     }

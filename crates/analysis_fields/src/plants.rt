@@ -8,7 +8,7 @@ ghost use Rattle.pals_model.specs.ComponentAndLinkNames.{node_named};
 ghost use Rattle.analysis_fields.specs.Plants.{controller_in, named_in, is_number, names_node, shares, is_between};
 ghost use Rattle.analysis_fields.specs.Plants.{are_equals, is_alone, is_fusible, pair_in, plants_in};
 
-use pals_base::{Items, NodeNo};
+use pals_base::{ItemList, NodeNo};
 use pals_model::{DesignParts, Link};
 use pals_runs::Pair;
 use scenario_values::json_values::{entries, text};
@@ -159,12 +159,12 @@ pub fn read_plants(
     alloc: Global,
     names: &DesignNames<'_>,
     value: &Value,
-) -> Result<Items<Pair>, ScenarioFault>
+) -> Result<ItemList<Pair>, ScenarioFault>
     ensures { Answers (plants_in names.now (view value.now)) result }
 {
     let members = entries(alloc, Place::Field("plants"), value)?;
     let all = all_named(alloc, names, members)?;
-    let mut pairs = Items::new(alloc);
+    let mut pairs = ItemList::new(alloc);
     for (name, item) in members.iter() {
         let pair = read_pair(alloc, names, all.as_slice(), name.as_str(), item)?;
         pairs.push(pair)?;

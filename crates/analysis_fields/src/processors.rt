@@ -12,7 +12,7 @@ ghost use Rattle.analysis_fields.specs.Processors.{processor_in, with_processor,
 use crate::limits::PROCESSORS;
 use pals_base::limits::HOUR;
 use pals_base::names::is_word;
-use pals_base::{Items, Nanos, NoMemory, NodeNo, Text};
+use pals_base::{ItemList, Nanos, NoMemory, NodeNo, Text};
 use scenario_values::json_values::{elements, entries, is_whole, owned, text, whole};
 use scenario_values::placed_faults::{Place, missing, out_of_range, wrong_kind};
 use scenario_values::{DesignNames, ScenarioFault};
@@ -24,7 +24,7 @@ use std::alloc::Global;
 pub struct Processor {
     pub name: Text,
     pub nanos: Nanos,
-    pub components: Items<NodeNo>,
+    pub components: ItemList<NodeNo>,
 }
 
 impl Drop for Processor {
@@ -79,11 +79,11 @@ fn add_members(
 }
 
 // The components of the processor of this number, in rising order.
-fn nodes_of(alloc: Global, owners: &[usize], number: usize) -> Result<Items<NodeNo>, NoMemory>
+fn nodes_of(alloc: Global, owners: &[usize], number: usize) -> Result<ItemList<NodeNo>, NoMemory>
     requires { length owners.now ≤ COMPONENTS }
     ensures { IfOk result (λ nodes. nodes ≡ nodes_of owners.now number) }
 {
-    let mut nodes = Items::new(alloc);
+    let mut nodes = ItemList::new(alloc);
     for (node, owner) in owners.iter().enumerate() {
         if *owner == number {
             nodes.push(NodeNo(node as u32))?;
@@ -169,11 +169,11 @@ fn place_all(
     names: &DesignNames<'_>,
     owners: &mut [usize],
     members: &Map<String, Value>,
-) -> Result<Items<Processor>, ScenarioFault>
+) -> Result<ItemList<Processor>, ScenarioFault>
     requires { length owners.old ≡ length names.now.components }
     ensures { Shows (λ processors. (owners.new, processors)) (through (with_processor names.now) (owners.old, []) (map entry_of members.now.entries)) result }
 {
-    let mut processors = Items::new(alloc);
+    let mut processors = ItemList::new(alloc);
     for (name, item) in members.iter() {
         let number = processors.len() + 1;
         let processor = read_processor(alloc, names, number, owners, name.as_str(), item)?;
@@ -195,7 +195,7 @@ pub fn read_processors(
     alloc: Global,
     names: &DesignNames<'_>,
     value: &Value,
-) -> Result<Items<Processor>, ScenarioFault>
+) -> Result<ItemList<Processor>, ScenarioFault>
     ensures { Answers (processors_in names.now (view value.now)) result }
 {
     let place = Place::Field("processors");

@@ -10,7 +10,7 @@ ghost use Rattle.analysis_fields.specs.Properties.{property_in, properties_in};
 use crate::formulas::{formula_in, is_small};
 use crate::limits::{LEVELS, PROPERTIES};
 use pals_base::names::is_word;
-use pals_base::{Items, Text};
+use pals_base::{ItemList, Text};
 use pals_runs::Form;
 use scenario_values::json_values::{entries, owned};
 use scenario_values::placed_faults::{Place, out_of_range};
@@ -82,7 +82,7 @@ pub fn read_properties(
     alloc: Global,
     names: &DesignNames<'_>,
     value: &Value,
-) -> Result<Items<Property>, ScenarioFault>
+) -> Result<ItemList<Property>, ScenarioFault>
     ensures { Answers (properties_in names.now (view value.now)) result }
 {
     let place = Place::Field("properties");
@@ -90,7 +90,7 @@ pub fn read_properties(
     if members.len() < 1 || members.len() > PROPERTIES || !are_words(members) {
         return Err(out_of_range(alloc, place));
     }
-    let mut properties = Items::new(alloc);
+    let mut properties = ItemList::new(alloc);
     for (name, item) in members.iter() {
         let property = read_property(alloc, names, name.as_str(), item)?;
         properties.push(property)?;

@@ -12,7 +12,7 @@ use crate::limits::REPLICAS;
 use crate::replicas::is_among;
 use indexmap::IndexSet;
 use pals_base::limits::ROUNDS;
-use pals_base::{Items, Kind, LinkNo, NodeNo, Tuple};
+use pals_base::{ItemList, Kind, LinkNo, NodeNo, Tuple};
 use pals_model::Link;
 use pals_runs::VoteFault;
 use scenario_values::json_values::{elements, is_whole, port_value, text, whole};
@@ -99,7 +99,7 @@ fn fault_values(
 ) -> Result<Tuple, ScenarioFault>
     ensures { Answers (fault_values kind (place_text place.entry) (map view values.now)) result }
 {
-    let mut tuple = Items::new(alloc);
+    let mut tuple = ItemList::new(alloc);
     for value in values {
         let port = port_value(alloc, kind, place, value)?;
         tuple.push(port)?;
@@ -314,11 +314,11 @@ pub fn read_faults(
     names: &DesignNames<'_>,
     replicas: &[NodeNo],
     value: &Value,
-) -> Result<Items<RoundFault>, ScenarioFault>
+) -> Result<ItemList<RoundFault>, ScenarioFault>
     ensures { Answers (faults_in names.now replicas.now (view value.now)) result }
 {
     let items = elements(alloc, Place::Field("faults"), value)?;
-    let mut faults = Items::new(alloc);
+    let mut faults = ItemList::new(alloc);
     let mut places = IndexSet::new(alloc);
     for item in items {
         let fault = next_fault(alloc, names, replicas, faults.as_slice(), &mut places, item)?;

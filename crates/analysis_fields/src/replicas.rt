@@ -4,7 +4,7 @@ ghost use Rattle.serde_json.specs.View.{view};
 ghost use Rattle.scenario_values.specs.ResultCombinators.{Answers, Shows};
 ghost use Rattle.analysis_fields.specs.ReplicasAndTheirFaults.{is_among, with_replica, replicas_in};
 
-use pals_base::{Items, NodeNo};
+use pals_base::{ItemList, NodeNo};
 use scenario_values::json_values::{elements, text};
 use scenario_values::placed_faults::{Place, out_of_range};
 use scenario_values::{DesignNames, ScenarioFault};
@@ -43,11 +43,11 @@ pub fn read_replicas(
     alloc: Global,
     names: &DesignNames<'_>,
     value: &Value,
-) -> Result<Items<NodeNo>, ScenarioFault>
+) -> Result<ItemList<NodeNo>, ScenarioFault>
     ensures { Answers (replicas_in names.now (view value.now)) result }
 {
     let items = elements(alloc, Place::Field("replicas"), value)?;
-    let mut replicas = Items::new(alloc);
+    let mut replicas = ItemList::new(alloc);
     for item in items {
         let node = read_replica(alloc, names, replicas.as_slice(), item)?;
         replicas.push(node)?;

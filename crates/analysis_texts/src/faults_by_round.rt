@@ -5,16 +5,16 @@ ghost use Rattle.analysis_texts.specs.ReplicasAndRoundFaults.{faults_of};
 ghost use Rattle.analysis_texts.specs.proof.RoundFaultTables.{with_round_fault};
 
 use analysis_fields::RoundFault;
-use pals_base::{Items, NoMemory};
+use pals_base::{ItemList, NoMemory};
 use pals_runs::VoteFault;
 use std::alloc::Global;
 
 /// The faults of each of the first rounds, in order.
 pub fn by_round(
     alloc: Global,
-    faults: Items<RoundFault>,
+    faults: ItemList<RoundFault>,
     rounds: u32,
-) -> Result<Vec<Items<VoteFault>>, NoMemory>
+) -> Result<Vec<ItemList<VoteFault>>, NoMemory>
     ensures { IfOk result (λ table. table.items ≡ map (faults_of faults) (upwards 0 rounds)) }
 {
     let mut table = no_faults(alloc, rounds)?;
@@ -25,18 +25,18 @@ pub fn by_round(
 }
 
 // An empty list for each round.
-fn no_faults(alloc: Global, rounds: u32) -> Result<Vec<Items<VoteFault>>, NoMemory>
+fn no_faults(alloc: Global, rounds: u32) -> Result<Vec<ItemList<VoteFault>>, NoMemory>
     ensures { IfOk result (λ table. table.items ≡ map (faults_of []) (upwards 0 rounds)) }
 {
     let mut table = Vec::new(alloc);
     for _round in 0..rounds {
-        table.push(Items::new(alloc))?;
+        table.push(ItemList::new(alloc))?;
     }
     Ok(table)
 }
 
 // Puts a fault behind those of its round, if there is such a round.
-fn add_round_fault(table: &mut Vec<Items<VoteFault>>, fault: RoundFault) -> Result<(), NoMemory>
+fn add_round_fault(table: &mut Vec<ItemList<VoteFault>>, fault: RoundFault) -> Result<(), NoMemory>
     ensures { OnOk result (table.new.items ≡ with_round_fault table.old.items fault) }
 {
     let RoundFault { round, fault } = fault;

@@ -7,7 +7,7 @@ ghost use Rattle.plant_fuse.specs.FusedComposition.{ArePairs};
 ghost use Rattle.plant_fuse.specs.proof.FuseState.{begun, IsAdvanced};
 ghost use Rattle.plant_fuse.specs.FusedReport.{IsFusedReport};
 
-use pals_base::{Items, NoMemory, PortValue};
+use pals_base::{ItemList, NoMemory, PortValue};
 use pals_model::{Design, Env};
 use pals_report::{TapPlaces, add_row};
 use pals_runs::Pair;
@@ -39,7 +39,7 @@ fn begin(alloc: Global, design: Design, pairs: &[Pair]) -> Result<FuseProduct, N
     ensures opening { IfOk result (λ product. product ≡ begun design pairs.now) }
     ensures rules { OnOk result (IsDesign design) }
 {
-    let pairs = Items::from_slice(alloc, pairs)?;
+    let pairs = ItemList::from_slice(alloc, pairs)?;
     match FuseProduct::new(alloc, Arc::new(alloc, design)?, pairs) {
         Ok(product) => Ok(product),
         Err(FuseEnd::Memory) => Err(AllocError),

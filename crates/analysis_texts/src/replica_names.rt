@@ -5,7 +5,7 @@ ghost use Rattle.analysis_fields.specs.ReplicasAndTheirFaults.{is_among};
 ghost use Rattle.analysis_texts.specs.ReplicasAndRoundFaults.{replicated_in};
 ghost use Rattle.analysis_texts.specs.proof.ReplicaNamesAndLines.{names_of, all_names};
 
-use pals_base::{Items, NoMemory, NodeNo, Text};
+use pals_base::{ItemList, NoMemory, NodeNo, Text};
 use pals_model::{Component, Design};
 use std::alloc::Global;
 
@@ -35,7 +35,7 @@ pub fn replica_names(
     alloc: Global,
     design: &Design,
     replicas: &[NodeNo],
-) -> Result<Vec<Items<Text>>, NoMemory>
+) -> Result<Vec<ItemList<Text>>, NoMemory>
     ensures { IfOk result (λ names. names.items ≡ all_names design.now.components (replicated_in design.now replicas.now)) }
 {
     let components = design.components();
@@ -48,7 +48,7 @@ fn all_names(
     alloc: Global,
     components: &[Component],
     replicated: &[bool],
-) -> Result<Vec<Items<Text>>, NoMemory>
+) -> Result<Vec<ItemList<Text>>, NoMemory>
     requires { length replicated.now ≡ length components.now }
     ensures { IfOk result (λ names. names.items ≡ all_names components.now replicated.now) }
 {
@@ -60,10 +60,10 @@ fn all_names(
 }
 
 // The names of the replicas of a component of this path: the path itself where there is one.
-fn names_of(alloc: Global, path: &Text, replicated: bool) -> Result<Items<Text>, NoMemory>
+fn names_of(alloc: Global, path: &Text, replicated: bool) -> Result<ItemList<Text>, NoMemory>
     ensures { IfOk result (λ names. names ≡ names_of path.now replicated) }
 {
-    let mut names = Items::new(alloc);
+    let mut names = ItemList::new(alloc);
     if !replicated {
         names.push(Text::from_str(alloc, path.as_str())?)?;
         return Ok(names);

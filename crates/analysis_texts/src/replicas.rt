@@ -18,7 +18,7 @@ ghost use Rattle.analysis_texts.specs.proof.ReplicaNamesAndLines.{names_of, all_
 use crate::faults_by_round::by_round;
 use crate::replica_names::{replica_names, replicated};
 use analysis_fields::RoundFault;
-use pals_base::{Items, NoMemory, NodeNo, PortValue, Text, Tuple};
+use pals_base::{ItemList, NoMemory, NodeNo, PortValue, Text, Tuple};
 use pals_model::{Component, Design, DesignParts, Env};
 use pals_report::{add_frame, add_round, add_tap_tuple};
 use pals_runs::VoteFault;
@@ -37,7 +37,7 @@ pub fn vote(
     env: &Env,
     rounds: u32,
     replicas: &[NodeNo],
-    faults: Items<RoundFault>,
+    faults: ItemList<RoundFault>,
 ) -> Result<Vec<u8>, NoMemory>
     requires { All (IsFaultOf design replicas.now) faults }
     ensures rows { IfOk result (λ text. text.items
@@ -66,7 +66,7 @@ fn voted(
     env: &Env,
     rounds: u32,
     replicas: &[NodeNo],
-    faults: Items<RoundFault>,
+    faults: ItemList<RoundFault>,
 ) -> Result<Vec<u8>, NoMemory>
     requires product { product.old ≡ voted_begun product.old.design (replicated_in product.old.design replicas.now) }
     requires faults { All (IsFaultOf product.old.design replicas.now) faults }
@@ -82,9 +82,9 @@ fn voted(
 fn rows(
     alloc: Global,
     product: &mut VoteProduct,
-    names: &[Items<Text>],
+    names: &[ItemList<Text>],
     env: &Env,
-    faults: &[Items<VoteFault>],
+    faults: &[ItemList<VoteFault>],
 ) -> Result<Vec<u8>, NoMemory>
     requires opening { product.old.voted ≡ voted_opening product.old.design product.old.replicated }
     requires names { names.now ≡ all_names product.old.design.components product.old.replicated }
@@ -109,7 +109,7 @@ fn rows(
 fn add_row(
     text: &mut Vec<u8>,
     product: &VoteProduct,
-    names: &[Items<Text>],
+    names: &[ItemList<Text>],
     round: u32,
 ) -> Result<(), NoMemory>
     requires names { names.now ≡ all_names product.now.design.components product.now.replicated }
@@ -127,7 +127,7 @@ fn add_row(
 fn add_components(
     text: &mut Vec<u8>,
     product: &VoteProduct,
-    names: &[Items<Text>],
+    names: &[ItemList<Text>],
 ) -> Result<(), NoMemory>
     requires { names.now ≡ all_names product.now.design.components product.now.replicated }
     ensures { OnOk result (text.new.items ≡ text.old.items

@@ -20,7 +20,7 @@ use crate::scope::{DeclaredName, Meaning, Scope};
 use crate::type_names::kind_named;
 use crate::violation::{BAD_TYPE, LOOP_TOO_LONG, Violation, add_if};
 use aadl_tree::{Action, Actions, Block, Choice, Expression, Loop, push_compact};
-use pals_base::{Act, Branch, Expr, Items, Kind, NoMemory};
+use pals_base::{Act, Branch, Expr, ItemList, Kind, NoMemory};
 use std::alloc::Global;
 
 // An assignment sets a variable, or sends at an out port.
@@ -72,7 +72,7 @@ fn give(
     scope: &Scope,
     entry: Option<&DeclaredName>,
     value: &Expression,
-    found: &mut Items<Violation>,
+    found: &mut ItemList<Violation>,
 ) -> Result<Act, NoMemory>
     ensures { IfOk result (λ act. let x = expression_view kept_place value.now in let e = option_copied entry.entry in
         ResolvesAction (given_to (expression_of scope.now x) e) (whole_types scope.now (kind_of e) x) act found.old found.new) }
@@ -95,7 +95,7 @@ pub fn resolve_block(
     scope: &Scope,
     around: u64,
     block: &Block,
-    found: &mut Items<Violation>,
+    found: &mut ItemList<Violation>,
 ) -> Result<Vec<Act>, NoMemory>
     requires { around ≤ NESTED_TURNS + 1 }
     ensures { IfOk result (λ acts. let x = block_view kept_place block.now in
@@ -112,7 +112,7 @@ fn resolve_some(
     scope: &Scope,
     around: u64,
     actions: &Option<Box<Actions>>,
-    found: &mut Items<Violation>,
+    found: &mut ItemList<Violation>,
 ) -> Result<Vec<Act>, NoMemory>
     requires { around ≤ NESTED_TURNS + 1 }
     ensures { IfOk result (λ acts. let x = listed_block (option_map (λ b. actions_view kept_place b.value) actions.now) in
@@ -130,7 +130,7 @@ fn resolve_actions(
     scope: &Scope,
     around: u64,
     actions: &Actions,
-    found: &mut Items<Violation>,
+    found: &mut ItemList<Violation>,
 ) -> Result<Vec<Act>, NoMemory>
     requires { around ≤ NESTED_TURNS + 1 }
     ensures { IfOk result (λ acts. let x = actions_view kept_place actions.now in
@@ -152,7 +152,7 @@ fn resolve_action(
     scope: &Scope,
     around: u64,
     action: &Action,
-    found: &mut Items<Violation>,
+    found: &mut ItemList<Violation>,
 ) -> Result<Act, NoMemory>
     requires { around ≤ NESTED_TURNS + 1 }
     ensures { IfOk result (λ act. let x = action_view kept_place action.now in
@@ -180,7 +180,7 @@ fn resolve_choice(
     scope: &Scope,
     around: u64,
     choice: &Choice,
-    found: &mut Items<Violation>,
+    found: &mut ItemList<Violation>,
 ) -> Result<Act, NoMemory>
     requires { around ≤ NESTED_TURNS + 1 }
     ensures { IfOk result (λ act. let x = choice_view kept_place choice.now in
@@ -208,7 +208,7 @@ fn resolve_branch(
     around: u64,
     actions: &Actions,
     test: &Expression,
-    found: &mut Items<Violation>,
+    found: &mut ItemList<Violation>,
 ) -> Result<Branch, NoMemory>
     requires { around ≤ NESTED_TURNS + 1 }
     ensures { IfOk result (λ branch. let e = expression_view kept_place test.now in let xs = actions_view kept_place actions.now in
@@ -225,7 +225,7 @@ fn resolve_loop(
     scope: &Scope,
     around: u64,
     turns: &Loop,
-    found: &mut Items<Violation>,
+    found: &mut ItemList<Violation>,
 ) -> Result<Act, NoMemory>
     requires { around ≤ NESTED_TURNS + 1 }
     ensures { IfOk result (λ act. let x = loop_view kept_place turns.now in

@@ -11,7 +11,7 @@ use crate::states::{StateAt, declared_states, first_initial, states_of};
 use crate::transitions::resolve_transitions;
 use crate::violation::Violation;
 use aadl_tree::{AnnexTree, Transition};
-use pals_base::{BehaviourParts, Items, NoMemory, Transition as Edge};
+use pals_base::{BehaviourParts, ItemList, NoMemory, Transition as Edge};
 use std::alloc::Global;
 
 // The transitions of an annex, none where it has no section of them.
@@ -29,7 +29,7 @@ fn parts_by(
     alloc: Global,
     values: DeclaredValues,
     states: &[StateAt],
-    transitions: Items<Edge>,
+    transitions: ItemList<Edge>,
 ) -> Result<BehaviourParts, NoMemory>
     ensures { IfOk result (λ parts. parts ≡ parts_by values states.now transitions) }
 {
@@ -54,7 +54,7 @@ pub fn resolve_annex(
     scope: &Scope,
     at: usize,
     annex: &AnnexTree,
-    found: &mut Items<Violation>,
+    found: &mut ItemList<Violation>,
 ) -> Result<BehaviourParts, NoMemory>
     ensures parts { IfOk result (λ parts. parts ≡ behaviour_of values scope.now (annex_tree_view kept_place annex.now)) }
     ensures found { OnOk result (found.new

@@ -6,7 +6,7 @@ ghost use Rattle.pals_base.specs.UpwardNumbers.{upwards};
 ghost use Rattle.annex_resolve.specs.IncompleteStateCycles.{reaches, is_on_cycle};
 ghost use Rattle.annex_resolve.specs.proof.ReachabilityTables.{marked};
 
-use pals_base::{BehaviourParts, Items, NoMemory};
+use pals_base::{BehaviourParts, ItemList, NoMemory};
 use std::alloc::{AllocError, Global};
 
 // Whether a step ends in a state. A number of no state is such an end.
@@ -21,18 +21,18 @@ pub(crate) fn is_complete(parts: &BehaviourParts, state: usize) -> bool
 
 // The rows of a table of so many states, none of which is reached.
 #[tactic(auto, using(std::proofs::lemmas::List::replicate_more))]
-fn empty_rows(alloc: Global, count: usize) -> Result<Items<Items<bool>>, NoMemory>
+fn empty_rows(alloc: Global, count: usize) -> Result<ItemList<ItemList<bool>>, NoMemory>
     ensures { IfOk result (λ rows. rows ≡ replicate count (replicate count false)) }
 {
-    let mut rows = Items::new(alloc);
+    let mut rows = ItemList::new(alloc);
     for _state in 0..count {
-        rows.push(Items::from_vec(vec![in alloc; false; count]?))?;
+        rows.push(ItemList::from_vec(vec![in alloc; false; count]?))?;
     }
     Ok(rows)
 }
 
 // Marks that one state reaches another. A number of no state marks nothing.
-fn mark(rows: &mut Items<Items<bool>>, source: usize, target: usize)
+fn mark(rows: &mut ItemList<ItemList<bool>>, source: usize, target: usize)
     ensures { rows.new ≡ marked rows.old source target }
 {
     if source < rows.len() {
@@ -47,7 +47,7 @@ fn mark(rows: &mut Items<Items<bool>>, source: usize, target: usize)
 /// ends.
 #[derive(Drop)]
 pub struct Reachability {
-    pub rows: Items<Items<bool>>,
+    pub rows: ItemList<ItemList<bool>>,
     pub between: usize,
 }
 
@@ -100,14 +100,14 @@ impl Reachability {
         alloc: Global,
         parts: &BehaviourParts,
         state: usize,
-    ) -> Result<Items<bool>, NoMemory>
+    ) -> Result<ItemList<bool>, NoMemory>
         requires table { IsTable parts.now self.now }
         requires state { state < length parts.now.states }
         requires between { self.now.between < length parts.now.states }
         ensures { IfOk result (λ row. row ≡ row_of (self.now.between + 1) parts.now state) }
     {
         let between = self.between;
-        let mut row = Items::new(alloc);
+        let mut row = ItemList::new(alloc);
         for target in 0..parts.states.len() {
             let direct = self.reaches(parts, state, target);
             let by_way = self.reaches(parts, state, between)
@@ -125,7 +125,7 @@ impl Reachability {
         ensures table { IfOk result (λ table. IsTable parts.now table) }
         ensures between { IfOk result (λ table. table.between ≡ self.now.between + 1) }
     {
-        let mut rows = Items::new(alloc);
+        let mut rows = ItemList::new(alloc);
         for state in 0..parts.states.len() {
             rows.push(self.next_row(alloc, parts, state)?)?;
         }
@@ -136,14 +136,14 @@ impl Reachability {
 
 /// For each state, whether it is on a cycle of states that are not complete.
 #[tactic(auto, using(pals_base::proofs::UpwardNumbers::map_upwards_more))]
-pub fn cyclic_states(alloc: Global, parts: &BehaviourParts) -> Result<Items<bool>, NoMemory>
+pub fn cyclic_states(alloc: Global, parts: &BehaviourParts) -> Result<ItemList<bool>, NoMemory>
     ensures { IfOk result (λ marks. marks ≡ map (is_on_cycle parts.now) (upwards 0 (length parts.now.states))) }
 {
     let mut table = Reachability::first(alloc, parts)?;
     for _round in 0..parts.states.len() {
         table = table.next(alloc, parts)?;
     }
-    let mut marks = Items::new(alloc);
+    let mut marks = ItemList::new(alloc);
     for state in 0..parts.states.len() {
         marks.push(table.reaches(parts, state, state))?;
     }

@@ -30,7 +30,7 @@ use aadl_tree::{
     Relation, RelationOperator, Sign, Sum, Term, push_compact,
 };
 use operators::{is_equality, logic_op, multiply_op, relation_op, sign_op};
-use pals_base::{Expr, Items, Kind, NoMemory, Operand};
+use pals_base::{Expr, ItemList, Kind, NoMemory, Operand};
 use std::alloc::Global;
 
 /// An expression with its names resolved, and its type: none where that is neither Integer nor
@@ -55,7 +55,7 @@ pub fn fits(given: Option<Kind>, wanted: Option<Kind>) -> bool
 /// Adds a finding where a value is not of the type that its place takes.
 pub fn expect(
     alloc: Global,
-    found: &mut Items<Violation>,
+    found: &mut ItemList<Violation>,
     at: usize,
     wanted: Option<Kind>,
     given: Option<Kind>,
@@ -68,7 +68,7 @@ pub fn expect(
 // Adds what is found on both sides of a comparison.
 fn expect_sides(
     alloc: Global,
-    found: &mut Items<Violation>,
+    found: &mut ItemList<Violation>,
     operator: RelationOperator,
     places: (usize, usize),
     left: Option<Kind>,
@@ -169,7 +169,7 @@ pub fn resolve_whole(
     scope: &Scope,
     wanted: Option<Kind>,
     expression: &Expression,
-    found: &mut Items<Violation>,
+    found: &mut ItemList<Violation>,
 ) -> Result<Expr, NoMemory>
     ensures tree { IfOk result (λ expr. tree_of expr
         ≡ expression_of scope.now (expression_view kept_place expression.now)) }
@@ -187,7 +187,7 @@ fn resolve_expression(
     alloc: Global,
     scope: &Scope,
     expression: &Expression,
-    found: &mut Items<Violation>,
+    found: &mut ItemList<Violation>,
 ) -> Result<Typed, NoMemory>
     ensures { IfOk result (λ typed. let x = expression_view kept_place expression.now in
         Resolves (expression_of scope.now x) (expression_kind scope.now x) (expression_types scope.now x) typed found.old found.new) }
@@ -215,7 +215,7 @@ fn resolve_relations(
     alloc: Global,
     scope: &Scope,
     relations: &[(LogicOperator, Relation)],
-    found: &mut Items<Violation>,
+    found: &mut ItemList<Violation>,
 ) -> Result<Vec<Operand>, NoMemory>
     ensures { IfOk result (λ operands. let xs = relations_view kept_place relations.now in
         ResolvesOperands (relations_of scope.now xs) (relations_types scope.now xs) operands.items found.old found.new) }
@@ -238,7 +238,7 @@ fn resolve_relation(
     alloc: Global,
     scope: &Scope,
     relation: &Relation,
-    found: &mut Items<Violation>,
+    found: &mut ItemList<Violation>,
 ) -> Result<Typed, NoMemory>
     ensures { IfOk result (λ typed. let x = relation_view kept_place relation.now in
         Resolves (relation_of scope.now x) (relation_kind scope.now x) (relation_types scope.now x) typed found.old found.new) }
@@ -280,7 +280,7 @@ fn resolve_sum(
     alloc: Global,
     scope: &Scope,
     sum: &Sum,
-    found: &mut Items<Violation>,
+    found: &mut ItemList<Violation>,
 ) -> Result<Typed, NoMemory>
     ensures { IfOk result (λ typed. let x = sum_view kept_place sum.now in
         Resolves (sum_of scope.now x) (total_kind scope.now x) (sum_types scope.now x) typed found.old found.new) }
@@ -309,7 +309,7 @@ fn resolve_terms(
     alloc: Global,
     scope: &Scope,
     terms: &[(Sign, Term)],
-    found: &mut Items<Violation>,
+    found: &mut ItemList<Violation>,
 ) -> Result<Vec<Operand>, NoMemory>
     ensures { IfOk result (λ operands. let xs = terms_view kept_place terms.now in
         ResolvesOperands (terms_of scope.now xs) (terms_types scope.now xs) operands.items found.old found.new) }
@@ -332,7 +332,7 @@ fn resolve_term(
     alloc: Global,
     scope: &Scope,
     term: &Term,
-    found: &mut Items<Violation>,
+    found: &mut ItemList<Violation>,
 ) -> Result<Typed, NoMemory>
     ensures { IfOk result (λ typed. let x = term_view kept_place term.now in
         Resolves (term_of scope.now x) (term_kind scope.now x) (term_types scope.now x) typed found.old found.new) }
@@ -360,7 +360,7 @@ fn resolve_factors(
     alloc: Global,
     scope: &Scope,
     factors: &[(MultiplyOperator, Factor)],
-    found: &mut Items<Violation>,
+    found: &mut ItemList<Violation>,
 ) -> Result<Vec<Operand>, NoMemory>
     ensures { IfOk result (λ operands. let xs = factors_view kept_place factors.now in
         ResolvesOperands (factors_of scope.now xs) (factors_types scope.now xs) operands.items found.old found.new) }
@@ -383,7 +383,7 @@ fn resolve_factor(
     alloc: Global,
     scope: &Scope,
     factor: &Factor,
-    found: &mut Items<Violation>,
+    found: &mut ItemList<Violation>,
 ) -> Result<Typed, NoMemory>
     ensures { IfOk result (λ typed. let x = factor_view kept_place factor.now in
         Resolves (factor_of scope.now x) (factor_kind scope.now x) (factor_types scope.now x) typed found.old found.new) }
@@ -416,7 +416,7 @@ fn resolve_primary(
     alloc: Global,
     scope: &Scope,
     primary: &Primary,
-    found: &mut Items<Violation>,
+    found: &mut ItemList<Violation>,
 ) -> Result<Typed, NoMemory>
     ensures { IfOk result (λ typed. let x = primary_view kept_place primary.now in
         Resolves (primary_of scope.now x) (primary_kind scope.now x) (primary_types scope.now x) typed found.old found.new) }
@@ -435,7 +435,7 @@ fn resolve_name(
     scope: &Scope,
     name: &Identifier,
     fresh: bool,
-    found: &mut Items<Violation>,
+    found: &mut ItemList<Violation>,
 ) -> Result<Typed, NoMemory>
     ensures { IfOk result (λ typed. let x = named (identifier_view kept_place name.now) fresh in
         Resolves (primary_of scope.now x) (primary_kind scope.now x) (primary_types scope.now x) typed found.old found.new) }

@@ -11,7 +11,7 @@ ghost use Rattle.annex_resolve.specs.BehavioursAndFindings.{is_open, lacks_other
 use crate::cycles::is_complete;
 use crate::states::{StateAt, state_number};
 use aadl_tree::Guard;
-use pals_base::{BehaviourParts, Guard as Trigger, Items, NoMemory, Transition};
+use pals_base::{BehaviourParts, Guard as Trigger, ItemList, NoMemory, Transition};
 use std::alloc::Global;
 
 /// When a transition is taken.
@@ -76,10 +76,10 @@ pub fn departures_of(
     alloc: Global,
     states: &[StateAt],
     transitions: &[aadl_tree::Transition],
-) -> Result<Items<Departure>, NoMemory>
+) -> Result<ItemList<Departure>, NoMemory>
     ensures { IfOk result (λ legs. legs ≡ map (departure_of states.now) (map (transition_view kept_place) transitions.now)) }
 {
-    let mut legs = Items::new(alloc);
+    let mut legs = ItemList::new(alloc);
     for transition in transitions {
         legs.push(departure_of(states, transition)?)?;
     }

@@ -1,11 +1,11 @@
 //! The ports and variables of a thread that its behaviour can name.
 
-use pals_base::{Items, PortDecl, VarDecl};
+use pals_base::{ItemList, PortDecl, VarDecl};
 
 /// The ports and variables of a thread, each kind numbered apart.
 #[derive(Drop)]
 pub struct DeclaredValues {
-    pub ins: Items<PortDecl>,
-    pub outs: Items<PortDecl>,
-    pub vars: Items<VarDecl>,
+    pub ins: ItemList<PortDecl>,
+    pub outs: ItemList<PortDecl>,
+    pub vars: ItemList<VarDecl>,
 }

@@ -5,7 +5,7 @@ ghost use Rattle.aadl_tree.specs.proof.NameViews.{identifier_view};
 ghost use Rattle.annex_resolve.specs.NameMeanings.{entry_named, with_loop};
 
 use aadl_tree::Identifier;
-use pals_base::{Items, Kind, NoMemory, Text, TryClone};
+use pals_base::{ItemList, Kind, NoMemory, Text, TryClone};
 use std::alloc::{AllocError, Global};
 
 /// What a name stands for. In ports, out ports and variables are numbered apart; a loop variable has
@@ -41,7 +41,7 @@ impl TryClone for DeclaredName {
 #[derive(Drop)]
 pub struct Scope {
     /// What is declared, in order.
-    pub entries: Items<DeclaredName>,
+    pub entries: ItemList<DeclaredName>,
     /// The number of the next loop's variable.
     pub next: u32,
 }

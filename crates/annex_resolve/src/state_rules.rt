@@ -14,7 +14,7 @@ use crate::violation::{
     CYCLE_WITHOUT_COMPLETE, DISPATCH_COUNT, NO_INITIAL, NO_OTHERWISE, Violation, add_if,
 };
 use aadl_tree::Transition;
-use pals_base::{BehaviourParts, Items, NoMemory, TryClone};
+use pals_base::{BehaviourParts, ItemList, NoMemory, TryClone};
 use std::alloc::Global;
 
 // The states of a behaviour and the ways between them: its parts, how their transitions depart, and for
@@ -22,14 +22,14 @@ use std::alloc::Global;
 #[derive(Clone, Copy)]
 struct StateGraph<'b> {
     parts: &'b BehaviourParts,
-    legs: &'b Items<Departure>,
-    cyclic: &'b Items<bool>,
+    legs: &'b ItemList<Departure>,
+    cyclic: &'b ItemList<bool>,
 }
 
 // Adds a finding that names a state.
 fn add_named(
     alloc: Global,
-    found: &mut Items<Violation>,
+    found: &mut ItemList<Violation>,
     wrong: bool,
     state: &StateAt,
     number: u32,
@@ -52,7 +52,7 @@ fn add_state(
     graph: &StateGraph<'_>,
     number: usize,
     state: &StateAt,
-    found: &mut Items<Violation>,
+    found: &mut ItemList<Violation>,
 ) -> Result<(), NoMemory>
     ensures { OnOk result (found.new
         ≡ found.old ++ state_rules graph.now.parts.now graph.now.legs.now graph.now.cyclic.now (number, state.now)) }
@@ -74,7 +74,7 @@ fn add_state(
 }
 
 // The mark of a state. A number of no state has none.
-fn is_marked(marks: &Items<bool>, state: usize) -> bool
+fn is_marked(marks: &ItemList<bool>, state: usize) -> bool
     ensures { result ≡ unwrap_or (slice_get marks.now state) false }
 {
     match marks.get(state) {
@@ -88,7 +88,7 @@ fn add_states(
     alloc: Global,
     graph: &StateGraph<'_>,
     states: &[StateAt],
-    found: &mut Items<Violation>,
+    found: &mut ItemList<Violation>,
 ) -> Result<(), NoMemory>
     ensures { OnOk result (found.new ≡ found.old
         ++ flat_map (state_rules graph.now.parts.now graph.now.legs.now graph.now.cyclic.now)
@@ -107,7 +107,7 @@ pub fn add_rules(
     parts: &BehaviourParts,
     states: &[StateAt],
     transitions: &[Transition],
-    found: &mut Items<Violation>,
+    found: &mut ItemList<Violation>,
 ) -> Result<(), NoMemory>
     ensures { OnOk result (found.new ≡ found.old
         ++ rule_findings at parts.now states.now (map (transition_view kept_place) transitions.now)) }

@@ -9,7 +9,7 @@ ghost use Rattle.annex_resolve.specs.BehavioursAndFindings.{state_at, states_in,
 ghost use Rattle.annex_resolve.specs.BehavioursAndFindings.{first_initial, has_initial, declared};
 
 use aadl_tree::{AnnexTree, Identifier, StateDeclaration};
-use pals_base::{Items, NoMemory, StateDecl, Text, TryClone};
+use pals_base::{ItemList, NoMemory, StateDecl, Text, TryClone};
 use std::alloc::{AllocError, Global};
 
 /// A state of an annex: its place, its name, and what is declared of it.
@@ -24,7 +24,7 @@ pub struct StateAt {
 // Adds a state of a declaration.
 fn add_state(
     alloc: Global,
-    states: &mut Items<StateAt>,
+    states: &mut ItemList<StateAt>,
     declaration: &StateDeclaration,
     name: &Identifier,
 ) -> Result<(), NoMemory>
@@ -43,7 +43,7 @@ fn add_state(
 // Adds the states of a declaration.
 fn add_states(
     alloc: Global,
-    states: &mut Items<StateAt>,
+    states: &mut ItemList<StateAt>,
     declaration: &StateDeclaration,
 ) -> Result<(), NoMemory>
     ensures { OnOk result (states.new ≡ states.old ++ states_in (state_view kept_place declaration.now)) }
@@ -56,10 +56,10 @@ fn add_states(
 }
 
 /// The states of an annex, in order.
-pub fn states_of(alloc: Global, annex: &AnnexTree) -> Result<Items<StateAt>, NoMemory>
+pub fn states_of(alloc: Global, annex: &AnnexTree) -> Result<ItemList<StateAt>, NoMemory>
     ensures { IfOk result (λ states. states ≡ states_of (annex_tree_view kept_place annex.now)) }
 {
-    let mut states = Items::new(alloc);
+    let mut states = ItemList::new(alloc);
     if let Some(declarations) = &annex.states {
         for declaration in declarations {
             add_states(alloc, &mut states, declaration)?;
@@ -139,10 +139,10 @@ pub fn has_initial(states: &[StateAt]) -> bool
 }
 
 /// The states as a behaviour has them.
-pub fn declared_states(alloc: Global, states: &[StateAt]) -> Result<Items<StateDecl>, NoMemory>
+pub fn declared_states(alloc: Global, states: &[StateAt]) -> Result<ItemList<StateDecl>, NoMemory>
     ensures { IfOk result (λ all. all ≡ map declared states.now) }
 {
-    let mut all = Items::new(alloc);
+    let mut all = ItemList::new(alloc);
     for state in states {
         all.push(StateDecl {
             name: state.name.try_clone(alloc)?,

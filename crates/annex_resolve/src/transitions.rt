@@ -14,7 +14,7 @@ use crate::scope::Scope;
 use crate::states::{StateAt, state_number};
 use crate::violation::Violation;
 use aadl_tree::{Block, Guard};
-use pals_base::{Act, Guard as Trigger, Items, Kind, NoMemory, Transition};
+use pals_base::{Act, Guard as Trigger, ItemList, Kind, NoMemory, Transition};
 use std::alloc::Global;
 
 // Resolves a guard, which is a Boolean.
@@ -22,7 +22,7 @@ fn resolve_guard(
     alloc: Global,
     scope: &Scope,
     guard: &Option<Guard>,
-    found: &mut Items<Violation>,
+    found: &mut ItemList<Violation>,
 ) -> Result<Trigger, NoMemory>
     ensures tree { IfOk result (λ trigger. trigger_tree trigger
         ≡ trigger_of scope.now (option_map (guard_view kept_place) guard.now)) }
@@ -45,7 +45,7 @@ fn resolve_effect(
     alloc: Global,
     scope: &Scope,
     effect: &Option<Block>,
-    found: &mut Items<Violation>,
+    found: &mut ItemList<Violation>,
 ) -> Result<Vec<Act>, NoMemory>
     ensures { IfOk result (λ acts. let x = option_map (block_view kept_place) effect.now in
         ResolvesActions (effect_of scope.now x) (effect_findings scope.now x) acts.items found.old found.new) }
@@ -62,7 +62,7 @@ fn resolve_transition(
     scope: &Scope,
     states: &[StateAt],
     transition: &aadl_tree::Transition,
-    found: &mut Items<Violation>,
+    found: &mut ItemList<Violation>,
 ) -> Result<Transition, NoMemory>
     ensures edge { IfOk result (λ edge. edge ≡ edge_of scope.now states.now (transition_view kept_place transition.now)) }
     ensures found { OnOk result (found.new
@@ -86,14 +86,14 @@ pub fn resolve_transitions(
     scope: &Scope,
     states: &[StateAt],
     transitions: &[aadl_tree::Transition],
-    found: &mut Items<Violation>,
-) -> Result<Items<Transition>, NoMemory>
+    found: &mut ItemList<Violation>,
+) -> Result<ItemList<Transition>, NoMemory>
     ensures edges { IfOk result (λ edges. edges
         ≡ map (edge_of scope.now states.now) (map (transition_view kept_place) transitions.now)) }
     ensures found { OnOk result (found.new
         ≡ found.old ++ flat_map (transition_findings scope.now) (map (transition_view kept_place) transitions.now)) }
 {
-    let mut edges = Items::new(alloc);
+    let mut edges = ItemList::new(alloc);
     for transition in transitions {
         edges.push(resolve_transition(alloc, scope, states, transition, found)?)?;
     }

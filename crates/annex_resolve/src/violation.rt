@@ -2,7 +2,7 @@
 ghost use Rattle.std.specs.Prelude.{◌≡◌, [], ◌++◌, OnOk};
 ghost use Rattle.annex_resolve.specs.FindingRecords.{finding, found_if};
 
-use pals_base::{Items, NoMemory, Text};
+use pals_base::{ItemList, NoMemory, Text};
 use std::alloc::Global;
 
 // ---- The rules, by their numbers.
@@ -72,7 +72,7 @@ impl Violation {
 /// Adds a finding without details where something is wrong.
 pub fn add_if(
     alloc: Global,
-    found: &mut Items<Violation>,
+    found: &mut ItemList<Violation>,
     wrong: bool,
     at: usize,
     number: u32,

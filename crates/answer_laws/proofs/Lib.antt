@@ -13,7 +13,6 @@ pub mod PrintCheckAndAnalysisStatuses
 pub mod ExecutionStatuses
 pub mod SourceAnswers
 pub mod ReadStatuses
-pub mod RunEnds
 pub mod RunAnswers
 mod InputValueKinds
 mod ReplicaFaultValueKinds
@@ -32,3 +31,4 @@ mod ExistingAnswers
 pub mod ScenarioAnswerStatuses
 pub mod UniqueCheckReports
 pub mod BundleContents
+pub mod UniqueRunEnds

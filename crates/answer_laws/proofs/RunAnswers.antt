@@ -33,7 +33,7 @@ use Rattle.answer_laws.proofs.UniqueDesignsAndRefusals.{accepted_or_refused}
 use Rattle.answer_laws.proofs.UniqueBundleScenarios.{one_meaning, meant_or_refused}
 use Rattle.answer_laws.proofs.UniqueExecutionAnswers.{long_code, long_or_short, one_code_fault}
 use Rattle.answer_laws.proofs.UniqueScenarioAnswers.{Agree}
-use Rattle.answer_laws.proofs.RunEnds.{two_ended, completed_or_ended, going_on, none_ended, shows_rounds}
+use Rattle.answer_laws.proofs.UniqueRunEnds.{two_ended, completed_or_ended, going_on, none_ended, shows_rounds}
 
 -- ---- an answer to a bundle that means a design and a scenario
 module _ (one_design : OneDesign) (root bundle : List ℕ) (design : DesignParts) (scenario : Scenario) (trace : Bool)

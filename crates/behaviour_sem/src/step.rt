@@ -7,7 +7,7 @@ ghost use Rattle.behaviour_sem.specs.proof.PartialSteps.{reacted};
 use crate::early_end::EarlyEnd;
 use crate::step_inputs::StepInputs;
 use crate::transitions::{StepState, react};
-use pals_base::{Behaviour, Frame, Items, NoMemory, PortValue, TryClone};
+use pals_base::{Behaviour, Frame, ItemList, NoMemory, PortValue, TryClone};
 use std::alloc::{AllocError, Global};
 use std::mem::replace;
 
@@ -18,7 +18,7 @@ pub fn fire(
     behaviour: &Behaviour,
     frame: &Frame,
     inputs: &[PortValue],
-) -> Result<(Frame, Items<PortValue>), NoMemory>
+) -> Result<(Frame, ItemList<PortValue>), NoMemory>
     ensures { IfOk result (λ r. record { frame = r.0; outs = r.1 } ≡ fire behaviour.now frame.now inputs.now) }
 {
     let mut after = frame.try_clone(alloc)?;
@@ -31,7 +31,7 @@ pub fn fire(
         &mut after,
         outs.as_mut_slice(),
     )?;
-    Ok((after, Items::from_vec(outs)))
+    Ok((after, ItemList::from_vec(outs)))
 }
 
 /// One step, from one frame into another of the same shape: holds each present input, and then
@@ -83,7 +83,7 @@ fn silence(outs: &mut [PortValue])
 }
 
 // Holds each present input, and keeps what was held before of the others.
-fn hold(held: &mut Items<i64>, inputs: &[PortValue])
+fn hold(held: &mut ItemList<i64>, inputs: &[PortValue])
     ensures after { held.new ≡ holding held.old inputs.now }
     ensures len { length held.new ≡ length held.old }
 {
@@ -121,7 +121,7 @@ fn react_in(
 {
     let mut place = StepState {
         state: frame.state,
-        vars: replace(&mut frame.vars, Items::new(alloc)).into_vec(),
+        vars: replace(&mut frame.vars, ItemList::new(alloc)).into_vec(),
     };
     let reads = StepInputs {
         held: frame.held.as_slice(),
@@ -130,6 +130,6 @@ fn react_in(
     let ended = react(behaviour, &mut place, outs, reads);
     let StepState { state, vars } = place;
     frame.state = state;
-    frame.vars = Items::from_vec(vars);
+    frame.vars = ItemList::from_vec(vars);
     ended
 }

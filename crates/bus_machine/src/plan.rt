@@ -1,5 +1,5 @@
 //! The plan of a node: what it needs to know of its design.
-use pals_base::{Adaptor, Behaviour, Items, Nanos, NodeNo};
+use pals_base::{Adaptor, Behaviour, ItemList, Nanos, NodeNo};
 
 /// What an in port brings to the steps of a round.
 #[derive(Clone, Copy)]
@@ -27,9 +27,9 @@ pub struct Plan {
     pub node: NodeNo,
     pub behaviour: Behaviour,
     pub rate: u32,
-    pub inputs: Items<Input>,
-    pub out_links: Items<u32>,
-    pub taps: Items<u32>,
+    pub inputs: ItemList<Input>,
+    pub out_links: ItemList<u32>,
+    pub taps: ItemList<u32>,
     pub period: Nanos,
     pub step_period: Nanos,
     pub sent_steps: u32,

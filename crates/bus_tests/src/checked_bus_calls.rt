@@ -9,7 +9,7 @@ use crate::accepted_design::design_of;
 use design_codes::compile_all;
 use loose_world::add_journal;
 use pals_base::limits::READING;
-use pals_base::{Items, LinkNo, Nanos, NoMemory, NodeNo};
+use pals_base::{ItemList, LinkNo, Nanos, NoMemory, NodeNo};
 use pals_bus::{Bus, DueEnd, Meet};
 use pals_model::{Delays, Design, Env};
 use pals_node::{Done, Finished, Job};
@@ -25,9 +25,9 @@ const MILLI: Nanos = 1_000_000;
 fn delays(alloc: Global, design: &Design) -> Result<Delays, NoMemory>
     ensures { IfOk result (AreDelays (length design.now.links)) }
 {
-    let mut lists = Items::new(alloc);
+    let mut lists = ItemList::new(alloc);
     for _link in design.links() {
-        lists.push(Items::from_slice(alloc, &[MILLI])?)?;
+        lists.push(ItemList::from_slice(alloc, &[MILLI])?)?;
     }
     Ok(Delays { lists })
 }
@@ -48,7 +48,7 @@ pub fn bus_of(
     let codes = compile_all(alloc, &design)?;
     let delays = delays(alloc, &design)?;
     let env = Env {
-        lists: Items::new(alloc),
+        lists: ItemList::new(alloc),
     };
     Ok(Bus::new(alloc, design, codes, env, rounds, delays, meeting)?)
 }

@@ -9,7 +9,7 @@ use annex_resolve::violation::{
     ADAPTOR_OUT_OF_RANGE, NO_ADAPTOR, RATES_DONT_DIVIDE, STRAY_ADAPTOR,
 };
 use pals_base::allowed_adaptors::{divides_or_divided, is_allowed, suits_kind};
-use pals_base::{Adaptor, Items, Kind, NoMemory, Text, TryClone};
+use pals_base::{Adaptor, ItemList, Kind, NoMemory, Text, TryClone};
 use std::alloc::Global;
 
 // Whether an adaptor's text is that of one which is allowed between these rates and for this type. A
@@ -38,7 +38,7 @@ fn suits(adaptor: Option<Adaptor>, kind: Option<Kind>) -> bool
 // Adds a finding with a name alone, where something is wrong.
 fn add_named(
     alloc: Global,
-    found: &mut Items<Violation>,
+    found: &mut ItemList<Violation>,
     wrong: bool,
     at: usize,
     number: u32,
@@ -73,7 +73,7 @@ impl Carrier {
     fn add_adaptor_findings(
         &self,
         alloc: Global,
-        found: &mut Items<Violation>,
+        found: &mut ItemList<Violation>,
         source: u32,
         target: u32,
     ) -> Result<(), NoMemory>
@@ -102,7 +102,7 @@ impl Carrier {
     pub fn add_pair_findings(
         &self,
         alloc: Global,
-        found: &mut Items<Violation>,
+        found: &mut ItemList<Violation>,
         source: u32,
         target: u32,
     ) -> Result<(), NoMemory>

@@ -7,12 +7,12 @@ ghost use Rattle.component_checks.specs.proof.ChainProperties as spec;
 
 use crate::chain_properties::ChainProperties;
 use aadl_tree::{Connection, Declaration, PackageTree};
-use pals_base::{Items, NoMemory};
+use pals_base::{ItemList, NoMemory};
 use std::alloc::Global;
 
 /// What stands at a number in the list of a number.
 pub fn carried_at(
-    carried: &[Items<ChainProperties>],
+    carried: &[ItemList<ChainProperties>],
     list: usize,
     number: usize,
 ) -> Option<ChainProperties>
@@ -28,10 +28,10 @@ pub fn carried_at(
 fn connections_of(
     alloc: Global,
     connections: &[Connection],
-) -> Result<Items<ChainProperties>, NoMemory>
+) -> Result<ItemList<ChainProperties>, NoMemory>
     ensures { IfOk result (λ carried. carried ≡ map (λ c. spec.carried_by c.properties) (map (connection_view kept_place) connections.now)) }
 {
-    let mut carried = Items::new(alloc);
+    let mut carried = ItemList::new(alloc);
     for connection in connections {
         carried.push(ChainProperties::of(connection.properties.as_slice()))?;
     }
@@ -42,11 +42,11 @@ fn connections_of(
 fn connections_in(
     alloc: Global,
     declaration: &Declaration,
-) -> Result<Items<ChainProperties>, NoMemory>
+) -> Result<ItemList<ChainProperties>, NoMemory>
     ensures { IfOk result (λ carried. carried ≡ spec.connections_carried (declaration_view kept_place declaration.now)) }
 {
     match declaration {
-        Declaration::Type(_) => Ok(Items::new(alloc)),
+        Declaration::Type(_) => Ok(ItemList::new(alloc)),
         Declaration::Implementation(x) => connections_of(alloc, x.connections.as_slice()),
     }
 }
@@ -55,10 +55,10 @@ fn connections_in(
 pub fn all_of_connections(
     alloc: Global,
     tree: &PackageTree,
-) -> Result<Items<Items<ChainProperties>>, NoMemory>
+) -> Result<ItemList<ItemList<ChainProperties>>, NoMemory>
     ensures { IfOk result (λ carried. carried ≡ map spec.connections_carried (placed tree.now).declarations) }
 {
-    let mut carried = Items::new(alloc);
+    let mut carried = ItemList::new(alloc);
     for declaration in &tree.declarations {
         carried.push(connections_in(alloc, declaration)?)?;
     }

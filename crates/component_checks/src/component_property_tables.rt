@@ -11,7 +11,7 @@ ghost use Rattle.component_checks.specs.proof.ComponentProperties.{timed_by};
 use crate::component_properties::ComponentProperties;
 use aadl_tree::{Declaration, PackageTree};
 use aadl_uses::{SubAt, Uses};
-use pals_base::{Items, NoMemory};
+use pals_base::{ItemList, NoMemory};
 use std::alloc::Global;
 
 /// What stands at a number, or nothing.
@@ -29,7 +29,7 @@ pub fn numbered(timed: &[ComponentProperties], number: Option<usize>) -> Compone
 
 /// What stands at a number in the list of a number, or nothing.
 pub fn numbered_in(
-    timed: &[Items<ComponentProperties>],
+    timed: &[ItemList<ComponentProperties>],
     list: usize,
     number: usize,
 ) -> ComponentProperties
@@ -55,10 +55,10 @@ fn of_type(declaration: &Declaration) -> ComponentProperties
 pub fn all_of_types(
     alloc: Global,
     tree: &PackageTree,
-) -> Result<Items<ComponentProperties>, NoMemory>
+) -> Result<ItemList<ComponentProperties>, NoMemory>
     ensures { IfOk result (λ types. types ≡ map spec.type_timed (placed tree.now).declarations) }
 {
-    let mut types = Items::new(alloc);
+    let mut types = ItemList::new(alloc);
     for declaration in &tree.declarations {
         types.push(of_type(declaration))?;
     }
@@ -82,11 +82,11 @@ pub fn all_own(
     alloc: Global,
     uses: &Uses<'_>,
     types: &[ComponentProperties],
-) -> Result<Items<ComponentProperties>, NoMemory>
+) -> Result<ItemList<ComponentProperties>, NoMemory>
     requires { types.now ≡ map spec.type_timed (placed uses.now.names.tree.now).declarations }
     ensures { IfOk result (λ own. own ≡ map (spec.own_timed (placed uses.now.names.tree.now)) (placed uses.now.names.tree.now).declarations) }
 {
-    let mut own = Items::new(alloc);
+    let mut own = ItemList::new(alloc);
     for number in 0..uses.len() {
         own.push(own_of(uses, types, number))?;
     }
@@ -111,12 +111,12 @@ fn subs_of(
     uses: &Uses<'_>,
     own: &[ComponentProperties],
     declaration: usize,
-) -> Result<Items<ComponentProperties>, NoMemory>
+) -> Result<ItemList<ComponentProperties>, NoMemory>
     requires { own.now ≡ map (spec.own_timed (placed uses.now.names.tree.now)) (placed uses.now.names.tree.now).declarations }
     ensures { IfOk result (λ timed. timed ≡ map (spec.sub_timed (placed uses.now.names.tree.now))
         (subcomponents_of (implementation_at (placed uses.now.names.tree.now) declaration))) }
 {
-    let mut timed = Items::new(alloc);
+    let mut timed = ItemList::new(alloc);
     for sub in 0..uses.targets(declaration).len() {
         timed.push(sub_of(uses, own, SubAt { declaration, sub }))?;
     }
@@ -128,11 +128,11 @@ pub fn all_of_subs(
     alloc: Global,
     uses: &Uses<'_>,
     own: &[ComponentProperties],
-) -> Result<Items<Items<ComponentProperties>>, NoMemory>
+) -> Result<ItemList<ItemList<ComponentProperties>>, NoMemory>
     requires { own.now ≡ map (spec.own_timed (placed uses.now.names.tree.now)) (placed uses.now.names.tree.now).declarations }
     ensures { IfOk result (λ subs. subs ≡ map (spec.subs_timed (placed uses.now.names.tree.now)) (placed uses.now.names.tree.now).declarations) }
 {
-    let mut subs = Items::new(alloc);
+    let mut subs = ItemList::new(alloc);
     for declaration in 0..uses.len() {
         subs.push(subs_of(alloc, uses, own, declaration)?)?;
     }

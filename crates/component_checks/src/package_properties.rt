@@ -13,7 +13,7 @@ use crate::chain_property_tables::{all_of_connections, carried_at};
 use crate::component_properties::ComponentProperties;
 use crate::component_property_tables::{all_of_subs, all_of_types, all_own, numbered, numbered_in};
 use aadl_uses::{SubAt, Uses};
-use pals_base::{Items, NoMemory};
+use pals_base::{ItemList, NoMemory};
 use std::alloc::Global;
 
 // What the lists of properties of a package say, by the numbers of declarations, subcomponents and
@@ -21,11 +21,11 @@ use std::alloc::Global;
 #[derive(Drop)]
 struct PackageProperties {
     // of each implementation, with its type
-    own: Items<ComponentProperties>,
+    own: ItemList<ComponentProperties>,
     // of each subcomponent, with its implementation and that one's type
-    subs: Items<Items<ComponentProperties>>,
+    subs: ItemList<ItemList<ComponentProperties>>,
     // of each connection
-    connections: Items<Items<ChainProperties>>,
+    connections: ItemList<ItemList<ChainProperties>>,
 }
 
 /// A package with what is looked up of it, and what its lists of properties say.
@@ -46,7 +46,7 @@ impl Drop for Properties<'_> {
 }
 
 // What implementations say, and their types.
-fn own_in(alloc: Global, uses: &Uses<'_>) -> Result<Items<ComponentProperties>, NoMemory>
+fn own_in(alloc: Global, uses: &Uses<'_>) -> Result<ItemList<ComponentProperties>, NoMemory>
     ensures { IfOk result (λ own. own ≡ map (spec.own_timed (placed uses.now.names.tree.now)) (placed uses.now.names.tree.now).declarations) }
 {
     let types = all_of_types(alloc, uses.names.tree)?;

@@ -10,7 +10,7 @@ use annex_resolve::Violation;
 use annex_resolve::violation::{NOT_DIVISOR, PERIOD_TOO_SHORT, RATE_TOO_HIGH};
 use bound_checker::least_period;
 use pals_base::limits::RATE;
-use pals_base::{Gamma, Items, Nanos, NoMemory, Text};
+use pals_base::{Gamma, ItemList, Nanos, NoMemory, Text};
 use std::alloc::Global;
 
 /// A name and a number behind it.
@@ -24,7 +24,7 @@ pub(crate) fn name_and_number(alloc: Global, name: &str, number: u64) -> Result<
 /// it, or divides it too often. The details are the component's path and the numbers.
 pub fn add_period_findings(
     alloc: Global,
-    found: &mut Items<Violation>,
+    found: &mut ItemList<Violation>,
     at: usize,
     path: &Text,
     root: Option<Nanos>,
@@ -62,7 +62,7 @@ pub fn add_period_findings(
 /// greatest rate of the design.
 pub fn add_bound_findings(
     alloc: Global,
-    found: &mut Items<Violation>,
+    found: &mut ItemList<Violation>,
     at: usize,
     root: Option<Nanos>,
     gamma: Option<Gamma>,

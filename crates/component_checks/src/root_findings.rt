@@ -19,7 +19,7 @@ use aadl_tree::{Association, PackageTree};
 use aadl_uses::Uses;
 use annex_resolve::Violation;
 use annex_resolve::violation::{GAMMA_MISSING, GAMMA_ORDER, NO_PERIOD};
-use pals_base::{Gamma, Items, Nanos, NoMemory};
+use pals_base::{Gamma, ItemList, Nanos, NoMemory};
 use std::alloc::Global;
 
 // The skew of the root.
@@ -77,7 +77,7 @@ fn add_missing_bound(
     uses: &Uses<'_>,
     root: usize,
     property: PropertyName,
-    found: &mut Items<Violation>,
+    found: &mut ItemList<Violation>,
 ) -> Result<(), NoMemory>
     ensures { OnOk result (found.new ≡ found.old ++ spec.missing_bound (placed uses.now.names.tree.now) root property) }
 {
@@ -91,7 +91,7 @@ fn add_missing_findings(
     alloc: Global,
     uses: &Uses<'_>,
     root: usize,
-    found: &mut Items<Violation>,
+    found: &mut ItemList<Violation>,
 ) -> Result<(), NoMemory>
     ensures { OnOk result (found.new ≡ found.old ++ spec.missing_findings (placed uses.now.names.tree.now) root) }
 {
@@ -107,7 +107,7 @@ fn add_missing_findings(
 fn add_zero_skew(
     alloc: Global,
     given: Option<&Association>,
-    found: &mut Items<Violation>,
+    found: &mut ItemList<Violation>,
 ) -> Result<(), NoMemory>
     ensures { OnOk result (found.new ≡ found.old ++ spec.zero_skew (option_map (association_view kept_place) (option_copied given.entry))) }
 {
@@ -140,7 +140,7 @@ fn add_reversed_range(
     alloc: Global,
     property: PropertyName,
     given: Option<&Association>,
-    found: &mut Items<Violation>,
+    found: &mut ItemList<Violation>,
 ) -> Result<(), NoMemory>
     ensures { OnOk result (found.new ≡ found.old ++ spec.reversed_range property (option_map (association_view kept_place) (option_copied given.entry))) }
 {
@@ -162,7 +162,7 @@ fn add_order_findings(
     alloc: Global,
     uses: &Uses<'_>,
     root: usize,
-    found: &mut Items<Violation>,
+    found: &mut ItemList<Violation>,
 ) -> Result<(), NoMemory>
     ensures { OnOk result (found.new ≡ found.old ++ spec.order_findings (placed uses.now.names.tree.now) root) }
 {
@@ -191,7 +191,7 @@ pub fn add_root_findings(
     properties: &Properties<'_>,
     root: usize,
     rate: u32,
-    found: &mut Items<Violation>,
+    found: &mut ItemList<Violation>,
 ) -> Result<(), NoMemory>
     requires { rate ≤ RATE }
     ensures { OnOk result (found.new ≡ found.old ++ spec.root_findings (placed properties.now.uses.now.names.tree.now) root rate) }

@@ -12,7 +12,7 @@ use aadl_tree::PackageTree;
 use aadl_uses::{SubAt, ThreadAt};
 use annex_resolve::Violation;
 use annex_resolve::violation::NOT_PERIODIC;
-use pals_base::{Items, NoMemory, Text};
+use pals_base::{ItemList, NoMemory, Text};
 use std::alloc::Global;
 
 // Whether a component's dispatch is periodic.
@@ -35,7 +35,7 @@ fn thread_place(tree: &PackageTree, thread: &ThreadAt) -> usize
 /// Adds a finding with a text, where something is wrong.
 pub fn add_named(
     alloc: Global,
-    found: &mut Items<Violation>,
+    found: &mut ItemList<Violation>,
     wrong: bool,
     at: usize,
     number: u32,
@@ -60,7 +60,7 @@ pub fn add_thread_findings(
     properties: &Properties<'_>,
     root: usize,
     thread: &ThreadAt,
-    found: &mut Items<Violation>,
+    found: &mut ItemList<Violation>,
 ) -> Result<(), NoMemory>
     ensures { OnOk result (found.new ≡ found.old ++ spec.thread_findings (placed properties.now.uses.now.names.tree.now) root thread.now) }
 {

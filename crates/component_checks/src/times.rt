@@ -16,7 +16,7 @@ use aadl_tree::{Association, Identifier, Quantity, Sign, UnsignedNumber, Value};
 use annex_resolve::Violation;
 use annex_resolve::violation::NUMBER_TOO_BIG;
 use pals_base::limits::HOUR;
-use pals_base::{Items, Nanos, NoMemory, Text};
+use pals_base::{ItemList, Nanos, NoMemory, Text};
 use std::alloc::Global;
 
 // A whole number.
@@ -185,7 +185,7 @@ fn add_big_as(
     alloc: Global,
     association: &Association,
     property: PropertyName,
-    found: &mut Items<Violation>,
+    found: &mut ItemList<Violation>,
 ) -> Result<(), NoMemory>
     ensures { OnOk result (found.new ≡ found.old ++ spec.big_as (association_view kept_place association.now) property) }
 {
@@ -205,7 +205,7 @@ fn add_association_big(
     alloc: Global,
     holder: PropertyHolder,
     association: &Association,
-    found: &mut Items<Violation>,
+    found: &mut ItemList<Violation>,
 ) -> Result<(), NoMemory>
     ensures { OnOk result (found.new ≡ found.old ++ spec.association_big holder (association_view kept_place association.now)) }
 {
@@ -222,7 +222,7 @@ fn add_counted_big(
     alloc: Global,
     holder: PropertyHolder,
     association: &Association,
-    found: &mut Items<Violation>,
+    found: &mut ItemList<Violation>,
 ) -> Result<(), NoMemory>
     ensures { OnOk result (found.new ≡ found.old ++ spec.counted_big holder (association_view kept_place association.now)) }
 {
@@ -238,7 +238,7 @@ pub fn add_times_too_big(
     alloc: Global,
     holder: PropertyHolder,
     list: &[Association],
-    found: &mut Items<Violation>,
+    found: &mut ItemList<Violation>,
 ) -> Result<(), NoMemory>
     ensures { OnOk result (found.new ≡ found.old ++ spec.list_big holder (associations_view kept_place list.now)) }
 {

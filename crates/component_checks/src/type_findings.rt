@@ -20,7 +20,7 @@ use aadl_tree::{
 use annex_resolve::type_names::kind_named;
 use annex_resolve::violation::BAD_TYPE;
 use annex_resolve::{Violation, add_if, expect};
-use pals_base::{Items, Kind, NoMemory};
+use pals_base::{ItemList, Kind, NoMemory};
 use std::alloc::Global;
 
 /// The type that a reference names, if there is one.
@@ -47,7 +47,7 @@ pub fn is_in(port: &Feature) -> bool
 pub fn add_port_findings(
     alloc: Global,
     ports: &[Feature],
-    found: &mut Items<Violation>,
+    found: &mut ItemList<Violation>,
 ) -> Result<(), NoMemory>
     ensures { OnOk result (found.new ≡ found.old ++ flat_map spec.port_findings (map (feature_view kept_place) ports.now)) }
 {
@@ -63,7 +63,7 @@ fn add_name_findings(
     alloc: Global,
     kind: Option<Kind>,
     names: &Identifiers,
-    found: &mut Items<Violation>,
+    found: &mut ItemList<Violation>,
 ) -> Result<(), NoMemory>
     ensures { OnOk result (found.new ≡ found.old ++ flat_map (spec.name_findings kind) (identifiers (identifiers_view kept_place names.now))) }
 {
@@ -122,7 +122,7 @@ fn add_first_findings(
     alloc: Global,
     kind: Option<Kind>,
     given: Option<&Association>,
-    found: &mut Items<Violation>,
+    found: &mut ItemList<Violation>,
 ) -> Result<(), NoMemory>
     ensures { OnOk result (found.new ≡ found.old ++ spec.first_findings kind (option_map (association_view kept_place) (option_copied given.entry))) }
 {
@@ -142,7 +142,7 @@ fn add_first_findings(
 fn add_variable_findings(
     alloc: Global,
     variable: &VariableDeclaration,
-    found: &mut Items<Violation>,
+    found: &mut ItemList<Violation>,
 ) -> Result<(), NoMemory>
     ensures { OnOk result (found.new ≡ found.old ++ spec.variable_findings (variable_view kept_place variable.now)) }
 {
@@ -157,7 +157,7 @@ fn add_variable_findings(
 pub fn add_variables_findings(
     alloc: Global,
     annex: &AnnexTree,
-    found: &mut Items<Violation>,
+    found: &mut ItemList<Violation>,
 ) -> Result<(), NoMemory>
     ensures { OnOk result (found.new ≡ found.old ++ spec.variables_findings (annex_tree_view kept_place annex.now)) }
 {

@@ -7,7 +7,7 @@ ghost use Rattle.step_compiler.specs.LaidOutCode.{AreLaidOut};
 ghost use Rattle.design_codes.specs.OverlongCodes.{AreShort, IsCause};
 ghost use Rattle.design_codes.specs.DesignBehaviours.{behaviours};
 
-use pals_base::{Items, NoMemory, NodeNo};
+use pals_base::{ItemList, NoMemory, NodeNo};
 use pals_model::Design;
 use std::alloc::Global;
 use step_code::Code;
@@ -36,13 +36,13 @@ impl From<NoMemory> for CodesError {
 
 /// The code of each component: it is laid out for the component's behaviour, and means what the
 /// component does.
-pub fn compile_all(alloc: Global, design: &Design) -> Result<Items<Code>, CodesError>
+pub fn compile_all(alloc: Global, design: &Design) -> Result<ItemList<Code>, CodesError>
     ensures ok { IfOk result (AreCodes design.now) }
     ensures layout { IfOk result (AreLaidOut (behaviours design.now)) }
     ensures short { IfOk result (λ _. AreShort design.now) }
     ensures fault { IfErr result (IsCause design.now) }
 {
-    let mut codes = Items::new(alloc);
+    let mut codes = ItemList::new(alloc);
     for component in design.components() {
         match compile(alloc, &component.behaviour) {
             Ok(code) => {

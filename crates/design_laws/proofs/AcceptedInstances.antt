@@ -29,7 +29,7 @@ use Rattle.design_laws.proofs.MatchedLists.{Zipped, Made, zipped_weaker}
 use Rattle.design_laws.proofs.DesignComponents as composing
 use Rattle.design_laws.proofs.DesignComponents.{components, is_small, thread_of, components_keep, components_few}
 use Rattle.design_laws.proofs.DesignComponents.{components_differ, greatest_is}
-use Rattle.design_laws.proofs.ChainEndPorts.{IsComponentAt}
+use Rattle.design_laws.proofs.ChainEndPortsInDesigns.{IsComponentAt}
 use Rattle.design_laws.proofs.DesignLinksFeedsAndTaps.{links, feeds, taps, whole, links_keep, feeds_keep, taps_keep}
 use Rattle.design_laws.proofs.InstancesFromParts.{of_shown, to_shown}
 

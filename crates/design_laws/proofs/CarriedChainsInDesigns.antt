@@ -34,7 +34,7 @@ use Rattle.design_laws.specs.InstanceDesigns.{tap_in}
 use Rattle.design_laws.proofs.InstanceBehaviours.{thread_is, root_no_thread}
 use Rattle.design_laws.proofs.MatchedLists.{Zipped}
 use Rattle.design_laws.proofs.ChainTypes.{first_there, last_there, kind_there, kinds_along}
-use Rattle.design_laws.proofs.ChainEndPorts.{IsComponentAt, AtNode, at_node, in_port, out_port, component_there}
+use Rattle.design_laws.proofs.ChainEndPortsInDesigns.{IsComponentAt, AtNode, at_node, in_port, out_port, component_there}
 
 -- ---- the adaptor between two rates
 pub rated_fits : (at : ℕ) (word : List ℕ) (text : Option (List ℕ)) (kind : Option Kind) (a b : Option ℕ) (p q : ℕ)

@@ -22,7 +22,7 @@ use Rattle.annex_resolve.specs.declared.states.StateAt.{StateAt}
 use Rattle.annex_resolve.specs.BehavioursAndFindings.{states_of, first_number, state_number, transitions_of}
 use Rattle.design_laws.specs.proof.FittingAnnexNames.{is_declared}
 use Rattle.design_laws.proofs.PairwiseDistinctNames.{all_none}
-use Rattle.design_laws.proofs.ElementAndPairLemmas.{all_true}
+use Rattle.design_laws.proofs.ElementAndPairwiseProperties.{all_true}
 use Rattle.design_laws.proofs.BehaviourNames.{same_states}
 
 -- ---- the first that passes is one of them, where some passes

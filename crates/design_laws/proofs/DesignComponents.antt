@@ -35,7 +35,7 @@ use Rattle.model_violations.specs.PortsAndVariables.{named_of, var_of, values_of
 use Rattle.model_violations.specs.ThreadBehaviours.{first_annex, behaviour_by, behaviour_in}
 use Rattle.model_violations.proofs.PortAndVariableLists.{ports_both}
 use Rattle.design_laws.specs.proof.PackageNames.{AreNamed}
-use Rattle.design_laws.proofs.ElementAndPairLemmas.{all_unmapped}
+use Rattle.design_laws.proofs.ElementAndPairwiseProperties.{all_unmapped}
 use Rattle.design_laws.proofs.PairwiseDistinctNames.{all_none}
 use Rattle.design_laws.proofs.BoundsAndRates.{IsRateOf}
 use Rattle.model_violations.specs.UsedDeclarations.{IsUse}

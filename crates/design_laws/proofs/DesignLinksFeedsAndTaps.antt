@@ -28,14 +28,14 @@ use Rattle.annex_resolve.specs.ExpressionTypesAndFindings.{kind_in}
 use Rattle.model_violations.specs.ChainFindings.{link_findings, feed_findings}
 use Rattle.design_laws.specs.proof.PackageNames.{AreNamed}
 use Rattle.design_laws.proofs.PairwiseDistinctNames.{all_none}
-use Rattle.design_laws.proofs.ElementAndPairLemmas.{all_unmapped}
+use Rattle.design_laws.proofs.ElementAndPairwiseProperties.{all_unmapped}
 use Rattle.model_violations.specs.UsedDeclarations.{IsUse}
 use Rattle.model_violations.specs.Violations.{shown_by, rates_of, used_findings}
 use Rattle.design_laws.specs.InstanceDesigns.{link_in, feed_in, tap_in}
 use Rattle.design_laws.proofs.SoundInstanceParts.{names_clean, not_over, declared_at}
 use Rattle.design_laws.proofs.InstanceBoundsAndRates.{root_there}
 use Rattle.design_laws.proofs.MatchedLists.{Zipped, Made, all_made, zipped_length, all_zipped, pairs_zipped}
-use Rattle.design_laws.proofs.ChainEndPorts.{IsComponentAt}
+use Rattle.design_laws.proofs.ChainEndPortsInDesigns.{IsComponentAt}
 use Rattle.design_laws.proofs.CarriedChainsInDesigns.{not_root, end_goes_in, link_joins, feed_joins, tap_joins, link_of}
 use Rattle.design_laws.proofs.CarriedChainsInDesigns.{feed_of, tap_of, link_is, feed_is, tap_is, in_kind_is}
 use Rattle.design_laws.proofs.LinkFeedAndTapRules.{link_keeps, feed_keeps, tap_keeps}

@@ -36,7 +36,7 @@ use Rattle.model_violations.specs.PortsAndVariables.{port_of, ins_in, outs_in, v
 use Rattle.model_violations.specs.PortsAndVariables.{variable_of, variables_in, variables_of, or_integer, named_of}
 use Rattle.model_violations.specs.PortsAndVariables.{var_of, in_entry, out_entry, variable_entry, scope_by}
 use Rattle.design_laws.proofs.PairwiseDistinctNames.{all_none}
-use Rattle.design_laws.proofs.ElementAndPairLemmas.{all_kept, numbered, found_one, all_true}
+use Rattle.design_laws.proofs.ElementAndPairwiseProperties.{all_kept, numbered, found_one, all_true}
 
 -- ---- a type that is there
 abbrev IsTyped : Declared → Type 0

@@ -12,7 +12,6 @@ pub mod DeclaredNameOrder
 pub mod IdentifiersAreWords
 pub mod DistinctPackageNames
 pub mod PackageNames
-pub mod ElementAndPairLemmas
 pub mod BehaviourNames
 pub mod KindsAndFirstValues
 pub mod DeclaredStates
@@ -34,7 +33,6 @@ pub mod NamesFromTokens
 pub mod AcceptedPackageDesigns
 pub mod PortAndThreadNumbers
 pub mod ChainTypes
-pub mod ChainEndPorts
 pub mod CarriedChainsInDesigns
 pub mod LinkFeedAndTapRules
 pub mod LinkOrderAndRootPortNames
@@ -76,3 +74,5 @@ mod AnnexesWithoutMemoryFault
 pub mod PackagesWithoutMemoryFault
 pub mod SortedFindings
 pub mod InstanceBehaviourRules
+pub mod ElementAndPairwiseProperties
+pub mod ChainEndPortsInDesigns

@@ -35,7 +35,7 @@ use Rattle.model_violations.specs.UsedDeclarations.{IsUse}
 use Rattle.model_violations.specs.Violations.{shown_by, used_findings, rates_of}
 use Rattle.design_laws.specs.InstanceDesigns.{chain_adaptor}
 use Rattle.design_laws.proofs.MatchedLists.{Zipped}
-use Rattle.design_laws.proofs.ChainEndPorts.{IsComponentAt, in_seen, rate_at}
+use Rattle.design_laws.proofs.ChainEndPortsInDesigns.{IsComponentAt, in_seen, rate_at}
 use Rattle.design_laws.proofs.CarriedChainsInDesigns.{rated_fits, thread_end, root_end, start_goes_out, end_goes_in}
 use Rattle.design_laws.proofs.CarriedChainsInDesigns.{link_joins, feed_joins, tap_joins, connection_is, adaptor_is, node_of}
 use Rattle.design_laws.proofs.CarriedChainsInDesigns.{link_of, feed_of, tap_of, is_target, in_kind_is, is_source, out_kind_is}

@@ -26,11 +26,11 @@ use Rattle.aadl_instance.specs.InstancesByNumbers.{node_at, port_number}
 use Rattle.component_checks.specs.TypeFindings as types
 use Rattle.design_laws.specs.proof.PackageNames.{NamesDiffer}
 use Rattle.design_laws.proofs.PairwiseDistinctNames.{one_name, Differs}
-use Rattle.design_laws.proofs.ElementAndPairLemmas.{pairs_at, pairs_first, pairs_unmapped}
+use Rattle.design_laws.proofs.ElementAndPairwiseProperties.{pairs_at, pairs_first, pairs_unmapped}
 use Rattle.design_laws.proofs.MatchedLists.{Zipped}
 use Rattle.design_laws.proofs.PathTexts.{before_other}
 use Rattle.design_laws.proofs.PortAndThreadNumbers.{count_less, numbers_rise}
-use Rattle.design_laws.proofs.ChainEndPorts.{IsComponentAt, in_port, in_number, port_is, in_way}
+use Rattle.design_laws.proofs.ChainEndPortsInDesigns.{IsComponentAt, in_port, in_number, port_is, in_way}
 use Rattle.design_laws.proofs.CarriedChainsInDesigns.{node_of}
 
 -- ---- places of in ports

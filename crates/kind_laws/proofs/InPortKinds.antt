@@ -26,7 +26,7 @@ use Rattle.pals_model.specs.PortKindsAndRates.{rate_of, kind_of, in_kind, root_k
 use Rattle.pals_model.specs.DesignRules.{IsDesign, IsLink, IsFeed}
 use Rattle.pals_model.specs.proof.ValuesFitKinds.{PortFits, TupleFits, PortsFit, link_kind, EnvFits}
 use Rattle.pals_model.proofs.FirstMatches.{found_at, at_element}
-use Rattle.pals_model.proofs.RootInputFeedLaws.{feed_has_root, feeds_have_root_kind}
+use Rattle.pals_model.proofs.RootInputsAndFeeds.{feed_has_root, feeds_have_root_kind}
 use Rattle.pals_model.proofs.AllElements.{index_fits}
 use Rattle.pals_model.proofs.AdaptorsKeepKinds.{absent_fits, adapt_fits}
 

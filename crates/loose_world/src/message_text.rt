@@ -4,7 +4,7 @@ ghost use Rattle.pals_model.specs.RoundTexts.{text_of};
 ghost use Rattle.pals_report.specs.proof.TextPrefixes.{BeginsWith};
 ghost use Rattle.loose_world.specs.SentLines.{AreOutLinks, message_lines, sent_lines};
 
-use pals_base::{Items, LinkNo, NoMemory, NodeNo};
+use pals_base::{ItemList, LinkNo, NoMemory, NodeNo};
 use pals_bus::Bus;
 use pals_model::Design;
 use pals_model::outgoing_links::links_from;
@@ -15,7 +15,7 @@ use std::marker::Model;
 /// The links from each node of a design, in their order. Contracts see their numbers, node by node.
 #[derive(Drop)]
 pub struct OutLinks {
-    nodes: Items<Items<LinkNo>>,
+    nodes: ItemList<ItemList<LinkNo>>,
 }
 
 impl Model for OutLinks {
@@ -32,7 +32,7 @@ impl OutLinks {
     pub fn new(alloc: Global, design: &Design) -> Result<OutLinks, NoMemory>
         ensures { IfOk result (λ links. AreOutLinks design.now links) }
     {
-        let mut nodes = Items::new(alloc);
+        let mut nodes = ItemList::new(alloc);
         for node in 0..design.components().len() {
             nodes.push(links_from(alloc, design, NodeNo(node as u32))?)?;
         }

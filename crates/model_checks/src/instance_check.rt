@@ -14,7 +14,7 @@ use design_laws::designs::{designs_are_there, designs_keep_their_rules};
 use design_laws::instances::{behaviours_keep_their_rules, no_violations_are_no_findings};
 use design_laws::names::texts_name;
 use model_violations::violations;
-use pals_base::{Items, NoMemory};
+use pals_base::{ItemList, NoMemory};
 use pals_model::Design;
 use std::alloc::{AllocError, Global};
 
@@ -22,7 +22,7 @@ use std::alloc::{AllocError, Global};
 #[derive(Drop)]
 pub enum CheckFault {
     /// All that is wrong with it, in order of place, then of number.
-    Violations(Items<Violation>),
+    Violations(ItemList<Violation>),
     /// There was not enough memory.
     Memory,
 }

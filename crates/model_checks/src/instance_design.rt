@@ -15,7 +15,7 @@ use component_checks::thread_rates::{root_period, thread_rate};
 use indexmap::IndexMap;
 use model_violations::carriers::carrier_of;
 use model_violations::ignored_names;
-use pals_base::{Adaptor, Behaviour, Items, NoMemory, TryClone};
+use pals_base::{Adaptor, Behaviour, ItemList, NoMemory, TryClone};
 use pals_model::{Component, DesignParts, Feed, Link, Tap};
 use std::alloc::Global;
 
@@ -52,12 +52,12 @@ fn components(
     properties: &Properties<'_>,
     root: usize,
     threads: &[ThreadAt],
-) -> Result<Option<Items<Component>>, NoMemory>
+) -> Result<Option<ItemList<Component>>, NoMemory>
     requires limits { All (IsWithinLimits (placed properties.now.uses.now.names.tree.now)) threads.now }
     requires rules { All (spec.HasRules (placed properties.now.uses.now.names.tree.now)) threads.now }
     ensures { IfOk result (λ found. found ≡ spec.all_of (map (spec.component_in (placed properties.now.uses.now.names.tree.now) root) threads.now)) }
 {
-    let mut components = Items::new(alloc);
+    let mut components = ItemList::new(alloc);
     let mut kept = IndexMap::new(alloc);
     for thread in threads {
         let Some(component) = component(alloc, properties, &mut kept, root, thread)? else {
@@ -110,10 +110,10 @@ fn links(
     alloc: Global,
     properties: &Properties<'_>,
     chains: &[Chain],
-) -> Result<Option<Items<Link>>, NoMemory>
+) -> Result<Option<ItemList<Link>>, NoMemory>
     ensures { IfOk result (λ found. found ≡ spec.all_of (map (spec.link_in (placed properties.now.uses.now.names.tree.now)) chains.now)) }
 {
-    let mut links = Items::new(alloc);
+    let mut links = ItemList::new(alloc);
     for chain in chains {
         let Some(link) = link(properties, chain) else {
             return Ok(None);
@@ -150,10 +150,10 @@ fn feeds(
     alloc: Global,
     properties: &Properties<'_>,
     chains: &[Chain],
-) -> Result<Option<Items<Feed>>, NoMemory>
+) -> Result<Option<ItemList<Feed>>, NoMemory>
     ensures { IfOk result (λ found. found ≡ spec.all_of (map (spec.feed_in (placed properties.now.uses.now.names.tree.now)) chains.now)) }
 {
-    let mut feeds = Items::new(alloc);
+    let mut feeds = ItemList::new(alloc);
     for chain in chains {
         let Some(feed) = feed(alloc, properties, chain)? else {
             return Ok(None);
@@ -185,10 +185,10 @@ fn tap(alloc: Global, chain: &Chain) -> Result<Option<Tap>, NoMemory>
 }
 
 // The taps.
-fn taps(alloc: Global, chains: &[Chain]) -> Result<Option<Items<Tap>>, NoMemory>
+fn taps(alloc: Global, chains: &[Chain]) -> Result<Option<ItemList<Tap>>, NoMemory>
     ensures { IfOk result (λ found. found ≡ spec.all_of (map spec.tap_in chains.now)) }
 {
-    let mut taps = Items::new(alloc);
+    let mut taps = ItemList::new(alloc);
     for chain in chains {
         let Some(tap) = tap(alloc, chain)? else {
             return Ok(None);

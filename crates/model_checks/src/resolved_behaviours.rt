@@ -16,7 +16,7 @@ use aadl_uses::Uses;
 use indexmap::IndexMap;
 use model_violations::chain_ends::component_number;
 use model_violations::resolve_implementation;
-use pals_base::{Behaviour, Items, NoMemory, TryClone};
+use pals_base::{Behaviour, ItemList, NoMemory, TryClone};
 use std::alloc::Global;
 
 /// The behaviour of a thread, if it has one. The first thread of an implementation has it resolved, and it is kept for
@@ -73,7 +73,7 @@ fn resolve(
     ensures value { IfOk result (λ found. found ≡ behaviour_at (placed uses.now.names.tree.now) number) }
     ensures kept { OnOk result (AreKept (placed uses.now.names.tree.now) kept.new.entries) }
 {
-    let mut found = Items::new(alloc);
+    let mut found = ItemList::new(alloc);
     let Some(parts) = resolve_implementation(alloc, uses, number, &mut found)? else {
         return Ok(None);
     };

@@ -19,7 +19,7 @@ use component_checks::Properties;
 use component_checks::root_findings::add_root_findings;
 use component_checks::thread_findings::add_thread_findings;
 use component_checks::thread_rates::{greatest_rate, thread_rate};
-use pals_base::{Items, NoMemory};
+use pals_base::{ItemList, NoMemory};
 use std::alloc::Global;
 
 // The rates of threads, where they may make as many steps.
@@ -28,10 +28,10 @@ fn rates_of(
     properties: &Properties<'_>,
     root: usize,
     threads: &[ThreadAt],
-) -> Result<Items<Option<u32>>, NoMemory>
+) -> Result<ItemList<Option<u32>>, NoMemory>
     ensures { IfOk result (λ rates. rates ≡ map (threads_spec.thread_rate (placed properties.now.uses.now.names.tree.now) root) threads.now) }
 {
-    let mut rates = Items::new(alloc);
+    let mut rates = ItemList::new(alloc);
     for thread in threads {
         rates.push(thread_rate(properties, root, thread))?;
     }
@@ -44,7 +44,7 @@ fn add_threads_findings(
     properties: &Properties<'_>,
     root: usize,
     threads: &[ThreadAt],
-    found: &mut Items<Violation>,
+    found: &mut ItemList<Violation>,
 ) -> Result<(), NoMemory>
     ensures { OnOk result (found.new ≡ found.old
         ++ flat_map (threads_spec.thread_findings (placed properties.now.uses.now.names.tree.now) root) threads.now) }
@@ -81,7 +81,7 @@ fn add_all_link_findings(
     alloc: Global,
     rated: &RatedThreads<'_>,
     links: &[Chain],
-    found: &mut Items<Violation>,
+    found: &mut ItemList<Violation>,
 ) -> Result<(), NoMemory>
     requires { ArePositive rated.now.rates.now }
     ensures { OnOk result (found.new ≡ found.old ++ flat_map (link_findings (tree_of rated.now) rated.now.threads.now rated.now.rates.now) links.now) }
@@ -97,7 +97,7 @@ fn add_feeds_findings(
     alloc: Global,
     rated: &RatedThreads<'_>,
     feeds: &[Chain],
-    found: &mut Items<Violation>,
+    found: &mut ItemList<Violation>,
 ) -> Result<(), NoMemory>
     requires { ArePositive rated.now.rates.now }
     ensures { OnOk result (found.new ≡ found.old ++ flat_map (feed_findings (tree_of rated.now) rated.now.threads.now rated.now.rates.now) feeds.now) }
@@ -113,7 +113,7 @@ fn add_taps_findings(
     alloc: Global,
     rated: &RatedThreads<'_>,
     taps: &[Chain],
-    found: &mut Items<Violation>,
+    found: &mut ItemList<Violation>,
 ) -> Result<(), NoMemory>
     ensures { OnOk result (found.new ≡ found.old ++ flat_map (tap_findings (tree_of rated.now) rated.now.threads.now) taps.now) }
 {
@@ -129,7 +129,7 @@ fn add_chain_findings(
     properties: &Properties<'_>,
     instance: &Instance<'_>,
     rates: &[Option<u32>],
-    found: &mut Items<Violation>,
+    found: &mut ItemList<Violation>,
 ) -> Result<(), NoMemory>
     requires { ArePositive rates.now }
     ensures { OnOk result (found.new ≡ found.old
@@ -149,7 +149,7 @@ fn add_chain_findings(
 fn add_used_findings(
     alloc: Global,
     instance: &Instance<'_>,
-    found: &mut Items<Violation>,
+    found: &mut ItemList<Violation>,
 ) -> Result<(), NoMemory>
     ensures { OnOk result (inner.AddUsed (placed instance.now.wires.uses.names.tree.now) (inner.shown instance.now) found.old found.new) }
 {
@@ -174,11 +174,11 @@ fn findings_of(
     alloc: Global,
     properties: &Properties<'_>,
     instance: &Instance<'_>,
-) -> Result<Items<Violation>, NoMemory>
+) -> Result<ItemList<Violation>, NoMemory>
     requires { properties.now.uses.now.names.tree.now ≡ instance.now.wires.uses.names.tree.now }
     ensures { IfOk result (λ list. inner.AreFindings (placed instance.now.wires.uses.names.tree.now) (inner.shown instance.now) list) }
 {
-    let mut found = Items::new(alloc);
+    let mut found = ItemList::new(alloc);
     let root = instance.root;
     let threads = instance.threads.as_slice();
     let rates = rates_of(alloc, properties, root, threads)?;
@@ -196,7 +196,7 @@ pub fn violations(
     alloc: Global,
     properties: &Properties<'_>,
     instance: &Instance<'_>,
-) -> Result<Items<Violation>, NoMemory>
+) -> Result<ItemList<Violation>, NoMemory>
     requires { properties.now.uses.now.names.tree.now ≡ instance.now.wires.uses.names.tree.now }
     ensures { IfOk result (λ list. spec.AreViolations (placed instance.now.wires.uses.names.tree.now) (inner.shown instance.now) list) }
 {

@@ -14,7 +14,7 @@ use annex_resolve::Violation;
 use annex_resolve::violation::{NOT_DELAYED, STRAY_ADAPTOR};
 use component_checks::thread_findings::add_named;
 use component_checks::{Carrier, ChainProperties, Properties};
-use pals_base::{Adaptor, Items, NoMemory};
+use pals_base::{Adaptor, ItemList, NoMemory};
 use std::alloc::Global;
 
 /// The threads of an instance, with their rates, where they may make as many steps, and with what the
@@ -46,7 +46,7 @@ fn add_rated(
     carrier: &Carrier,
     source: Option<u32>,
     target: Option<u32>,
-    found: &mut Items<Violation>,
+    found: &mut ItemList<Violation>,
 ) -> Result<(), NoMemory>
     requires source { (k : ℕ) → source ≡ Some k → 0 < k }
     requires target { (k : ℕ) → target ≡ Some k → 0 < k }
@@ -69,7 +69,7 @@ fn add_adaptor_findings(
     chain: &Chain,
     connection: &Connection,
     said: ChainProperties,
-    found: &mut Items<Violation>,
+    found: &mut ItemList<Violation>,
 ) -> Result<(), NoMemory>
     requires rates { ArePositive rated.now.rates.now }
     requires said { said ≡ carried_by (connection_view kept_place connection.now).properties }
@@ -99,7 +99,7 @@ fn add_timing_findings(
     chain: &Chain,
     connection: &Connection,
     said: ChainProperties,
-    found: &mut Items<Violation>,
+    found: &mut ItemList<Violation>,
 ) -> Result<(), NoMemory>
     requires { said ≡ carried_by (connection_view kept_place connection.now).properties }
     ensures { OnOk result (found.new ≡ found.old
@@ -123,7 +123,7 @@ pub fn add_link_findings(
     alloc: Global,
     rated: &RatedThreads<'_>,
     link: &Chain,
-    found: &mut Items<Violation>,
+    found: &mut ItemList<Violation>,
 ) -> Result<(), NoMemory>
     requires { ArePositive rated.now.rates.now }
     ensures { OnOk result (found.new ≡ found.old
@@ -141,7 +141,7 @@ pub fn add_feed_findings(
     alloc: Global,
     rated: &RatedThreads<'_>,
     feed: &Chain,
-    found: &mut Items<Violation>,
+    found: &mut ItemList<Violation>,
 ) -> Result<(), NoMemory>
     requires { ArePositive rated.now.rates.now }
     ensures { OnOk result (found.new ≡ found.old
@@ -161,7 +161,7 @@ pub fn add_tap_findings(
     alloc: Global,
     rated: &RatedThreads<'_>,
     tap: &Chain,
-    found: &mut Items<Violation>,
+    found: &mut ItemList<Violation>,
 ) -> Result<(), NoMemory>
     ensures { OnOk result (found.new ≡ found.old
         ++ spec.tap_findings (tree_of rated.now) rated.now.threads.now tap.now) }

@@ -25,7 +25,7 @@ use annex_resolve::{Violation, expect};
 use component_checks::ChainProperties;
 use component_checks::thread_findings::add_named;
 use component_checks::type_findings::kind_in;
-use pals_base::{Items, Kind, NoMemory};
+use pals_base::{ItemList, Kind, NoMemory};
 use std::alloc::Global;
 
 // The type of a port of the type of a number.
@@ -98,7 +98,7 @@ fn add_ends_findings(
     wires: &PackageConnections<'_>,
     place: ConnectionAt,
     connection: &Connection,
-    found: &mut Items<Violation>,
+    found: &mut ItemList<Violation>,
 ) -> Result<(), NoMemory>
     ensures { OnOk result ((x : trees.Implementation ℕ)
         → IsConnection (placed wires.now.uses.names.tree.now) place.declaration place.connection x
@@ -117,7 +117,7 @@ fn add_delay_findings(
     alloc: Global,
     connection: &Connection,
     said: ChainProperties,
-    found: &mut Items<Violation>,
+    found: &mut ItemList<Violation>,
 ) -> Result<(), NoMemory>
     requires { said ≡ carried_by (connection_view kept_place connection.now).properties }
     ensures { OnOk result (found.new ≡ found.old ++ spec.delay_findings (connection_view kept_place connection.now)) }
@@ -140,7 +140,7 @@ fn add_adaptor_findings(
     carried: bool,
     connection: &Connection,
     said: ChainProperties,
-    found: &mut Items<Violation>,
+    found: &mut ItemList<Violation>,
 ) -> Result<(), NoMemory>
     requires { said ≡ carried_by (connection_view kept_place connection.now).properties }
     ensures { OnOk result (found.new ≡ found.old ++ spec.adaptor_findings carried (connection_view kept_place connection.now)) }
@@ -162,7 +162,7 @@ fn add_connection_findings(
     carriers: &Carriers,
     place: ConnectionAt,
     connection: &Connection,
-    found: &mut Items<Violation>,
+    found: &mut ItemList<Violation>,
 ) -> Result<(), NoMemory>
     ensures { OnOk result ((x : trees.Implementation ℕ)
         → IsConnection (placed wires.now.uses.names.tree.now) place.declaration place.connection x
@@ -186,7 +186,7 @@ pub fn add_connections_findings(
     carriers: &Carriers,
     number: usize,
     x: &Implementation,
-    found: &mut Items<Violation>,
+    found: &mut ItemList<Violation>,
 ) -> Result<(), NoMemory>
     requires { slice_get (placed wires.now.uses.names.tree.now).declarations number ≡ Some (implementation (implementation_view kept_place x.now)) }
     ensures { OnOk result (found.new ≡ found.old

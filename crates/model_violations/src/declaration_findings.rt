@@ -23,7 +23,7 @@ use annex_resolve::Violation;
 use component_checks::times::add_times_too_big;
 use component_checks::type_findings::add_port_findings;
 use indexmap::IndexSet;
-use pals_base::{Items, NoMemory};
+use pals_base::{ItemList, NoMemory};
 use std::alloc::Global;
 
 /// A package with what is in use of it below a root: the numbers of implementations and of types, and the
@@ -51,7 +51,7 @@ fn add_type_findings(
     root: usize,
     number: usize,
     x: &TypeDeclaration,
-    found: &mut Items<Violation>,
+    found: &mut ItemList<Violation>,
 ) -> Result<(), NoMemory>
     ensures { OnOk result (found.new ≡ found.old
         ++ spec.type_findings (is_root_type (placed uses.now.names.tree.now) root number) (type_view kept_place x.now)) }
@@ -65,7 +65,7 @@ fn add_type_findings(
 fn add_subs_findings(
     alloc: Global,
     subs: &[Subcomponent],
-    found: &mut Items<Violation>,
+    found: &mut ItemList<Violation>,
 ) -> Result<(), NoMemory>
     ensures { OnOk result (found.new ≡ found.old ++ flat_map spec.sub_findings (map (subcomponent_view kept_place) subs.now)) }
 {
@@ -82,7 +82,7 @@ fn add_thread_findings(
     uses: &Uses<'_>,
     number: usize,
     x: &Implementation,
-    found: &mut Items<Violation>,
+    found: &mut ItemList<Violation>,
 ) -> Result<(), NoMemory>
     requires number { implementation_at (placed uses.now.names.tree.now) number ≡ Some (implementation_view kept_place x.now) }
     requires small { is_thread x.now.category ≡ true → IsSmall (placed uses.now.names.tree.now) (implementation_view kept_place x.now) }
@@ -103,7 +103,7 @@ fn add_implementation_findings(
     in_use: &UsedPackage<'_>,
     number: usize,
     x: &Implementation,
-    found: &mut Items<Violation>,
+    found: &mut ItemList<Violation>,
 ) -> Result<(), NoMemory>
     requires number { slice_get (placed in_use.now.wires.now.uses.names.tree.now).declarations number
         ≡ Some (implementation (implementation_view kept_place x.now)) }
@@ -127,7 +127,7 @@ fn add_declaration_findings(
     in_use: &UsedPackage<'_>,
     number: usize,
     declaration: &Declaration,
-    found: &mut Items<Violation>,
+    found: &mut ItemList<Violation>,
 ) -> Result<(), NoMemory>
     requires number { slice_get (placed in_use.now.wires.now.uses.names.tree.now).declarations number
         ≡ Some (declaration_view kept_place declaration.now) }
@@ -160,7 +160,7 @@ fn add_declaration_findings(
 pub fn add_package_findings(
     alloc: Global,
     in_use: &UsedPackage<'_>,
-    found: &mut Items<Violation>,
+    found: &mut ItemList<Violation>,
 ) -> Result<(), NoMemory>
     requires { spec.AreSmall (placed in_use.now.wires.now.uses.names.tree.now)
         (has in_use.now.implementations.now.keys) }

@@ -7,7 +7,7 @@ ghost use Rattle.model_violations.specs.PortsAndVariables as spec;
 use crate::port_or_variable::Declared;
 use aadl_tree::Feature;
 use component_checks::type_findings::{is_in, kind_in};
-use pals_base::{Items, NoMemory, Text};
+use pals_base::{ItemList, NoMemory, Text};
 use std::alloc::Global;
 
 // A port.
@@ -26,7 +26,7 @@ fn add_port(
     alloc: Global,
     wanted: bool,
     port: &Feature,
-    ports: &mut Items<Declared>,
+    ports: &mut ItemList<Declared>,
 ) -> Result<(), NoMemory>
     ensures { OnOk result (ports.new ≡ ports.old ++ (if wanted then spec.port_of (feature_view kept_place port.now) ∷ [] else [])) }
 {
@@ -39,10 +39,10 @@ fn add_port(
 }
 
 /// The in ports, in order.
-pub fn ins_in(alloc: Global, ports: &[Feature]) -> Result<Items<Declared>, NoMemory>
+pub fn ins_in(alloc: Global, ports: &[Feature]) -> Result<ItemList<Declared>, NoMemory>
     ensures { IfOk result (λ ins. ins ≡ spec.ins_in (map (feature_view kept_place) ports.now)) }
 {
-    let mut ins = Items::new(alloc);
+    let mut ins = ItemList::new(alloc);
     for port in ports {
         add_port(alloc, is_in(port), port, &mut ins)?;
     }
@@ -50,10 +50,10 @@ pub fn ins_in(alloc: Global, ports: &[Feature]) -> Result<Items<Declared>, NoMem
 }
 
 /// The out ports, in order.
-pub fn outs_in(alloc: Global, ports: &[Feature]) -> Result<Items<Declared>, NoMemory>
+pub fn outs_in(alloc: Global, ports: &[Feature]) -> Result<ItemList<Declared>, NoMemory>
     ensures { IfOk result (λ outs. outs ≡ spec.outs_in (map (feature_view kept_place) ports.now)) }
 {
-    let mut outs = Items::new(alloc);
+    let mut outs = ItemList::new(alloc);
     for port in ports {
         add_port(alloc, !is_in(port), port, &mut outs)?;
     }

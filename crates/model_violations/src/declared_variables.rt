@@ -15,7 +15,7 @@ use aadl_tree::{AnnexTree, Identifier, Value, VariableDeclaration};
 use annex_resolve::type_names::kind_named;
 use component_checks::property_lookup::property_in;
 use component_checks::unquoted_strings::unquoted;
-use pals_base::{Items, Kind, NoMemory, Text};
+use pals_base::{ItemList, Kind, NoMemory, Text};
 use std::alloc::Global;
 
 const MOST: u64 = 9_223_372_036_854_775_807;
@@ -107,7 +107,7 @@ fn add_variable(
     kind: Option<Kind>,
     first: i64,
     name: &Identifier,
-    variables: &mut Items<Declared>,
+    variables: &mut ItemList<Declared>,
 ) -> Result<(), NoMemory>
     ensures { OnOk result (variables.new ≡ variables.old ++ spec.variable_of kind first (identifier_view kept_place name.now) ∷ []) }
 {
@@ -123,7 +123,7 @@ fn add_variable(
 fn add_variables(
     alloc: Global,
     declaration: &VariableDeclaration,
-    variables: &mut Items<Declared>,
+    variables: &mut ItemList<Declared>,
 ) -> Result<(), NoMemory>
     ensures { OnOk result (variables.new ≡ variables.old ++ spec.variables_in (variable_view kept_place declaration.now)) }
 {
@@ -137,10 +137,10 @@ fn add_variables(
 }
 
 /// The variables of a behaviour, in order.
-pub fn variables_of(alloc: Global, annex: &AnnexTree) -> Result<Items<Declared>, NoMemory>
+pub fn variables_of(alloc: Global, annex: &AnnexTree) -> Result<ItemList<Declared>, NoMemory>
     ensures { IfOk result (λ variables. variables ≡ spec.variables_of (annex_tree_view kept_place annex.now)) }
 {
-    let mut variables = Items::new(alloc);
+    let mut variables = ItemList::new(alloc);
     if let Some(declarations) = &annex.variables {
         for declaration in declarations {
             add_variables(alloc, declaration, &mut variables)?;

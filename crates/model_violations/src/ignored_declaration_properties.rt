@@ -12,14 +12,14 @@ use aadl_tree::{
     Annex, AnnexContent, Connection, Declaration, Feature, Implementation, Subcomponent,
     TypeDeclaration, VariableDeclaration,
 };
-use pals_base::{Items, NoMemory, Text};
+use pals_base::{ItemList, NoMemory, Text};
 use std::alloc::Global;
 
 // Adds the names at variables.
 fn add_variables(
     alloc: Global,
     variables: &[VariableDeclaration],
-    found: &mut Items<Text>,
+    found: &mut ItemList<Text>,
 ) -> Result<(), NoMemory>
     ensures { OnOk result (found.new ≡ found.old ++ flat_map spec.variable_ignored (map (variable_view kept_place) variables.now)) }
 {
@@ -31,7 +31,7 @@ fn add_variables(
 }
 
 // Adds the names at the variables in an annex.
-fn add_annex(alloc: Global, annex: &Annex, found: &mut Items<Text>) -> Result<(), NoMemory>
+fn add_annex(alloc: Global, annex: &Annex, found: &mut ItemList<Text>) -> Result<(), NoMemory>
     ensures { OnOk result (found.new ≡ found.old ++ spec.annex_ignored (annex_view kept_place annex.now)) }
 {
     match &annex.content {
@@ -44,7 +44,7 @@ fn add_annex(alloc: Global, annex: &Annex, found: &mut Items<Text>) -> Result<()
 }
 
 // Adds the names of properties that mean nothing at the variables in annexes.
-fn add_annexes(alloc: Global, annexes: &[Annex], found: &mut Items<Text>) -> Result<(), NoMemory>
+fn add_annexes(alloc: Global, annexes: &[Annex], found: &mut ItemList<Text>) -> Result<(), NoMemory>
     ensures { OnOk result (found.new ≡ found.old ++ flat_map spec.annex_ignored (map (annex_view kept_place) annexes.now)) }
 {
     for annex in annexes {
@@ -54,7 +54,7 @@ fn add_annexes(alloc: Global, annexes: &[Annex], found: &mut Items<Text>) -> Res
 }
 
 // Adds the names at ports.
-fn add_ports(alloc: Global, ports: &[Feature], found: &mut Items<Text>) -> Result<(), NoMemory>
+fn add_ports(alloc: Global, ports: &[Feature], found: &mut ItemList<Text>) -> Result<(), NoMemory>
     ensures { OnOk result (found.new ≡ found.old ++ flat_map spec.port_ignored (map (feature_view kept_place) ports.now)) }
 {
     for port in ports {
@@ -69,7 +69,11 @@ fn add_ports(alloc: Global, ports: &[Feature], found: &mut Items<Text>) -> Resul
 }
 
 // Adds the names at subcomponents.
-fn add_subs(alloc: Global, subs: &[Subcomponent], found: &mut Items<Text>) -> Result<(), NoMemory>
+fn add_subs(
+    alloc: Global,
+    subs: &[Subcomponent],
+    found: &mut ItemList<Text>,
+) -> Result<(), NoMemory>
     ensures { OnOk result (found.new ≡ found.old ++ flat_map spec.sub_ignored (map (subcomponent_view kept_place) subs.now)) }
 {
     for sub in subs {
@@ -83,7 +87,7 @@ fn add_subs(alloc: Global, subs: &[Subcomponent], found: &mut Items<Text>) -> Re
 fn add_connections(
     alloc: Global,
     connections: &[Connection],
-    found: &mut Items<Text>,
+    found: &mut ItemList<Text>,
 ) -> Result<(), NoMemory>
     ensures { OnOk result (found.new ≡ found.old ++ flat_map spec.connection_ignored (map (connection_view kept_place) connections.now)) }
 {
@@ -99,7 +103,7 @@ fn add_type(
     alloc: Global,
     of_root: bool,
     x: &TypeDeclaration,
-    found: &mut Items<Text>,
+    found: &mut ItemList<Text>,
 ) -> Result<(), NoMemory>
     ensures { OnOk result (found.new ≡ found.old ++ spec.type_ignored of_root (type_view kept_place x.now)) }
 {
@@ -114,7 +118,7 @@ fn add_implementation(
     alloc: Global,
     of_root: bool,
     x: &Implementation,
-    found: &mut Items<Text>,
+    found: &mut ItemList<Text>,
 ) -> Result<(), NoMemory>
     ensures { OnOk result (found.new ≡ found.old ++ spec.implementation_ignored of_root (implementation_view kept_place x.now)) }
 {
@@ -143,7 +147,7 @@ pub fn add_declaration(
     root_type: Option<usize>,
     number: usize,
     declaration: &Declaration,
-    found: &mut Items<Text>,
+    found: &mut ItemList<Text>,
 ) -> Result<(), NoMemory>
     ensures { OnOk result (found.new ≡ found.old
         ++ spec.declaration_ignored root root_type (number, declaration_view kept_place declaration.now)) }

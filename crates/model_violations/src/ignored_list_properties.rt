@@ -13,7 +13,7 @@ use aadl_names::PropertyHolder;
 use aadl_names::name_comparison::is_spelled;
 use aadl_names::qualified_names::spelled_name;
 use aadl_tree::{Association, Name};
-use pals_base::{Items, NoMemory, Text};
+use pals_base::{ItemList, NoMemory, Text};
 use std::alloc::Global;
 
 // Whether a property of this name is recognised at a kind of place.
@@ -40,7 +40,7 @@ fn add_association(
     alloc: Global,
     holder: PropertyHolder,
     association: &Association,
-    found: &mut Items<Text>,
+    found: &mut ItemList<Text>,
 ) -> Result<(), NoMemory>
     ensures { OnOk result (found.new ≡ found.old ++ spec.association_ignored holder (association_view kept_place association.now)) }
 {
@@ -55,7 +55,7 @@ pub fn add_list(
     alloc: Global,
     holder: PropertyHolder,
     list: &[Association],
-    found: &mut Items<Text>,
+    found: &mut ItemList<Text>,
 ) -> Result<(), NoMemory>
     ensures { OnOk result (found.new ≡ found.old ++ spec.ignored_in holder (associations_view kept_place list.now)) }
 {

@@ -8,7 +8,7 @@ use crate::distinct_spellings::first_spellings;
 use crate::ignored_declaration_properties::add_declaration;
 use aadl_tree::PackageTree;
 use aadl_uses::Uses;
-use pals_base::{Items, NoMemory, Text};
+use pals_base::{ItemList, NoMemory, Text};
 use std::alloc::Global;
 
 // Adds the names of the declarations, by the numbers of the root's implementation and of its type.
@@ -17,7 +17,7 @@ fn add_declarations(
     tree: &PackageTree,
     root: usize,
     root_type: Option<usize>,
-    found: &mut Items<Text>,
+    found: &mut ItemList<Text>,
 ) -> Result<(), NoMemory>
     ensures { OnOk result (found.new ≡ found.old
         ++ flat_map (spec.declaration_ignored root root_type) (enumerate_from 0 (placed tree.now).declarations)) }
@@ -30,11 +30,15 @@ fn add_declarations(
 
 /// The names of the properties of a package that mean nothing where they stand, in order of first
 /// appearance, each as it is first spelled.
-pub fn ignored_names(alloc: Global, uses: &Uses<'_>, root: usize) -> Result<Items<Text>, NoMemory>
+pub fn ignored_names(
+    alloc: Global,
+    uses: &Uses<'_>,
+    root: usize,
+) -> Result<ItemList<Text>, NoMemory>
     ensures { IfOk result (λ found. found ≡ spec.ignored_names (placed uses.now.names.tree.now) root) }
 {
     let root_type = uses.type_number(root);
-    let mut found = Items::new(alloc);
+    let mut found = ItemList::new(alloc);
     add_declarations(alloc, uses.names.tree, root, root_type, &mut found)?;
     first_spellings(alloc, found.as_slice())
 }

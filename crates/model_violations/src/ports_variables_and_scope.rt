@@ -6,7 +6,7 @@ ghost use Rattle.model_violations.specs.PortsAndVariables as spec;
 
 use crate::port_or_variable::Declared;
 use annex_resolve::{DeclaredName, DeclaredValues, Meaning, Scope};
-use pals_base::{Items, Kind, NoMemory, PortDecl, TryClone, VarDecl};
+use pals_base::{ItemList, Kind, NoMemory, PortDecl, TryClone, VarDecl};
 use std::alloc::Global;
 
 // A type; a bad one is as good as Integer.
@@ -20,10 +20,10 @@ fn or_integer(kind: Option<Kind>) -> Kind
 }
 
 // Ports as a behaviour has them.
-fn named(alloc: Global, ports: &[Declared]) -> Result<Items<PortDecl>, NoMemory>
+fn named(alloc: Global, ports: &[Declared]) -> Result<ItemList<PortDecl>, NoMemory>
     ensures { IfOk result (λ named. named ≡ map spec.named_of ports.now) }
 {
-    let mut named = Items::new(alloc);
+    let mut named = ItemList::new(alloc);
     for port in ports {
         named.push(PortDecl {
             name: port.name.try_clone(alloc)?,
@@ -34,10 +34,10 @@ fn named(alloc: Global, ports: &[Declared]) -> Result<Items<PortDecl>, NoMemory>
 }
 
 // Variables as a behaviour has them.
-fn vars(alloc: Global, variables: &[Declared]) -> Result<Items<VarDecl>, NoMemory>
+fn vars(alloc: Global, variables: &[Declared]) -> Result<ItemList<VarDecl>, NoMemory>
     ensures { IfOk result (λ vars. vars ≡ map spec.var_of variables.now) }
 {
-    let mut vars = Items::new(alloc);
+    let mut vars = ItemList::new(alloc);
     for variable in variables {
         vars.push(VarDecl {
             name: variable.name.try_clone(alloc)?,
@@ -79,7 +79,7 @@ fn entry_of(alloc: Global, declared: &Declared, meaning: Meaning) -> Result<Decl
 fn add_ins(
     alloc: Global,
     ins: &[Declared],
-    entries: &mut Items<DeclaredName>,
+    entries: &mut ItemList<DeclaredName>,
 ) -> Result<(), NoMemory>
     requires { length ins.now < 2 ^ 32 }
     ensures { OnOk result (entries.new ≡ entries.old ++ map spec.in_entry (enumerate_from 0 ins.now)) }
@@ -94,7 +94,7 @@ fn add_ins(
 fn add_outs(
     alloc: Global,
     outs: &[Declared],
-    entries: &mut Items<DeclaredName>,
+    entries: &mut ItemList<DeclaredName>,
 ) -> Result<(), NoMemory>
     requires { length outs.now < 2 ^ 32 }
     ensures { OnOk result (entries.new ≡ entries.old ++ map spec.out_entry (enumerate_from 0 outs.now)) }
@@ -109,7 +109,7 @@ fn add_outs(
 fn add_vars(
     alloc: Global,
     variables: &[Declared],
-    entries: &mut Items<DeclaredName>,
+    entries: &mut ItemList<DeclaredName>,
 ) -> Result<(), NoMemory>
     requires { length variables.now < 2 ^ 32 }
     ensures { OnOk result (entries.new ≡ entries.old ++ map spec.variable_entry (enumerate_from 0 variables.now)) }
@@ -132,7 +132,7 @@ fn scope_by(
     requires variables { length variables.now < 2 ^ 32 }
     ensures { IfOk result (λ scope. scope ≡ spec.scope_by ins.now outs.now variables.now) }
 {
-    let mut entries = Items::new(alloc);
+    let mut entries = ItemList::new(alloc);
     add_ins(alloc, ins, &mut entries)?;
     add_outs(alloc, outs, &mut entries)?;
     add_vars(alloc, variables, &mut entries)?;

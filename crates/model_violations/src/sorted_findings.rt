@@ -5,7 +5,7 @@ ghost use Rattle.std.specs.Ordering.{is_lt};
 ghost use Rattle.model_violations.specs.Violations.{goes_before};
 
 use annex_resolve::Violation;
-use pals_base::{Items, NoMemory};
+use pals_base::{ItemList, NoMemory};
 use std::cmp::Ordering;
 
 // How two findings stand to one another.
@@ -22,11 +22,11 @@ fn compare(a: &Violation, b: &Violation) -> Ordering
 }
 
 /// The findings by place, then by number. Those of one place and number stay in their order.
-pub fn in_order(findings: Items<Violation>) -> Result<Items<Violation>, NoMemory>
+pub fn in_order(findings: ItemList<Violation>) -> Result<ItemList<Violation>, NoMemory>
     ensures sorted { IfOk result (λ list. IsSortedBy goes_before list) }
     ensures same { IfOk result (λ list. IsStableBy goes_before findings list) }
 {
     let mut list = findings.into_vec();
     list.sort_by(|a, b| compare(a, b))?;
-    Ok(Items::from_vec(list))
+    Ok(ItemList::from_vec(list))
 }

@@ -20,7 +20,7 @@ use aadl_uses::Uses;
 use annex_resolve::violation::NO_INITIAL;
 use annex_resolve::{DeclaredValues, Scope, Violation, resolve_annex};
 use component_checks::type_findings::add_variables_findings;
-use pals_base::{BehaviourParts, Items, NoMemory};
+use pals_base::{BehaviourParts, ItemList, NoMemory};
 use std::alloc::Global;
 
 // The behaviour of an annex, with the annex's place.
@@ -82,7 +82,7 @@ fn resolve_numbered(
     uses: &Uses<'_>,
     number: usize,
     x: &Implementation,
-    found: &mut Items<Violation>,
+    found: &mut ItemList<Violation>,
 ) -> Result<Option<BehaviourParts>, NoMemory>
     requires number { implementation_at (placed uses.now.names.tree.now) number ≡ Some (implementation_view kept_place x.now) }
     requires small { spec.IsSmall (placed uses.now.names.tree.now) (implementation_view kept_place x.now) }
@@ -107,7 +107,7 @@ pub fn resolve_implementation(
     alloc: Global,
     uses: &Uses<'_>,
     number: usize,
-    found: &mut Items<Violation>,
+    found: &mut ItemList<Violation>,
 ) -> Result<Option<BehaviourParts>, NoMemory>
     requires { (x : trees.Implementation ℕ) → implementation_at (placed uses.now.names.tree.now) number ≡ Some x
         → spec.IsSmall (placed uses.now.names.tree.now) x }

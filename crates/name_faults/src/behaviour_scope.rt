@@ -5,7 +5,7 @@ ghost use Rattle.std.specs.List.{list_any};
 
 use aadl_names::{NameTable, Role};
 use aadl_tree::Identifier;
-use pals_base::{Items, Text, TryClone};
+use pals_base::{ItemList, Text, TryClone};
 use std::alloc::{AllocError, Global};
 use std::marker::Model;
 
@@ -16,7 +16,7 @@ pub struct BehaviourScope<'t> {
     alloc: Global,
     first: &'t NameTable<Role>,
     second: &'t NameTable<Role>,
-    loops: Items<Text>,
+    loops: ItemList<Text>,
 }
 
 impl<'t> Model for BehaviourScope<'t> {
@@ -47,7 +47,7 @@ impl<'t> BehaviourScope<'t> {
             alloc,
             first,
             second,
-            loops: Items::new(alloc),
+            loops: ItemList::new(alloc),
         }
     }
 

@@ -19,14 +19,14 @@ use aadl_tree::{
     AnnexTree, Connection, Declaration, Feature, Identifier, Identifiers, Implementation,
     PackageTree, Spelling, Subcomponent,
 };
-use pals_base::Items;
+use pals_base::ItemList;
 use std::alloc::{AllocError, Global};
 
 /// Ports.
-pub fn port_entries(alloc: Global, ports: &[Feature]) -> Result<Items<SpelledName>, AllocError>
+pub fn port_entries(alloc: Global, ports: &[Feature]) -> Result<ItemList<SpelledName>, AllocError>
     ensures { IfOk result (λ entries. entries ≡ spec.port_entries (map (feature_view kept_place) ports.now)) }
 {
-    let mut entries = Items::new(alloc);
+    let mut entries = ItemList::new(alloc);
     for port in ports {
         add_word(alloc, &mut entries, &port.name)?;
     }
@@ -34,10 +34,13 @@ pub fn port_entries(alloc: Global, ports: &[Feature]) -> Result<Items<SpelledNam
 }
 
 /// Subcomponents and connections.
-pub fn member_entries(alloc: Global, x: &Implementation) -> Result<Items<SpelledName>, AllocError>
+pub fn member_entries(
+    alloc: Global,
+    x: &Implementation,
+) -> Result<ItemList<SpelledName>, AllocError>
     ensures { IfOk result (λ entries. entries ≡ spec.member_entries (implementation_view kept_place x.now)) }
 {
-    let mut entries = Items::new(alloc);
+    let mut entries = ItemList::new(alloc);
     add_subcomponents(alloc, &mut entries, x.subcomponents.as_slice())?;
     add_connections(alloc, &mut entries, x.connections.as_slice())?;
     Ok(entries)
@@ -45,7 +48,7 @@ pub fn member_entries(alloc: Global, x: &Implementation) -> Result<Items<Spelled
 
 fn add_subcomponents(
     alloc: Global,
-    entries: &mut Items<SpelledName>,
+    entries: &mut ItemList<SpelledName>,
     subs: &[Subcomponent],
 ) -> Result<(), AllocError>
     ensures { OnOk result (entries.new ≡ entries.old ++ map (λ s. entry_of s.name) (map (subcomponent_view kept_place) subs.now)) }
@@ -58,7 +61,7 @@ fn add_subcomponents(
 
 fn add_connections(
     alloc: Global,
-    entries: &mut Items<SpelledName>,
+    entries: &mut ItemList<SpelledName>,
     connections: &[Connection],
 ) -> Result<(), AllocError>
     ensures { OnOk result (entries.new ≡ entries.old ++ map (λ c. entry_of c.name) (map (connection_view kept_place) connections.now)) }
@@ -73,10 +76,10 @@ fn add_connections(
 pub fn variable_entries(
     alloc: Global,
     behaviour: &AnnexTree,
-) -> Result<Items<SpelledName>, AllocError>
+) -> Result<ItemList<SpelledName>, AllocError>
     ensures { IfOk result (λ entries. entries ≡ spec.variable_entries (annex_tree_view kept_place behaviour.now)) }
 {
-    let mut entries = Items::new(alloc);
+    let mut entries = ItemList::new(alloc);
     for declaration in variables_in(behaviour) {
         add_words(alloc, &mut entries, &declaration.names)?;
     }
@@ -84,10 +87,13 @@ pub fn variable_entries(
 }
 
 /// States of a behaviour.
-pub fn state_entries(alloc: Global, behaviour: &AnnexTree) -> Result<Items<SpelledName>, AllocError>
+pub fn state_entries(
+    alloc: Global,
+    behaviour: &AnnexTree,
+) -> Result<ItemList<SpelledName>, AllocError>
     ensures { IfOk result (λ entries. entries ≡ spec.state_entries (annex_tree_view kept_place behaviour.now)) }
 {
-    let mut entries = Items::new(alloc);
+    let mut entries = ItemList::new(alloc);
     for declaration in states_in(behaviour) {
         add_words(alloc, &mut entries, &declaration.names)?;
     }
@@ -95,10 +101,10 @@ pub fn state_entries(alloc: Global, behaviour: &AnnexTree) -> Result<Items<Spell
 }
 
 /// Types.
-pub fn type_entries(alloc: Global, tree: &PackageTree) -> Result<Items<SpelledName>, AllocError>
+pub fn type_entries(alloc: Global, tree: &PackageTree) -> Result<ItemList<SpelledName>, AllocError>
     ensures { IfOk result (λ entries. entries ≡ filter_map spec.type_entry (placed tree.now).declarations) }
 {
-    let mut entries = Items::new(alloc);
+    let mut entries = ItemList::new(alloc);
     for declaration in &tree.declarations {
         add_type(alloc, &mut entries, declaration)?;
     }
@@ -109,10 +115,10 @@ pub fn type_entries(alloc: Global, tree: &PackageTree) -> Result<Items<SpelledNa
 pub fn implementation_entries(
     alloc: Global,
     tree: &PackageTree,
-) -> Result<Items<SpelledName>, AllocError>
+) -> Result<ItemList<SpelledName>, AllocError>
     ensures { IfOk result (λ entries. entries ≡ filter_map spec.implementation_entry (placed tree.now).declarations) }
 {
-    let mut entries = Items::new(alloc);
+    let mut entries = ItemList::new(alloc);
     for declaration in &tree.declarations {
         add_implementation(alloc, &mut entries, declaration)?;
     }
@@ -121,7 +127,7 @@ pub fn implementation_entries(
 
 fn add_type(
     alloc: Global,
-    entries: &mut Items<SpelledName>,
+    entries: &mut ItemList<SpelledName>,
     declaration: &Declaration,
 ) -> Result<(), AllocError>
     ensures { OnOk result (entries.new ≡ entries.old ++ filter_map spec.type_entry (declaration_view kept_place declaration.now ∷ [])) }
@@ -138,7 +144,7 @@ fn add_type(
 
 fn add_implementation(
     alloc: Global,
-    entries: &mut Items<SpelledName>,
+    entries: &mut ItemList<SpelledName>,
     declaration: &Declaration,
 ) -> Result<(), AllocError>
     ensures { OnOk result (entries.new ≡ entries.old ++ filter_map spec.implementation_entry (declaration_view kept_place declaration.now ∷ [])) }
@@ -156,7 +162,7 @@ fn add_implementation(
 
 fn add_words(
     alloc: Global,
-    entries: &mut Items<SpelledName>,
+    entries: &mut ItemList<SpelledName>,
     words: &Identifiers,
 ) -> Result<(), AllocError>
     ensures { OnOk result (entries.new ≡ entries.old ++ map entry_of (identifiers (identifiers_view kept_place words.now))) }
@@ -170,7 +176,7 @@ fn add_words(
 
 fn add_word(
     alloc: Global,
-    entries: &mut Items<SpelledName>,
+    entries: &mut ItemList<SpelledName>,
     word: &Identifier,
 ) -> Result<(), AllocError>
     ensures { OnOk result (entries.new ≡ entries.old ++ entry_of (identifier_view kept_place word.now) ∷ []) }

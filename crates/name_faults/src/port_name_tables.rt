@@ -19,7 +19,7 @@ use aadl_names::duplicate_names::check_twice;
 use aadl_names::earliest_by_name::earliest_of;
 use aadl_names::{FaultFinder, NameTable, NumberedPlace, PackageFault, Role, SpelledName};
 use aadl_tree::{Declaration, Direction, Feature, PackageTree};
-use pals_base::Items;
+use pals_base::ItemList;
 use std::alloc::{AllocError, Global};
 
 /// What the ports of one type are called: what is asked of them for each of its implementations.
@@ -45,7 +45,7 @@ impl Drop for PortNames {
 /// What the ports of all types are called.
 pub struct AllPortNames {
     /// The names of the ports of each declaration, by its number.
-    pub of_declarations: Items<PortNames>,
+    pub of_declarations: ItemList<PortNames>,
     /// The names of no ports.
     pub none: PortNames,
 }
@@ -124,7 +124,7 @@ fn ports_in(declaration: &Declaration) -> &[Feature]
 pub fn all_port_names(alloc: Global, tree: &PackageTree) -> Result<AllPortNames, AllocError>
     ensures { IfOk result (AreAllNamesOf (placed tree.now)) }
 {
-    let mut of_declarations = Items::new(alloc);
+    let mut of_declarations = ItemList::new(alloc);
     for declaration in &tree.declarations {
         of_declarations.push(port_names(alloc, ports_in(declaration))?)?;
     }

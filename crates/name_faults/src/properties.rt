@@ -20,7 +20,7 @@ use aadl_names::name_comparison::is_spelled;
 use aadl_names::qualified_names::spelled_name;
 use aadl_names::{FaultFinder, PropertyHolder, SpelledName};
 use aadl_tree::{Association, Name, Spelling, Value};
-use pals_base::Items;
+use pals_base::ItemList;
 use std::alloc::{AllocError, Global};
 
 // Whether a property of the name is recognised here, and the value has another shape.
@@ -67,7 +67,7 @@ fn association_entry(alloc: Global, association: &Association) -> Result<Spelled
 // Adds a property, unless it applies elsewhere.
 fn add_property(
     alloc: Global,
-    entries: &mut Items<SpelledName>,
+    entries: &mut ItemList<SpelledName>,
     association: &Association,
 ) -> Result<(), AllocError>
     ensures { OnOk result (entries.new ≡ entries.old ++ property_entries (associate (association_view kept_place association.now) no_associations)) }
@@ -79,10 +79,13 @@ fn add_property(
 }
 
 // The properties of a list, except those that apply elsewhere.
-fn property_entries(alloc: Global, list: &[Association]) -> Result<Items<SpelledName>, AllocError>
+fn property_entries(
+    alloc: Global,
+    list: &[Association],
+) -> Result<ItemList<SpelledName>, AllocError>
     ensures { IfOk result (λ entries. entries ≡ property_entries (associations_view kept_place list.now)) }
 {
-    let mut entries = Items::new(alloc);
+    let mut entries = ItemList::new(alloc);
     for association in list {
         add_property(alloc, &mut entries, association)?;
     }

@@ -5,7 +5,7 @@ use denote.Struct.Declared as S
 use Rattle.std.proofs.Crossing.{Box-send, Box-sync, Vec-send, Vec-sync, Arc-send, Arc-sync, crosses}
 use Rattle.pals_base.proofs.behaviour.Expr.TheLaws.TheKnot.{send-Expr, sync-Expr}
 use Rattle.pals_base.proofs.behaviour.Act.TheLaws.TheKnot.{send-Act, sync-Act}
-use Rattle.pals_base.proofs.items.Items.TheSendSync.{the_send as items_send, the_sync as items_sync}
+use Rattle.pals_base.proofs.item_list.ItemList.TheSendSync.{the_send as items_send, the_sync as items_sync}
 use Rattle.pals_base.proofs.text.Text.TheSendSync.{the_send as text_send, the_sync as text_sync}
 use Rattle.step_code.proofs.code.Code.TheSendSync.{the_send as code_send, the_sync as code_sync}
 use Rattle.link_buffers.proofs.slot.Slot.TheSendSync.{the_send as slot_send}

@@ -7,7 +7,7 @@ ghost use Rattle.node_threads.specs.proof.SharedCourses.{Stays, IsOpen, IsNext, 
 
 use crate::course::SharedRun;
 use bus_machine::Next;
-use pals_base::{Items, Nanos, NoMemory, NodeNo};
+use pals_base::{ItemList, Nanos, NoMemory, NodeNo};
 use pals_bus::Meet;
 use pals_clock::{ClockEnd, Clocks, ListClock};
 use std::alloc::Global;
@@ -69,21 +69,21 @@ impl SharedRun {
 }
 
 /// The lists of clocks that are handed in, of which nothing is picked; none where the nodes meet.
-pub fn fresh_lists(alloc: Global, clocks: &Clocks) -> Result<Items<ListClock>, NoMemory>
+pub fn fresh_lists(alloc: Global, clocks: &Clocks) -> Result<ItemList<ListClock>, NoMemory>
     ensures lists { IfOk result (λ lists. lists ≡ fresh_of clocks.now) }
     ensures order { IfOk result (All (λ clock. IsNonDecreasing clock.readings)) }
 {
     match clocks {
-        Clocks::Meet => Ok(Items::new(alloc)),
+        Clocks::Meet => Ok(ItemList::new(alloc)),
         Clocks::Lists(lists) => unpicked_lists(alloc, lists.as_slice()),
     }
 }
 
-fn unpicked_lists(alloc: Global, lists: &[ListClock]) -> Result<Items<ListClock>, NoMemory>
+fn unpicked_lists(alloc: Global, lists: &[ListClock]) -> Result<ItemList<ListClock>, NoMemory>
     ensures lists { IfOk result (λ fresh. fresh ≡ fresh_of (Lists lists.now)) }
     ensures order { IfOk result (All (λ clock. IsNonDecreasing clock.readings)) }
 {
-    let mut fresh = Items::new(alloc);
+    let mut fresh = ItemList::new(alloc);
     for list in lists {
         fresh.push(unpicked_list(alloc, list)?)?;
     }
@@ -94,7 +94,7 @@ fn unpicked_list(alloc: Global, list: &ListClock) -> Result<ListClock, NoMemory>
     ensures list { IfOk result (λ fresh. fresh ≡ unpicked list.now.readings) }
     ensures order { IsNonDecreasing list.now.readings }
 {
-    let readings = Items::from_slice(alloc, list.readings())?;
+    let readings = ItemList::from_slice(alloc, list.readings())?;
     Ok(ListClock::new(readings))
 }
 

@@ -11,7 +11,7 @@ ghost use Rattle.node_threads.specs.proof.NodeEndsAndOutcomes.{AllEnded, EndsFit
 use crate::clocks::same_lists;
 use crate::node_end::{NodeEnd, NodeNote};
 use bus_machine::{Next, NodeAction};
-use pals_base::{Items, Nanos, NoMemory, NodeNo};
+use pals_base::{ItemList, Nanos, NoMemory, NodeNo};
 use pals_bus::Bus;
 use pals_clock::ListClock;
 use pals_model::Design;
@@ -26,8 +26,8 @@ use std::marker::Model;
 pub struct SharedRun {
     pub(crate) bus: Bus,
     // One list for each node, or none where the nodes meet.
-    pub(crate) lists: Items<ListClock>,
-    pub(crate) notes: Items<NodeNote>,
+    pub(crate) lists: ItemList<ListClock>,
+    pub(crate) notes: ItemList<NodeNote>,
 }
 
 impl Model for SharedRun {
@@ -47,7 +47,7 @@ impl Model for SharedRun {
 impl SharedRun {
     /// A run before its first event, with lists of which nothing is picked, or with none where the
     /// nodes meet.
-    pub fn new(alloc: Global, bus: Bus, lists: Items<ListClock>) -> Result<SharedRun, NoMemory>
+    pub fn new(alloc: Global, bus: Bus, lists: ItemList<ListClock>) -> Result<SharedRun, NoMemory>
         requires opening { bus ≡ opening_bus bus.run bus.codes bus.meeting }
         requires clocks { HaveFreshClocks bus.run (clocks_of bus.meeting lists) }
         ensures { IfOk result (λ c. (c.bus ≡ bus) × (c.clocks ≡ clocks_of bus.meeting lists)) }
@@ -57,7 +57,7 @@ impl SharedRun {
         Ok(SharedRun {
             bus,
             lists,
-            notes: Items::from_vec(notes),
+            notes: ItemList::from_vec(notes),
         })
     }
 
@@ -97,12 +97,12 @@ impl SharedRun {
     }
 
     /// How the part of each node ended.
-    pub fn ends(&self, alloc: Global) -> Result<Items<NodeEnd>, NoMemory>
+    pub fn ends(&self, alloc: Global) -> Result<ItemList<NodeEnd>, NoMemory>
         requires { AllEnded self.now }
         ensures { IfOk result (λ ends. EndsFit self.now.bus self.now.clocks ends) }
     {
         self.agreement();
-        let mut ends = Items::new(alloc);
+        let mut ends = ItemList::new(alloc);
         for node in 0..self.count() {
             let Some(end) = self.end_of(NodeNo(node)) else {
                 unreachable!();

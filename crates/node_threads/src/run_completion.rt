@@ -9,7 +9,7 @@ use crate::job_gate::{Gate, done_by};
 use crate::moves_under_lock::NextMove;
 use crate::node_end::NodeEnd;
 use crate::threaded_run::RunEnd;
-use pals_base::{Items, NoMemory, NodeNo};
+use pals_base::{ItemList, NoMemory, NodeNo};
 use std::alloc::Global;
 use std::mem::swap;
 use std::sync::Wait;
@@ -67,7 +67,7 @@ fn drive<R: Wait, G: Gate>(
     alloc: Global,
     course: &mut SharedRun,
     gate: &G,
-) -> Result<Items<NodeEnd>, NoMemory>
+) -> Result<ItemList<NodeEnd>, NoMemory>
     ensures stays { Stays course.old course.new }
     ensures ends { IfOk result (EndsFit course.new.bus course.new.clocks) }
 {

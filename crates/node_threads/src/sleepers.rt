@@ -9,7 +9,7 @@ ghost use Rattle.node_threads.specs.proof.Sleepers.{IsAbove, IsHourOver, Waits, 
 use crate::course::SharedRun;
 use crate::wake_list::{Sleeper, WakeList};
 use pals_base::limits::READING;
-use pals_base::{Items, Nanos, NoMemory, NodeNo};
+use pals_base::{ItemList, Nanos, NoMemory, NodeNo};
 use std::alloc::Global;
 
 /// Whether the calling thread has a node, and whether the thread that has it sleeps.
@@ -22,7 +22,7 @@ pub struct ThreadSlot {
 /// Who sleeps, and who is to be woken once the lock is free.
 #[derive(Drop)]
 pub struct Sleepers {
-    threads: Items<ThreadSlot>,
+    threads: ItemList<ThreadSlot>,
     // Where the nodes meet, the least target when it was last looked for, in nanoseconds.
     hour: Nanos,
     wakes: WakeList,
@@ -39,7 +39,7 @@ impl Sleepers {
         };
         let threads = vec![in alloc; slot; count as usize]?;
         Ok(Sleepers {
-            threads: Items::from_vec(threads),
+            threads: ItemList::from_vec(threads),
             hour: 0,
             wakes: WakeList::none(),
         })

@@ -2,7 +2,7 @@
 ghost use Rattle.std.specs.Prelude.{◌≡◌, ◌==◌, true, not};
 ghost use Rattle.std.specs.List.{list_any};
 
-use pals_base::{Items, NodeNo};
+use pals_base::{ItemList, NodeNo};
 use std::marker::Model;
 
 /// Tells whether a node may have a thread.
@@ -25,7 +25,7 @@ impl Starter for ThreadStarter {
 /// Refuses the nodes of a list. Contracts see it as that list.
 #[derive(Drop)]
 pub struct FakeStarter {
-    refused: Items<NodeNo>,
+    refused: ItemList<NodeNo>,
 }
 
 impl Model for FakeStarter {
@@ -39,7 +39,7 @@ impl Model for FakeStarter {
 
 impl FakeStarter {
     /// Refuses these nodes, and no others.
-    pub fn new(refused: Items<NodeNo>) -> FakeStarter
+    pub fn new(refused: ItemList<NodeNo>) -> FakeStarter
         ensures { result ≡ refused }
     {
         FakeStarter { refused }

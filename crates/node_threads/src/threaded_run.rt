@@ -17,7 +17,7 @@ use crate::sleepers::Sleepers;
 use crate::thread_starters::Starter;
 use crate::wake_signals::WakeSignals;
 use crate::workers::work_all;
-use pals_base::{Items, NoMemory};
+use pals_base::{ItemList, NoMemory};
 use pals_bus::Bus;
 use pals_clock::Clocks;
 use std::alloc::Global;
@@ -29,7 +29,7 @@ use std::thread::Threads;
 #[derive(Drop)]
 pub struct RunEnd {
     pub bus: Bus,
-    pub ends: Items<NodeEnd>,
+    pub ends: ItemList<NodeEnd>,
     pub ghost few: { length ends ≤ COMPONENTS },
     pub ghost stopped: { (node : ℕ) → slice_get ends node ≡ Some ended.Stopped → bus.state.stop ≢ None },
 }

@@ -1,6 +1,6 @@
 //! Behaviours of threads: typed machines whose steps are trees of actions and expressions.
 use crate::basic_types::NoMemory;
-use crate::items::Items;
+use crate::item_list::ItemList;
 use crate::text::Text;
 use crate::try_clone::TryClone;
 use std::alloc::Global;
@@ -191,12 +191,12 @@ impl Model for Transition {
 /// The parts of a behaviour: its ports, variables and states, the number of its initial state, and
 /// the transitions in the text's order.
 pub struct BehaviourParts {
-    pub ins: Items<PortDecl>,
-    pub outs: Items<PortDecl>,
-    pub vars: Items<VarDecl>,
-    pub states: Items<StateDecl>,
+    pub ins: ItemList<PortDecl>,
+    pub outs: ItemList<PortDecl>,
+    pub vars: ItemList<VarDecl>,
+    pub states: ItemList<StateDecl>,
     pub initial: u32,
-    pub transitions: Items<Transition>,
+    pub transitions: ItemList<Transition>,
 }
 
 // By hand, so that letting it go is one call in the crates above, and is proved once.

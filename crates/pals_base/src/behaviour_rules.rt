@@ -13,7 +13,7 @@ mod states;
 use crate::basic_types::NoMemory;
 use crate::behaviour::{Behaviour, BehaviourParts, Guard, Transition};
 use crate::expression_kinds::Kinds;
-use crate::items::Items;
+use crate::item_list::ItemList;
 use crate::names::{add_names, are_distinct, are_words};
 use crate::text::Text;
 use actions::are_sound;
@@ -49,10 +49,10 @@ impl BehaviourParts {
     }
 
     // The names of the ports and the variables.
-    fn value_names(&self, alloc: Global) -> Result<Items<Text>, NoMemory>
+    fn value_names(&self, alloc: Global) -> Result<ItemList<Text>, NoMemory>
         ensures { IfOk result (λ names. names ≡ value_names self.now) }
     {
-        let mut names = Items::new(alloc);
+        let mut names = ItemList::new(alloc);
         add_names(alloc, &mut names, self.ins.as_slice())?;
         add_names(alloc, &mut names, self.outs.as_slice())?;
         add_names(alloc, &mut names, self.vars.as_slice())?;

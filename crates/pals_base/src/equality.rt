@@ -8,7 +8,7 @@ mod transitions;
 mod value_and_frame_equality;
 
 use crate::behaviour::{Behaviour, BehaviourParts};
-use crate::items::Items;
+use crate::item_list::ItemList;
 
 /// A type whose values can be told apart by their contents.
 pub trait Same {
@@ -32,8 +32,8 @@ fn same_items<T: Same>(left: &[T], right: &[T]) -> bool
     true
 }
 
-impl<T: Same> Same for Items<T> {
-    fn same(&self, other: &Items<T>) -> bool {
+impl<T: Same> Same for ItemList<T> {
+    fn same(&self, other: &ItemList<T>) -> bool {
         same_items(self.as_slice(), other.as_slice())
     }
 }

@@ -5,15 +5,15 @@ ghost use Rattle.pals_base.specs.SingleStep.{initial};
 
 use crate::basic_types::{NoMemory, Trap};
 use crate::behaviour::{Behaviour, VarDecl};
-use crate::items::Items;
+use crate::item_list::ItemList;
 use std::alloc::Global;
 
 /// What a component keeps from one step to the next: the number of its state, its variables, the
 /// last value that each in port brought, and the trap that halted it, if one did.
 pub struct Frame {
     pub state: u32,
-    pub vars: Items<i64>,
-    pub held: Items<i64>,
+    pub vars: ItemList<i64>,
+    pub held: ItemList<i64>,
     pub halt: Option<Trap>,
 }
 
@@ -58,10 +58,10 @@ impl Frame {
 }
 
 // The variables' first values.
-fn first_values(alloc: Global, vars: &[VarDecl]) -> Result<Items<i64>, NoMemory>
+fn first_values(alloc: Global, vars: &[VarDecl]) -> Result<ItemList<i64>, NoMemory>
     ensures { IfOk result (λ values. values ≡ map (λ v. v.first) vars.now) }
 {
-    let mut values = Items::new(alloc);
+    let mut values = ItemList::new(alloc);
     for var in vars {
         values.push(var.first)?;
     }
@@ -69,8 +69,8 @@ fn first_values(alloc: Global, vars: &[VarDecl]) -> Result<Items<i64>, NoMemory>
 }
 
 // A list of `count` zeros.
-fn zeros(alloc: Global, count: usize) -> Result<Items<i64>, NoMemory>
+fn zeros(alloc: Global, count: usize) -> Result<ItemList<i64>, NoMemory>
     ensures { IfOk result (λ values. values ≡ replicate count (pos 0)) }
 {
-    Ok(Items::from_vec(vec![in alloc; 0; count]?))
+    Ok(ItemList::from_vec(vec![in alloc; 0; count]?))
 }

@@ -10,7 +10,7 @@ pub mod behaviour_rules;
 pub mod equality;
 pub mod expression_kinds;
 pub mod frames;
-pub mod items;
+pub mod item_list;
 pub mod laws;
 pub mod limits;
 pub mod names;
@@ -29,7 +29,7 @@ pub use behaviour::{
 pub use equality::Same;
 pub use expression_kinds::Kinds;
 pub use frames::Frame;
-pub use items::Items;
+pub use item_list::ItemList;
 pub use names::HasName;
 pub use period_bound_and_releases::Gamma;
 pub use text::Text;

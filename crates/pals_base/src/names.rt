@@ -5,7 +5,7 @@ ghost use Rattle.pals_base.specs.Names.{is_letter, is_word_byte, is_led_by_lette
 
 use crate::basic_types::NoMemory;
 use crate::behaviour::{PortDecl, StateDecl, VarDecl};
-use crate::items::Items;
+use crate::item_list::ItemList;
 use crate::limits::NAME_BYTES;
 use crate::text::Text;
 use crate::try_clone::TryClone;
@@ -100,7 +100,7 @@ pub fn are_distinct<T: HasName>(items: &[T]) -> bool
 /// Adds the names of these behind others.
 pub fn add_names<T: HasName>(
     alloc: Global,
-    names: &mut Items<Text>,
+    names: &mut ItemList<Text>,
     items: &[T],
 ) -> Result<(), NoMemory>
     ensures { OnOk result (names.new ≡ names.old ++ map T.name_of items.now) }

@@ -4,7 +4,7 @@ ghost use Rattle.std.specs.Prelude.{◌≡◌, IfOk};
 mod value_and_frame_copies;
 
 use crate::basic_types::NoMemory;
-use crate::items::Items;
+use crate::item_list::ItemList;
 use std::alloc::Global;
 
 /// A type whose values can be copied if there is enough memory.
@@ -14,9 +14,9 @@ pub trait TryClone {
         ensures { IfOk result (λ copy. copy ≡ self.now) };
 }
 
-impl<T: TryClone + Drop> TryClone for Items<T> {
-    fn try_clone(&self, alloc: Global) -> Result<Items<T>, NoMemory> {
-        let mut copies = Items::new(alloc);
+impl<T: TryClone + Drop> TryClone for ItemList<T> {
+    fn try_clone(&self, alloc: Global) -> Result<ItemList<T>, NoMemory> {
+        let mut copies = ItemList::new(alloc);
         for item in self.as_slice() {
             copies.push(item.try_clone(alloc)?)?;
         }

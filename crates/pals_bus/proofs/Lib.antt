@@ -26,7 +26,7 @@ pub mod FirstDueArrival
 pub mod ArrivalLoop
 pub mod Openings
 pub mod NodeTargets
-pub mod LooseEvents
 pub mod LeastTargets
 pub mod OwedEntries
 pub mod MessageLosses
+pub mod LooseStopsAndFaults

@@ -8,10 +8,10 @@ pub mod Answers
 pub mod DueQueues
 pub mod DueMessages
 pub mod RoundMessages
-pub mod FlightMessages
 pub mod LinksFromNodes
 pub mod Codes
 pub mod Meeting
 pub mod LooseStopsAndFaults
 pub mod OpeningNodes
 pub mod LeastTargets
+pub mod FlightUpdates

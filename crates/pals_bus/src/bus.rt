@@ -18,7 +18,7 @@ use crate::opening::{empty_flights, empty_queues, fresh_nodes, opening_nodes, ro
 use crate::outgoing_links::Outgoing;
 use crate::run_parameters::Run;
 use bus_machine::{Next, Plan};
-use pals_base::{Items, LinkNo, NoMemory, NodeNo, Same, TryClone};
+use pals_base::{ItemList, LinkNo, NoMemory, NodeNo, Same, TryClone};
 use pals_model::{Delays, Design, Env, FlightCopy, Part};
 use pals_runs::{JournalEntry, Phase, Stop};
 use std::alloc::Global;
@@ -61,7 +61,7 @@ impl Bus {
     pub fn new(
         alloc: Global,
         design: Arc<Design>,
-        codes: Items<Code>,
+        codes: ItemList<Code>,
         env: Env,
         rounds: u32,
         delays: Delays,

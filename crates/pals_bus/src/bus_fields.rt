@@ -16,7 +16,7 @@ use crate::node_list::NodeList;
 use crate::outgoing_links::Outgoing;
 use link_buffers::{DueQueue, Flight};
 use pals_base::limits::PORTS;
-use pals_base::{Items, LinkNo, NoMemory, NodeNo, PortValue};
+use pals_base::{ItemList, LinkNo, NoMemory, NodeNo, PortValue};
 use pals_model::{Delays, Design, Env};
 use pals_runs::{JournalEntry, Stop};
 use std::alloc::Global;
@@ -34,8 +34,8 @@ pub struct BusFields {
     pub meeting: bool,
     pub closed: bool,
     pub nodes: NodeList,
-    pub flights: Items<Flight>,
-    pub queues: Items<DueQueue>,
+    pub flights: ItemList<Flight>,
+    pub queues: ItemList<DueQueue>,
     pub stop: Option<Stop>,
     pub journal: Vec<JournalEntry>,
     pub values: Vec<PortValue>,

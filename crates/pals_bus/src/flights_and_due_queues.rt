@@ -10,18 +10,18 @@ ghost use Rattle.pals_bus.specs.proof.BusInvariant.{IsBusInvariant, copies_in};
 ghost use Rattle.pals_bus.specs.proof.DueQueues.{AreQueues, AreQueuesAmid, HasQueueRoomOn, NoLessQueueRoom, entries_in};
 ghost use Rattle.pals_bus.specs.proof.DueQueues.{with_due, without_due};
 ghost use Rattle.pals_bus.specs.proof.RoundMessages.{is_from, HasRoomFor, HasRoomOn, NoLessRoom, with_copy};
-ghost use Rattle.pals_bus.specs.proof.FlightMessages.{IsRoundSent, flight_on, target_of, queue_to, queues_with};
-ghost use Rattle.pals_bus.specs.proof.FlightMessages.{copies_without};
+ghost use Rattle.pals_bus.specs.proof.FlightUpdates.{IsRoundSent, flight_on, target_of, queue_to, queues_with};
+ghost use Rattle.pals_bus.specs.proof.FlightUpdates.{copies_without};
 ghost use Rattle.pals_bus.specs.proof.LinksFromNodes.{AreOutgoing};
 
 use crate::bus_fields::BusFields;
 use link_buffers::{DueEntry, DueQueue, Flight};
 use pals_base::limits::PORTS;
-use pals_base::{Items, LinkNo, Nanos, NoMemory, NodeNo, Tuple};
+use pals_base::{ItemList, LinkNo, Nanos, NoMemory, NodeNo, Tuple};
 use pals_model::{FlightCopy, Link};
 
 /// Makes room on each of these links for one more message.
-pub fn reserve_links(flights: &mut Items<Flight>, numbers: &[LinkNo]) -> Result<(), NoMemory>
+pub fn reserve_links(flights: &mut ItemList<Flight>, numbers: &[LinkNo]) -> Result<(), NoMemory>
     requires { All (λ link. link.0 < length flights.old) numbers.now }
     ensures copies { copies_in flights.new ≡ copies_in flights.old }
     ensures count { length flights.new ≡ length flights.old }
@@ -37,7 +37,7 @@ pub fn reserve_links(flights: &mut Items<Flight>, numbers: &[LinkNo]) -> Result<
 /// Makes room in the queue of the target of each of these links, for a message on each of its in
 /// ports.
 pub fn reserve_queues(
-    queues: &mut Items<DueQueue>,
+    queues: &mut ItemList<DueQueue>,
     links: &[Link],
     numbers: &[LinkNo],
 ) -> Result<(), NoMemory>
@@ -62,7 +62,7 @@ impl BusFields {
         node: NodeNo,
         round: u32,
         reading: Option<Nanos>,
-        messages: Items<Tuple>,
+        messages: ItemList<Tuple>,
     )
         requires design { IsDesign (arc_value self.old.design) }
         requires count { length self.old.flights ≡ length (arc_value self.old.design).links }

@@ -7,7 +7,7 @@ ghost use Rattle.pals_node.specs.proof.NodeAndJobValues.{with_state};
 ghost use Rattle.pals_bus.specs.proof.NodeLists.{node_of, target_of_node};
 
 use crate::target_list::TargetList;
-use pals_base::{Items, Nanos, NoMemory, PortValue, Tuple};
+use pals_base::{ItemList, Nanos, NoMemory, PortValue, Tuple};
 use pals_node::{Done, FinishEnd, Finished, Job, Node, SendEnd, StartEnd, StepEnd};
 use pals_runs::Arrived;
 use std::alloc::Global;
@@ -16,7 +16,7 @@ use std::ops::Index;
 
 /// The nodes of a run, in order, and their targets. Contracts see them as a list.
 pub struct NodeList {
-    nodes: Items<Node>,
+    nodes: ItemList<Node>,
     targets: TargetList,
 }
 
@@ -49,7 +49,7 @@ impl Model for NodeList {
 
 impl NodeList {
     /// These nodes.
-    pub fn new(alloc: Global, nodes: Items<Node>) -> Result<NodeList, NoMemory>
+    pub fn new(alloc: Global, nodes: ItemList<Node>) -> Result<NodeList, NoMemory>
         ensures { IfOk result (λ list. list ≡ nodes) }
     {
         let targets = TargetList::new(targets_of(alloc, nodes.as_slice())?);
@@ -135,7 +135,7 @@ impl NodeList {
     }
 
     /// A node sends its round, and gives the messages of all links from it.
-    pub fn send(&mut self, node: usize, reading: Option<Nanos>) -> Result<Items<Tuple>, SendEnd>
+    pub fn send(&mut self, node: usize, reading: Option<Nanos>) -> Result<ItemList<Tuple>, SendEnd>
         requires { node < length self.old }
         ensures ok { IfOk result (λ messages. Sends (node_of self.old node) reading (node_of self.new node) messages) }
         ensures others { self.new ≡ slice_set self.old node (node_of self.new node) }
@@ -174,10 +174,10 @@ impl Index<usize> for NodeList {
 }
 
 // The target of each node.
-fn targets_of(alloc: Global, nodes: &[Node]) -> Result<Items<Option<Nanos>>, NoMemory>
+fn targets_of(alloc: Global, nodes: &[Node]) -> Result<ItemList<Option<Nanos>>, NoMemory>
     ensures { IfOk result (λ targets. targets ≡ map target_of_node nodes.now) }
 {
-    let mut targets = Items::new(alloc);
+    let mut targets = ItemList::new(alloc);
     for node in nodes {
         targets.push(node.target())?;
     }
@@ -185,7 +185,7 @@ fn targets_of(alloc: Global, nodes: &[Node]) -> Result<Items<Option<Nanos>>, NoM
 }
 
 // The target of a node that has changed.
-fn keep_target(targets: &mut TargetList, nodes: &Items<Node>, node: usize)
+fn keep_target(targets: &mut TargetList, nodes: &ItemList<Node>, node: usize)
     requires node { node < length nodes.now }
     requires target { node < length targets.old }
     ensures { targets.new ≡ slice_set targets.old node (target_of_node (node_of nodes.now node)) }

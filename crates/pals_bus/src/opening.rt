@@ -9,7 +9,7 @@ ghost use Rattle.pals_bus.specs.proof.OpeningNodes.{AreOpening};
 
 use crate::node_list::NodeList;
 use link_buffers::{DueQueue, Flight};
-use pals_base::{Items, NoMemory, NodeNo, PortValue};
+use pals_base::{ItemList, NoMemory, NodeNo, PortValue};
 use pals_model::{Design, Env};
 use pals_node::{Node, NodePlan};
 use std::alloc::Global;
@@ -20,7 +20,7 @@ use step_code::Code;
 pub fn opening_nodes(
     alloc: Global,
     design: &Design,
-    codes: Items<Code>,
+    codes: ItemList<Code>,
     rounds: u32,
 ) -> Result<NodeList, NoMemory>
     requires some { 1 ≤ rounds }
@@ -35,7 +35,7 @@ pub fn opening_nodes(
         let plan = Arc::new(alloc, plan)?;
         nodes.push(Node::new(alloc, plan, rounds)?)?;
     }
-    NodeList::new(alloc, Items::from_vec(nodes))
+    NodeList::new(alloc, ItemList::from_vec(nodes))
 }
 
 /// The nodes of the same run before its first event.
@@ -43,7 +43,7 @@ pub fn fresh_nodes(alloc: Global, nodes: &[Node]) -> Result<NodeList, NoMemory>
     requires { (node : ℕ) → node < length nodes.now → 1 ≤ (slice_index_or nodes.now node no_node_value).rounds }
     ensures { IfOk result (λ fresh. fresh ≡ map (λ n. opening_value n.program n.rounds) nodes.now) }
 {
-    let mut fresh = Items::new(alloc);
+    let mut fresh = ItemList::new(alloc);
     for node in nodes {
         fresh.push(node.fresh(alloc)?)?;
     }
@@ -51,11 +51,11 @@ pub fn fresh_nodes(alloc: Global, nodes: &[Node]) -> Result<NodeList, NoMemory>
 }
 
 /// A flight without copies for each link of a design.
-pub fn empty_flights(alloc: Global, design: &Design) -> Result<Items<Flight>, NoMemory>
+pub fn empty_flights(alloc: Global, design: &Design) -> Result<ItemList<Flight>, NoMemory>
     ensures flights { IfOk result (λ flights. flights ≡ map (λ _. no_flight) design.now.links) }
     ensures rules { IsDesign design.now }
 {
-    let mut flights = Items::new(alloc);
+    let mut flights = ItemList::new(alloc);
     for _link in design.links() {
         flights.push(Flight::new(alloc)?)?;
     }
@@ -63,10 +63,10 @@ pub fn empty_flights(alloc: Global, design: &Design) -> Result<Items<Flight>, No
 }
 
 /// A queue without messages for each node.
-pub fn empty_queues(alloc: Global, nodes: &[Node]) -> Result<Items<DueQueue>, NoMemory>
+pub fn empty_queues(alloc: Global, nodes: &[Node]) -> Result<ItemList<DueQueue>, NoMemory>
     ensures { IfOk result (λ queues. queues ≡ map (λ _. no_queue) nodes.now) }
 {
-    let mut queues = Items::new(alloc);
+    let mut queues = ItemList::new(alloc);
     for _node in nodes {
         queues.push(DueQueue::new(alloc)?)?;
     }

@@ -2,7 +2,7 @@
 ghost use Rattle.std.specs.Prelude.{◌≡◌, ◌<◌, [], length, map, IfOk, slice_index_or};
 ghost use Rattle.pals_bus.specs.proof.LinksFromNodes.{AreOutgoing, no_numbers};
 
-use pals_base::{Items, LinkNo, NoMemory, NodeNo};
+use pals_base::{ItemList, LinkNo, NoMemory, NodeNo};
 use pals_model::{Component, Design};
 use std::alloc::Global;
 use std::marker::Model;
@@ -11,7 +11,7 @@ use std::marker::Model;
 /// of lists.
 #[derive(Drop)]
 pub struct Outgoing {
-    lists: Items<Items<LinkNo>>,
+    lists: ItemList<ItemList<LinkNo>>,
 }
 
 impl Model for Outgoing {
@@ -47,12 +47,15 @@ impl Outgoing {
 }
 
 // A list without links for each component.
-fn empty_lists(alloc: Global, components: &[Component]) -> Result<Items<Items<LinkNo>>, NoMemory>
+fn empty_lists(
+    alloc: Global,
+    components: &[Component],
+) -> Result<ItemList<ItemList<LinkNo>>, NoMemory>
     ensures { IfOk result (λ lists. lists ≡ map (λ _. no_numbers) components.now) }
 {
-    let mut lists = Items::new(alloc);
+    let mut lists = ItemList::new(alloc);
     for _component in components {
-        lists.push(Items::new(alloc))?;
+        lists.push(ItemList::new(alloc))?;
     }
     Ok(lists)
 }

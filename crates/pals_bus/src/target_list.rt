@@ -2,14 +2,14 @@
 ghost use Rattle.std.specs.Prelude.{◌≡◌, ◌<◌, length, None, slice_index_or, slice_set};
 ghost use Rattle.pals_bus.specs.proof.LeastTargets.{is_below, IsFirst, IsBound};
 
-use pals_base::{Items, Nanos};
+use pals_base::{ItemList, Nanos};
 use std::marker::Model;
 
 /// The target of each node, in order: the reading that it waits for, or works at, in nanoseconds; none
 /// where it is done. Contracts see them as a list. A least one of them is at hand.
 #[derive(Drop)]
 pub struct TargetList {
-    targets: Items<Option<Nanos>>,
+    targets: ItemList<Option<Nanos>>,
     first: usize,
 }
 
@@ -27,7 +27,7 @@ impl Model for TargetList {
 
 impl TargetList {
     /// These targets.
-    pub fn new(targets: Items<Option<Nanos>>) -> TargetList
+    pub fn new(targets: ItemList<Option<Nanos>>) -> TargetList
         ensures { result ≡ targets }
     {
         let first = first_of(targets.as_slice());

@@ -6,7 +6,7 @@ ghost use Rattle.pals_base.specs.ClockPicks.{remaining_from};
 ghost use Rattle.pals_base.specs.declared.limits.TheConstants.{READING};
 ghost use Rattle.pals_clock.specs.ClockStates.{AreReadings, unpicked, standing_at};
 
-use pals_base::{Items, Nanos, NoMemory};
+use pals_base::{ItemList, Nanos, NoMemory};
 use std::alloc::Global;
 use std::marker::Model;
 
@@ -19,14 +19,14 @@ pub struct ClockEnd;
 #[derive(Drop)]
 pub enum Clocks {
     Meet,
-    Lists(Items<ListClock>),
+    Lists(ItemList<ListClock>),
 }
 
 /// A clock that is a list of readings, which don't fall and are at most `READING`. Contracts see the whole list and
 /// what is left of it: the last pick, if there is one, and the later readings.
 #[derive(Drop)]
 pub struct ListClock {
-    readings: Items<Nanos>,
+    readings: ItemList<Nanos>,
     behind: usize,
 }
 
@@ -44,7 +44,7 @@ impl Model for ListClock {
 
 impl ListClock {
     /// A clock of these readings, in nanoseconds, without a pick. It takes no memory.
-    pub fn new(readings: Items<Nanos>) -> ListClock
+    pub fn new(readings: ItemList<Nanos>) -> ListClock
         requires order { IsNonDecreasing readings }
         requires range { AreReadings readings }
         ensures { result ≡ unpicked readings }
@@ -88,7 +88,7 @@ impl ListClock {
     pub fn fresh(&self, alloc: Global) -> Result<ListClock, NoMemory>
         ensures { IfOk result (λ clock. clock ≡ unpicked self.now.readings) }
     {
-        let readings = Items::from_slice(alloc, self.readings.as_slice())?;
+        let readings = ItemList::from_slice(alloc, self.readings.as_slice())?;
         Ok(ListClock::new(readings))
     }
 

@@ -10,7 +10,6 @@ pub mod WordBytes
 pub mod NameLaws
 pub mod FilteredLinks
 pub mod OverwrittenTuples
-pub mod RootInputFeedLaws
 pub mod PartialRounds
 pub mod TextLineLaws
 pub mod AllElements
@@ -19,3 +18,4 @@ pub mod ActionsKeepKinds
 pub mod StepsKeepKinds
 pub mod AdaptorsKeepKinds
 pub mod RoundsKeepKinds
+pub mod RootInputsAndFeeds

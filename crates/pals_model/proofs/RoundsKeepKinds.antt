@@ -34,7 +34,7 @@ use Rattle.pals_model.specs.DesignRules.{IsDesign, IsLink, IsFeed, IsTap}
 use Rattle.pals_model.specs.proof.CompositionLaws.{own_steps}
 use Rattle.pals_model.proofs.CompositionLaws.{state_begins, state_goes_on, message_from_source, part_from_steps}
 use Rattle.pals_model.proofs.CompositionLaws.{links_begin_absent}
-use Rattle.pals_model.proofs.RootInputFeedLaws.{feed_has_root, feeds_have_root_kind}
+use Rattle.pals_model.proofs.RootInputsAndFeeds.{feed_has_root, feeds_have_root_kind}
 use Rattle.pals_model.proofs.ShapeLaws.{state_has_shape, is_behaviour, component_at}
 use Rattle.pals_model.proofs.FirstMatches.{found_at, at_element}
 use Rattle.pals_model.specs.proof.ValuesFitKinds.{PortFits, TupleFits, PortsFit, FrameFits, link_kind, EnvFits}

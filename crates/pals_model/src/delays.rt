@@ -2,14 +2,14 @@
 ghost use Rattle.std.specs.Prelude.{◌≡◌, ◌<◌, length};
 ghost use Rattle.pals_model.specs.Delays.{delay_in, delay_of};
 
-use pals_base::{Items, LinkNo, Nanos, NoMemory, Same, TryClone};
+use pals_base::{ItemList, LinkNo, Nanos, NoMemory, Same, TryClone};
 use std::alloc::Global;
 
 /// How long the messages of each link take, in nanoseconds: a list of one or more delays per link.
 /// The message of round m takes element m, and those of later rounds take the last.
 #[derive(Drop)]
 pub struct Delays {
-    pub lists: Items<Items<Nanos>>,
+    pub lists: ItemList<ItemList<Nanos>>,
 }
 
 // The delay of a round: the element of its number, or the last one.

@@ -1,7 +1,7 @@
 //! A design, as its parts.
 ghost use Rattle.std.specs.Prelude.{◌≡◌};
 
-use pals_base::{Adaptor, Behaviour, Gamma, Items, Nanos, NodeNo, Text};
+use pals_base::{Adaptor, Behaviour, Gamma, ItemList, Nanos, NodeNo, Text};
 use std::marker::Model;
 
 /// A thread of the flattened design: its path from the root, how many steps it makes in a round,
@@ -56,11 +56,11 @@ pub struct Tap {
 pub struct DesignParts {
     pub period: Nanos,
     pub gamma: Gamma,
-    pub components: Items<Component>,
-    pub links: Items<Link>,
-    pub feeds: Items<Feed>,
-    pub taps: Items<Tap>,
-    pub ignored: Items<Text>,
+    pub components: ItemList<Component>,
+    pub links: ItemList<Link>,
+    pub feeds: ItemList<Feed>,
+    pub taps: ItemList<Tap>,
+    pub ignored: ItemList<Text>,
 }
 
 // By hand, so that letting it go is one call in the crates above, and is proved once.

@@ -3,14 +3,14 @@ ghost use Rattle.std.specs.Prelude.{◌≡◌, length};
 ghost use Rattle.pals_model.specs.ComponentInputs.{values_at};
 
 use pals_base::tuples::place;
-use pals_base::{Items, NoMemory, PortValue, Same, TryClone, Tuple};
+use pals_base::{ItemList, NoMemory, PortValue, Same, TryClone, Tuple};
 use std::alloc::Global;
 
 /// The values of the root in ports: one list per port, in the order of the feeds that name them
 /// first. Element r is round r's value, and past a list the value is absent.
 #[derive(Drop)]
 pub struct Env {
-    pub lists: Items<Tuple>,
+    pub lists: ItemList<Tuple>,
 }
 
 impl Env {

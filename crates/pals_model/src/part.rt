@@ -1,13 +1,13 @@
 //! What a component leaves, round by round.
 ghost use Rattle.std.specs.Prelude.{◌≡◌, length, map};
 
-use pals_base::{Frame, Items, NoMemory, Same, TryClone, Tuple};
+use pals_base::{Frame, ItemList, NoMemory, Same, TryClone, Tuple};
 use std::alloc::Global;
 
 /// What one component leaves after a round: its frame, and the whole tuple of each of its taps.
 pub struct Part {
     pub frame: Frame,
-    pub outs: Items<Tuple>,
+    pub outs: ItemList<Tuple>,
 }
 
 impl Drop for Part {

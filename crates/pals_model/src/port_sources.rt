@@ -6,7 +6,7 @@ ghost use Rattle.pals_model.specs.proof.SourceTables.{table_of, nothing, fed_fro
 
 use crate::design::{Component, Design, Feed, Link};
 use indexmap::IndexSet;
-use pals_base::{Items, NoMemory, NodeNo, Text, TryClone};
+use pals_base::{ItemList, NoMemory, NodeNo, Text, TryClone};
 use std::alloc::Global;
 
 /// Where an in port reads from: a link by its number; a feed by its number, with the place of its
@@ -40,19 +40,24 @@ fn place_of(names: &IndexSet<Text>, name: &Text) -> usize
 fn empty_table(
     alloc: Global,
     components: &[Component],
-) -> Result<Items<Items<PortSource>>, NoMemory>
+) -> Result<ItemList<ItemList<PortSource>>, NoMemory>
     ensures { IfOk result (λ table. table ≡ table_of components.now nothing) }
 {
-    let mut table = Items::new(alloc);
+    let mut table = ItemList::new(alloc);
     for component in components {
         let ports = component.behaviour.ins().len();
-        table.push(Items::from_vec(vec![in alloc; PortSource::Nothing; ports]?))?;
+        table.push(ItemList::from_vec(vec![in alloc; PortSource::Nothing; ports]?))?;
     }
     Ok(table)
 }
 
 // Puts a source in the place of an in port, if the table has it.
-fn set_source(table: &mut Items<Items<PortSource>>, node: NodeNo, port: u32, source: PortSource)
+fn set_source(
+    table: &mut ItemList<ItemList<PortSource>>,
+    node: NodeNo,
+    port: u32,
+    source: PortSource,
+)
     ensures { table.new ≡ with_source table.old node.0 port source }
 {
     let at = node.0 as usize;
@@ -65,7 +70,7 @@ fn set_source(table: &mut Items<Items<PortSource>>, node: NodeNo, port: u32, sou
 }
 
 // Puts the feeds into a table that has nothing; of two into one in port the first counts.
-fn add_feeds(table: &mut Items<Items<PortSource>>, design: &Design, names: &IndexSet<Text>)
+fn add_feeds(table: &mut ItemList<ItemList<PortSource>>, design: &Design, names: &IndexSet<Text>)
     requires names { names.now.keys ≡ root_inputs design.now }
     requires table { table.old ≡ table_of design.now.components nothing }
     ensures { table.new ≡ table_of design.now.components (fed_from design.now 0) }
@@ -79,7 +84,7 @@ fn add_feeds(table: &mut Items<Items<PortSource>>, design: &Design, names: &Inde
 }
 
 // Puts the links into a table that has the feeds; of two into one in port the first counts.
-fn add_links(table: &mut Items<Items<PortSource>>, design: &Design)
+fn add_links(table: &mut ItemList<ItemList<PortSource>>, design: &Design)
     requires { table.old ≡ table_of design.now.components (fed_from design.now 0) }
     ensures { table.new ≡ all_sources design.now }
 {
@@ -91,7 +96,10 @@ fn add_links(table: &mut Items<Items<PortSource>>, design: &Design)
 }
 
 /// Where the in ports of all components read from, by component and port.
-pub fn all_sources(alloc: Global, design: &Design) -> Result<Items<Items<PortSource>>, NoMemory>
+pub fn all_sources(
+    alloc: Global,
+    design: &Design,
+) -> Result<ItemList<ItemList<PortSource>>, NoMemory>
     ensures { IfOk result (λ table. table ≡ all_sources design.now) }
 {
     let names = root_names(alloc, design.feeds())?;

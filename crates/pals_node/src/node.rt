@@ -20,7 +20,7 @@ use crate::refusals::{FinishEnd, SendEnd, StartEnd, StepEnd};
 use bus_machine::{Input, Next, Plan};
 use link_buffers::Slot;
 use output_backoff::release_at;
-use pals_base::{Items, Nanos, NoMemory, PortValue, Tuple};
+use pals_base::{ItemList, Nanos, NoMemory, PortValue, Tuple};
 use pals_model::Part;
 use pals_runs::{Arrived, Phase};
 use round_timer::{alarm, step_alarm};
@@ -184,7 +184,7 @@ impl Node {
 
     /// Sends the round in hand: one message for each link from the node, in order. It takes no
     /// memory.
-    pub fn send(&mut self, reading: Option<Nanos>) -> Result<Items<Tuple>, SendEnd>
+    pub fn send(&mut self, reading: Option<Nanos>) -> Result<ItemList<Tuple>, SendEnd>
         ensures ok { IfOk result (λ messages. Sends self.old reading self.new messages) }
         ensures same { OnErr result (self.new ≡ self.old) }
         ensures cause { IfErr result (SendEnds self.old reading) }

@@ -23,7 +23,7 @@ use crate::slots_and_input_vectors::{empty_all, empty_slots, round_vectors};
 use crate::written_tuples::{absent_tuples, write_places, write_ports};
 use bus_machine::Plan;
 use link_buffers::Slot;
-use pals_base::{Frame, Items, NoMemory, PortValue, Tuple};
+use pals_base::{Frame, ItemList, NoMemory, PortValue, Tuple};
 use pals_model::Part;
 use pals_runs::Phase;
 use std::alloc::Global;
@@ -39,13 +39,13 @@ pub struct NodeFields {
     pub count: u32,
     pub phase: Phase,
     pub frame: Frame,
-    pub slots: Items<Slot>,
-    pub vectors: Items<Tuple>,
-    pub outs: Items<Tuple>,
+    pub slots: ItemList<Slot>,
+    pub vectors: ItemList<Tuple>,
+    pub outs: ItemList<Tuple>,
     pub sent: bool,
     pub parts: Vec<Part>,
     pub next_part: Option<Part>,
-    pub messages: Option<Items<Tuple>>,
+    pub messages: Option<ItemList<Tuple>>,
     pub room: Room,
     pub row: Vec<PortValue>,
     pub spare: Option<Memory>,
@@ -97,8 +97,8 @@ impl NodeFields {
             phase: Phase::Waiting,
             frame,
             slots,
-            vectors: Items::new(alloc),
-            outs: Items::new(alloc),
+            vectors: ItemList::new(alloc),
+            outs: ItemList::new(alloc),
             sent: true,
             parts: Vec::new(alloc),
             next_part: None,
@@ -164,7 +164,7 @@ impl NodeFields {
         &self,
         env: &[PortValue],
         spare: Option<Memory>,
-    ) -> Result<(Items<Tuple>, Job), NoMemory>
+    ) -> Result<(ItemList<Tuple>, Job), NoMemory>
         requires program { IsProgram (arc_value self.now.plan) }
         requires slots { length self.now.slots ≡ length (arc_value self.now.plan).plan.inputs }
         requires frame { HasShape (arc_value self.now.plan).plan.behaviour self.now.frame }
@@ -259,7 +259,7 @@ impl NodeFields {
     }
 
     /// Sends the round in hand. It takes no memory.
-    pub fn send(&mut self) -> Items<Tuple>
+    pub fn send(&mut self) -> ItemList<Tuple>
         requires keeps { Keeps self.old }
         requires may { may_send (arc_value self.old.plan).plan (state_of self.old) ≡ true }
         ensures value { value_of self.new ≡ with_state (value_of self.old) (sent_from self.old.rounds (state_of self.old)) }
@@ -290,14 +290,14 @@ impl NodeFields {
 // What the start of a round reserves.
 #[derive(Drop)]
 struct RoundRoom {
-    vectors: Items<Tuple>,
-    outs: Items<Tuple>,
-    messages: Items<Tuple>,
+    vectors: ItemList<Tuple>,
+    outs: ItemList<Tuple>,
+    messages: ItemList<Tuple>,
     part: Part,
 }
 
 // Room for a round, with these vectors.
-fn round_room(alloc: Global, plan: &Plan, vectors: Items<Tuple>) -> Result<RoundRoom, NoMemory>
+fn round_room(alloc: Global, plan: &Plan, vectors: ItemList<Tuple>) -> Result<RoundRoom, NoMemory>
     ensures vectors { IfOk result (λ room. room.vectors ≡ vectors) }
     ensures outs { IfOk result (λ room. room.outs ≡ replicate (length plan.now.behaviour.outs) (replicate plan.now.rate Absent)) }
     ensures messages { IfOk result (λ room. room.messages ≡ replicate (length plan.now.out_links) (replicate plan.now.rate Absent)) }

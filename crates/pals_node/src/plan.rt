@@ -8,7 +8,7 @@ ghost use Rattle.pals_node.specs.proof.NodeInvariants.{IsProgram};
 
 use bus_machine::{Input, Plan};
 use pals_base::period_bound_and_releases::step_period;
-use pals_base::{Items, NoMemory, NodeNo, TryClone};
+use pals_base::{ItemList, NoMemory, NodeNo, TryClone};
 use pals_model::port_sources::all_sources;
 use pals_model::{Component, Design, PortSource};
 use std::alloc::Global;
@@ -97,12 +97,12 @@ fn plan_for(
 }
 
 // What each in port brings.
-fn inputs_of(alloc: Global, design: &Design, node: NodeNo) -> Result<Items<Input>, NoMemory>
+fn inputs_of(alloc: Global, design: &Design, node: NodeNo) -> Result<ItemList<Input>, NoMemory>
     requires { node.0 < length design.now.components }
     ensures { IfOk result (λ inputs. inputs ≡ map (input_of design.now) (sources_of design.now node.0 (component_at design.now node.0))) }
 {
     let table = all_sources(alloc, design)?;
-    let mut inputs = Items::new(alloc);
+    let mut inputs = ItemList::new(alloc);
     for source in table[node.0 as usize].as_slice() {
         inputs.push(input_of(design, *source))?;
     }
@@ -133,10 +133,10 @@ fn input_of(design: &Design, source: PortSource) -> Input
 }
 
 // The out port of each link from a node.
-fn out_ports(alloc: Global, design: &Design, node: NodeNo) -> Result<Items<u32>, NoMemory>
+fn out_ports(alloc: Global, design: &Design, node: NodeNo) -> Result<ItemList<u32>, NoMemory>
     ensures { IfOk result (λ ports. ports ≡ (plan_of design.now node.0).out_links) }
 {
-    let mut ports = Items::new(alloc);
+    let mut ports = ItemList::new(alloc);
     for link in design.links() {
         if link.source == node {
             ports.push(link.out_port)?;
@@ -146,10 +146,10 @@ fn out_ports(alloc: Global, design: &Design, node: NodeNo) -> Result<Items<u32>,
 }
 
 // The out port of each tap of a node.
-fn tap_ports(alloc: Global, design: &Design, node: NodeNo) -> Result<Items<u32>, NoMemory>
+fn tap_ports(alloc: Global, design: &Design, node: NodeNo) -> Result<ItemList<u32>, NoMemory>
     ensures { IfOk result (λ ports. ports ≡ (plan_of design.now node.0).taps) }
 {
-    let mut ports = Items::new(alloc);
+    let mut ports = ItemList::new(alloc);
     for tap in design.taps() {
         if tap.source == node {
             ports.push(tap.out_port)?;

@@ -9,14 +9,14 @@ use bus_machine::{Input, Plan};
 use input_adaptors::adapted_place;
 use link_buffers::Slot;
 use pals_base::tuples::{absent, place};
-use pals_base::{Items, NoMemory, PortValue, Tuple};
+use pals_base::{ItemList, NoMemory, PortValue, Tuple};
 use std::alloc::Global;
 
 /// Empty slots, one for each in port.
-pub fn empty_slots(alloc: Global, inputs: &[Input]) -> Result<Items<Slot>, NoMemory>
+pub fn empty_slots(alloc: Global, inputs: &[Input]) -> Result<ItemList<Slot>, NoMemory>
     ensures { IfOk result (λ slots. slots ≡ map (λ _. None) inputs.now) }
 {
-    let mut slots = Items::new(alloc);
+    let mut slots = ItemList::new(alloc);
     for _input in inputs {
         slots.push(Slot::new())?;
     }
@@ -24,7 +24,7 @@ pub fn empty_slots(alloc: Global, inputs: &[Input]) -> Result<Items<Slot>, NoMem
 }
 
 /// Empties all slots. It takes no memory.
-pub fn empty_all(slots: &mut Items<Slot>)
+pub fn empty_all(slots: &mut ItemList<Slot>)
     ensures { slots.new ≡ map (λ (_ : Option (List PortValue)). None) slots.old }
 {
     for at in 0..slots.len() {
@@ -39,11 +39,11 @@ pub fn round_vectors(
     plan: &Plan,
     env: &[PortValue],
     slots: &[Slot],
-) -> Result<Items<Tuple>, NoMemory>
+) -> Result<ItemList<Tuple>, NoMemory>
     requires { length slots.now ≡ length plan.now.inputs }
     ensures { IfOk result (λ vectors. vectors ≡ vectors_of plan.now env.now slots.now) }
 {
-    let mut vectors = Items::new(alloc);
+    let mut vectors = ItemList::new(alloc);
     for step in 0..plan.rate {
         vectors.push(vector_at(alloc, plan, env, slots, step as usize)?)?;
     }
@@ -62,7 +62,7 @@ fn vector_at(
     requires step { step < plan.now.rate }
     ensures { IfOk result (λ vector. vector ≡ column step (map (λ p. brought plan.now.rate env.now p.0 p.1) (zip plan.now.inputs slots.now))) }
 {
-    let mut vector = Items::new(alloc);
+    let mut vector = ItemList::new(alloc);
     for at in 0..slots.len() {
         vector.push(port_at(alloc, plan.rate, env, plan.inputs[at], &slots[at], step)?)?;
     }

@@ -4,14 +4,14 @@ ghost use Rattle.pals_base.specs.declared.basic_types.PortValue.TheVariants.{Abs
 ghost use Rattle.pals_base.specs.Tuples.{cut, with_places};
 
 use pals_base::tuples::{absent, place};
-use pals_base::{Items, NoMemory, PortValue, Tuple};
+use pals_base::{ItemList, NoMemory, PortValue, Tuple};
 use std::alloc::Global;
 
 /// `count` absent tuples, of `places` places each.
-pub fn absent_tuples(alloc: Global, count: usize, places: u32) -> Result<Items<Tuple>, NoMemory>
+pub fn absent_tuples(alloc: Global, count: usize, places: u32) -> Result<ItemList<Tuple>, NoMemory>
     ensures { IfOk result (λ tuples. tuples ≡ replicate count (replicate places Absent)) }
 {
-    let mut tuples = Items::new(alloc);
+    let mut tuples = ItemList::new(alloc);
     for _tuple in 0..count {
         tuples.push(absent(alloc, places as usize)?)?;
     }
@@ -19,7 +19,7 @@ pub fn absent_tuples(alloc: Global, count: usize, places: u32) -> Result<Items<T
 }
 
 /// Writes a value into the place with a number of each tuple. It takes no memory.
-pub fn write_places(tuples: &mut Items<Tuple>, at: usize, values: &[PortValue])
+pub fn write_places(tuples: &mut ItemList<Tuple>, at: usize, values: &[PortValue])
     requires count { length values.now ≡ length tuples.old }
     requires within { All (λ tuple. at < length tuple) tuples.old }
     ensures { tuples.new ≡ with_places at values.now tuples.old }
@@ -31,7 +31,7 @@ pub fn write_places(tuples: &mut Items<Tuple>, at: usize, values: &[PortValue])
 
 /// Writes the first places of the tuples of these ports, and absent places after them. It takes no
 /// memory.
-pub fn write_ports(to: &mut Items<Tuple>, from: &[Tuple], ports: &[u32], count: u32, places: u32)
+pub fn write_ports(to: &mut ItemList<Tuple>, from: &[Tuple], ports: &[u32], count: u32, places: u32)
     requires ports { All (λ port. port < length from.now) ports.now }
     requires to_count { length to.old ≡ length ports.now }
     requires to_places { All (λ tuple. length tuple ≡ places) to.old }

@@ -2,7 +2,7 @@
 ghost use Rattle.std.specs.Prelude.{◌≡◌, ◌<◌, All, IfOk};
 ghost use Rattle.pals_report.specs.proof.TapPlaces.{tap_places};
 
-use pals_base::{Items, NoMemory};
+use pals_base::{ItemList, NoMemory};
 use pals_model::{Design, Tap};
 use std::alloc::Global;
 use std::marker::Model;
@@ -11,7 +11,7 @@ use std::marker::Model;
 /// has the tuples of its component's taps in these places.
 #[derive(Drop)]
 pub struct TapPlaces {
-    places: Items<usize>,
+    places: ItemList<usize>,
 }
 
 impl Model for TapPlaces {
@@ -43,12 +43,12 @@ impl TapPlaces {
 }
 
 // The places of taps whose sources are below a number, by counting the taps of each source.
-fn places_of(alloc: Global, taps: &[Tap], nodes: usize) -> Result<Items<usize>, NoMemory>
+fn places_of(alloc: Global, taps: &[Tap], nodes: usize) -> Result<ItemList<usize>, NoMemory>
     requires { All (λ tap. tap.source.0 < nodes) taps.now }
     ensures { IfOk result (λ places. places ≡ tap_places taps.now) }
 {
     let mut counts = vec![in alloc; 0_usize; nodes]?;
-    let mut places = Items::new(alloc);
+    let mut places = ItemList::new(alloc);
     for tap in taps {
         let source = tap.source.0 as usize;
         let count = counts[source];

@@ -1,11 +1,14 @@
 //! Events of worlds, and why a world refuses one.
-use pals_base::{Items, LinkNo, Nanos, NoMemory, NodeNo};
+use pals_base::{ItemList, LinkNo, Nanos, NoMemory, NodeNo};
 
 /// An event of a world. Times and readings are in nanoseconds.
 #[derive(Drop)]
 pub enum Event {
     /// Time goes on, to this time and to this reading of each component's clock.
-    Pass { time: Nanos, readings: Items<Nanos> },
+    Pass {
+        time: Nanos,
+        readings: ItemList<Nanos>,
+    },
     /// A node starts its next round, with the job of its first step.
     Start(NodeNo),
     /// A node starts its next step of the round.

@@ -10,7 +10,7 @@ ghost use Rattle.pals_top.specs.proof.StatusAndText.{status_of, text_of};
 use crate::answer::Answer;
 use crate::bundle_meaning::{Coded, CodedCommand};
 use crate::execution::{ExecutionCommand, keeps_rules};
-use pals_base::{Items, NoMemory, Text};
+use pals_base::{ItemList, NoMemory, Text};
 use pals_model::Design;
 use pals_report::add_verdict;
 use pals_runs::{Command, Verdict};
@@ -47,7 +47,7 @@ impl ExecutionCommand for AuditCommand {
 fn answer_audit(
     alloc: Global,
     design: Design,
-    codes: Items<Code>,
+    codes: ItemList<Code>,
     scenario: Scenario,
 ) -> Result<Answer, NoMemory>
     requires codes { AreCodes design codes }

@@ -11,7 +11,7 @@ use crate::answer::Answer;
 use crate::refused_scenario::refused_scenario;
 use bundle_designs::accept;
 use design_codes::{CodesError, compile_all};
-use pals_base::{Items, NoMemory, NodeNo, Text};
+use pals_base::{ItemList, NoMemory, NodeNo, Text};
 use pals_model::Design;
 use pals_report::add_overlong_code;
 use pals_runs::Command;
@@ -34,7 +34,7 @@ pub trait CodedCommand {
 #[derive(Drop)]
 pub struct Coded {
     pub design: Design,
-    pub codes: Items<Code>,
+    pub codes: ItemList<Code>,
     pub scenario: Scenario,
 }
 

@@ -5,7 +5,7 @@ ghost use Rattle.pals_model.specs.Delays.{AreDelays};
 ghost use Rattle.pals_bus.specs.proof.StepCodesOfNodes.{AreCodes};
 ghost use Rattle.pals_bus.specs.proof.OpeningNodes.{opening_bus};
 
-use pals_base::{Items, NoMemory};
+use pals_base::{ItemList, NoMemory};
 use pals_bus::Bus;
 use pals_model::{Delays, Design, Env};
 use std::alloc::Global;
@@ -16,7 +16,7 @@ use step_code::Code;
 pub fn opened(
     alloc: Global,
     design: Design,
-    codes: Items<Code>,
+    codes: ItemList<Code>,
     env: Env,
     rounds: u32,
     delays: Delays,

@@ -11,7 +11,7 @@ use crate::answer::Answer;
 use crate::bundle_meaning::{Coded, CodedCommand};
 use crate::execution::ExecutionCommand;
 use crate::refused_scenario::refused_event;
-use pals_base::{Items, NoMemory, Text};
+use pals_base::{ItemList, NoMemory, Text};
 use pals_model::Design;
 use pals_runs::Command;
 use scenario_json::Scenario;
@@ -47,7 +47,7 @@ impl ExecutionCommand for WorldCommand {
 fn answer_world(
     alloc: Global,
     design: Design,
-    codes: Items<Code>,
+    codes: ItemList<Code>,
     scenario: Scenario,
 ) -> Result<Answer, NoMemory>
     requires codes { AreCodes design codes }

@@ -22,7 +22,7 @@ use crate::opening_bus::opened;
 use crate::refused_scenario::refused_event;
 use loose_world::world_laws::{events_are_steps, texts_are_told};
 use loose_world::{LooseEnd, OutLinks, add_common_rows, add_finished_rows, add_journal, run_loose};
-use pals_base::{Items, NoMemory, Text};
+use pals_base::{ItemList, NoMemory, Text};
 use pals_bus::Bus;
 use pals_model::Design;
 use pals_runs::{Command, Event};
@@ -57,7 +57,7 @@ impl ExecutionCommand for LooseWorldCommand {
 fn answer_loose(
     alloc: Global,
     design: Design,
-    codes: Items<Code>,
+    codes: ItemList<Code>,
     scenario: Scenario,
 ) -> Result<Answer, NoMemory>
     requires codes { AreCodes design codes }

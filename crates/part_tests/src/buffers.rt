@@ -1,11 +1,11 @@
 //! Slots, flights and queues of due messages, call by call.
 use link_buffers::{DueEntry, DueQueue, Flight, Slot};
-use pals_base::{Items, LinkNo, NoMemory, PortValue, Tuple};
+use pals_base::{ItemList, LinkNo, NoMemory, PortValue, Tuple};
 use std::alloc::Global;
 
 // A message of one value.
 fn message(alloc: Global, value: i64) -> Result<Tuple, NoMemory> {
-    Items::from_slice(alloc, &[PortValue::Present(value)])
+    ItemList::from_slice(alloc, &[PortValue::Present(value)])
 }
 
 // The value of a message of one value.

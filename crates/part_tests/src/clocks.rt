@@ -1,11 +1,11 @@
 //! Clocks that are lists of readings, call by call.
-use pals_base::{Items, NoMemory};
+use pals_base::{ItemList, NoMemory};
 use pals_clock::{ClockEnd, ListClock};
 use std::alloc::Global;
 
 // A node's clock in a run of two rounds, in nanoseconds.
 fn clock(alloc: Global) -> Result<ListClock, NoMemory> {
-    let readings = Items::from_slice(alloc, &[9000000, 10000000, 18000000, 19000000])?;
+    let readings = ItemList::from_slice(alloc, &[9000000, 10000000, 18000000, 19000000])?;
     Ok(ListClock::new(readings))
 }
 

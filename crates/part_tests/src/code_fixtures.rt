@@ -3,7 +3,7 @@
 ghost use Rattle.std.specs.Prelude.{◌≡◌, IsTrue, slice_get};
 ghost use Rattle.step_code.specs.proof.CodeRuns.{FitsCode, has_entry};
 
-use pals_base::{Frame, Items, NoMemory, PortValue, Trap};
+use pals_base::{Frame, ItemList, NoMemory, PortValue, Trap};
 use std::alloc::Global;
 use step_code::{Code, CodeFault, CodeParts, Instr, verify};
 use step_vm::{Room, run};
@@ -24,8 +24,8 @@ pub const COUNTER: [Instr; 9] = [
 // Parts with one entry, at 0, one variable and two slots for loops, one in port and one out port.
 fn parts(alloc: Global, instrs: &[Instr]) -> Result<CodeParts, NoMemory> {
     Ok(CodeParts {
-        instrs: Items::from_slice(alloc, instrs)?,
-        entries: Items::from_slice(alloc, &[Some(0)])?,
+        instrs: ItemList::from_slice(alloc, instrs)?,
+        entries: ItemList::from_slice(alloc, &[Some(0)])?,
         vars: 1,
         loops: 2,
         ins: 1,
@@ -48,8 +48,8 @@ pub fn frame(
 ) -> Result<Frame, NoMemory> {
     Ok(Frame {
         state,
-        vars: Items::from_slice(alloc, vars)?,
-        held: Items::from_slice(alloc, &[held])?,
+        vars: ItemList::from_slice(alloc, vars)?,
+        held: ItemList::from_slice(alloc, &[held])?,
         halt,
     })
 }

@@ -3,19 +3,19 @@
 use aadl_parse::parse;
 use aadl_tree::{AnnexContent, AnnexTree, Declaration, PackageTree};
 use annex_resolve::{DeclaredName, DeclaredValues, Meaning, Scope, resolve_annex};
-use pals_base::{Behaviour, BehaviourParts, Items, Kind, NoMemory, PortDecl, Text, VarDecl};
+use pals_base::{Behaviour, BehaviourParts, ItemList, Kind, NoMemory, PortDecl, Text, VarDecl};
 use std::alloc::Global;
 
-fn port(alloc: Global, name: &str) -> Result<Items<PortDecl>, NoMemory> {
+fn port(alloc: Global, name: &str) -> Result<ItemList<PortDecl>, NoMemory> {
     let name = Text::from_str(alloc, name)?;
     let kind = Kind::Integer;
-    let mut ports = Items::new(alloc);
+    let mut ports = ItemList::new(alloc);
     ports.push(PortDecl { name, kind })?;
     Ok(ports)
 }
 
-fn variables(alloc: Global) -> Result<Items<VarDecl>, NoMemory> {
-    let mut variables = Items::new(alloc);
+fn variables(alloc: Global) -> Result<ItemList<VarDecl>, NoMemory> {
+    let mut variables = ItemList::new(alloc);
     for name in &["x", "y"] {
         variables.push(VarDecl {
             name: Text::from_str(alloc, name)?,
@@ -42,7 +42,7 @@ const NAMES: [(&str, Meaning); 4] = [
 ];
 
 fn scope(alloc: Global) -> Result<Scope, NoMemory> {
-    let mut entries = Items::new(alloc);
+    let mut entries = ItemList::new(alloc);
     for (name, meaning) in &NAMES {
         entries.push(DeclaredName {
             name: Text::from_str(alloc, name)?,
@@ -69,7 +69,7 @@ fn annex(package: &PackageTree) -> Option<&AnnexTree> {
 // The parts of an annex, where nothing is wrong in it.
 fn parts(alloc: Global, tree: &AnnexTree) -> Result<Option<BehaviourParts>, NoMemory> {
     let scope = scope(alloc)?;
-    let mut found = Items::new(alloc);
+    let mut found = ItemList::new(alloc);
     let parts = resolve_annex(alloc, values(alloc)?, &scope, 0, tree, &mut found)?;
     if found.is_empty() {
         Ok(Some(parts))

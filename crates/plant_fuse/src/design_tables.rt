@@ -2,7 +2,7 @@
 ghost use Rattle.std.specs.Prelude.{◌≡◌, IfOk};
 ghost use Rattle.plant_fuse.specs.proof.PartnersAndPairLinks.{partner_of, all_partners};
 
-use pals_base::{Items, NoMemory, NodeNo};
+use pals_base::{ItemList, NoMemory, NodeNo};
 use pals_model::Design;
 use pals_runs::Pair;
 use std::alloc::Global;
@@ -11,8 +11,8 @@ use sync_product::wiring::Wiring;
 /// The pairs; for each component the other one of its pair, if it stands in one; and where the ports of
 /// each component lead.
 pub struct Tables {
-    pub pairs: Items<Pair>,
-    pub partners: Items<Option<NodeNo>>,
+    pub pairs: ItemList<Pair>,
+    pub partners: ItemList<Option<NodeNo>>,
     pub wiring: Wiring,
 }
 
@@ -30,7 +30,7 @@ impl Tables {
     ghost use Rattle.plant_fuse.specs.proof.DesignTables.{AreTables};
 
     /// The tables of a design and its pairs.
-    pub fn new(alloc: Global, design: &Design, pairs: Items<Pair>) -> Result<Tables, NoMemory>
+    pub fn new(alloc: Global, design: &Design, pairs: ItemList<Pair>) -> Result<Tables, NoMemory>
         ensures { IfOk result (AreTables design.now pairs) }
     {
         let partners = all_partners(alloc, design, pairs.as_slice())?;
@@ -48,10 +48,10 @@ fn all_partners(
     alloc: Global,
     design: &Design,
     pairs: &[Pair],
-) -> Result<Items<Option<NodeNo>>, NoMemory>
+) -> Result<ItemList<Option<NodeNo>>, NoMemory>
     ensures { IfOk result (λ partners. partners ≡ all_partners design.now pairs.now) }
 {
-    let mut partners = Items::new(alloc);
+    let mut partners = ItemList::new(alloc);
     for node in 0..design.components().len() {
         partners.push(partner(pairs, node))?;
     }

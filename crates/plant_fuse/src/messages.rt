@@ -7,13 +7,13 @@ ghost use Rattle.plant_fuse.specs.proof.Messages.{sent_count, sent_on};
 ghost use Rattle.plant_fuse.specs.proof.DesignTables.{AreTables};
 
 use crate::design_tables::Tables;
-use pals_base::{Items, NodeNo, Tuple};
+use pals_base::{ItemList, NodeNo, Tuple};
 use pals_model::{Design, Link};
 use sync_product::component_stage::Stage;
 use sync_product::tuple_columns::write_port_tuple;
 
 /// Writes the message of each link, from the rows of its source: whole inside a pair, and else cut.
-pub fn send_all(design: &Design, tables: &Tables, stages: &[Stage], messages: &mut Items<Tuple>)
+pub fn send_all(design: &Design, tables: &Tables, stages: &[Stage], messages: &mut ItemList<Tuple>)
     requires tables { AreTables design.now tables.now.pairs tables.now }
     requires stages { map stage_size stages.now ≡ stage_sizes design.now }
     requires messages { map (λ tuple. length tuple) messages.old ≡ message_sizes design.now }

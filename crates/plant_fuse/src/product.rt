@@ -11,7 +11,7 @@ use crate::fuse_failure::FuseEnd;
 use crate::fusibility::first_bad;
 use crate::messages::send_all;
 use crate::round::run_all;
-use pals_base::{Items, LinkNo, NoMemory, NodeNo, PortValue, Tuple};
+use pals_base::{ItemList, LinkNo, NoMemory, NodeNo, PortValue, Tuple};
 use pals_model::{Design, Part};
 use pals_runs::Pair;
 use std::alloc::Global;
@@ -29,10 +29,10 @@ pub struct FuseProduct {
     design: Arc<Design>,
     tables: Tables,
     stages: Vec<Stage>,
-    parts: Items<Part>,
-    messages: Items<Tuple>,
-    next_parts: Items<Part>,
-    next_messages: Items<Tuple>,
+    parts: ItemList<Part>,
+    messages: ItemList<Tuple>,
+    next_parts: ItemList<Part>,
+    next_messages: ItemList<Tuple>,
 }
 
 // By hand, so that a product let go is one call, which the crates above cite.
@@ -80,7 +80,7 @@ impl FuseProduct {
     pub fn new(
         alloc: Global,
         design: Arc<Design>,
-        pairs: Items<Pair>,
+        pairs: ItemList<Pair>,
     ) -> Result<FuseProduct, FuseEnd>
         ensures ok { IfOk result (λ product. product ≡ begun (arc_value design) pairs) }
         ensures pairs { OnOk result (ArePairs (arc_value design) pairs) }
@@ -100,7 +100,7 @@ impl FuseProduct {
     fn begun(
         alloc: Global,
         design: Arc<Design>,
-        pairs: Items<Pair>,
+        pairs: ItemList<Pair>,
     ) -> Result<FuseProduct, NoMemory>
         requires { ArePairs (arc_value design) pairs }
         ensures { IfOk result (λ product. product ≡ begun (arc_value design) pairs) }

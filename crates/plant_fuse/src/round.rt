@@ -10,7 +10,7 @@ ghost use Rattle.plant_fuse.specs.proof.RoundWork.{IsPaired, IsRunAlone, AreAlon
 use crate::design_tables::Tables;
 use crate::pair_steps::{FusedPair, PairedComponent, make_pair_steps};
 use crate::taken_stages_and_parts::{put_stage, take_part, take_stage};
-use pals_base::{Items, NoMemory, NodeNo};
+use pals_base::{ItemList, NoMemory, NodeNo};
 use pals_model::{Design, Part};
 use pals_runs::Pair;
 use sync_product::component_stage::Stage;
@@ -24,7 +24,7 @@ pub fn run_all(
     tables: &Tables,
     parts: &[Part],
     stages: &mut Vec<Stage>,
-    next: &mut Items<Part>,
+    next: &mut ItemList<Part>,
 ) -> Result<(), NoMemory>
     requires tables { AreTables round.design.now tables.now.pairs tables.now }
     requires pairs { ArePairs round.design.now tables.now.pairs }
@@ -48,7 +48,7 @@ fn run_alone(
     tables: &Tables,
     parts: &[Part],
     stages: &mut Vec<Stage>,
-    next: &mut Items<Part>,
+    next: &mut ItemList<Part>,
 ) -> Result<(), NoMemory>
     requires tables { AreTables round.design.now tables.now.pairs tables.now }
     requires parts { map part_size parts.now ≡ part_sizes round.design.now }
@@ -74,7 +74,7 @@ fn run_one(
     node: usize,
     parts: &[Part],
     stages: &mut Vec<Stage>,
-    next: &mut Items<Part>,
+    next: &mut ItemList<Part>,
 ) -> Result<(), NoMemory>
     requires tables { AreTables round.design.now tables.now.pairs tables.now }
     requires node { node < length round.design.now.components }
@@ -97,7 +97,7 @@ fn run_pair(
     pair: &Pair,
     parts: &[Part],
     stages: &mut Vec<Stage>,
-    next: &mut Items<Part>,
+    next: &mut ItemList<Part>,
 ) -> Result<(), NoMemory>
     requires tables { AreTables round.design.now tables.now.pairs tables.now }
     requires pair { IsPair round.design.now pair.now }

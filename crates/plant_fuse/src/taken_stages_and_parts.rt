@@ -2,7 +2,7 @@
 ghost use Rattle.std.specs.Prelude.{◌≡◌, ◌<◌, length, slice_set};
 ghost use Rattle.plant_fuse.specs.proof.TakenElements.{TakenFrom};
 
-use pals_base::{Frame, Items};
+use pals_base::{Frame, ItemList};
 use pals_model::Part;
 use std::alloc::Global;
 use std::mem::replace;
@@ -26,7 +26,7 @@ pub fn put_stage(stages: &mut Vec<Stage>, at: usize, stage: Stage)
 }
 
 /// Takes a part out, and leaves one without room in its place.
-pub fn take_part(alloc: Global, parts: &mut Items<Part>, at: usize) -> Part
+pub fn take_part(alloc: Global, parts: &mut ItemList<Part>, at: usize) -> Part
     requires { at < length parts.old }
     ensures { TakenFrom parts.old parts.new at result }
 {
@@ -37,10 +37,10 @@ pub fn take_part(alloc: Global, parts: &mut Items<Part>, at: usize) -> Part
 fn no_stage(alloc: Global) -> Stage {
     Stage {
         alloc,
-        inputs: Items::new(alloc),
+        inputs: ItemList::new(alloc),
         outs: Vec::new(alloc),
         before: no_frame(alloc),
-        rows: Items::new(alloc),
+        rows: ItemList::new(alloc),
         sent: 0,
     }
 }
@@ -49,7 +49,7 @@ fn no_stage(alloc: Global) -> Stage {
 fn no_part(alloc: Global) -> Part {
     Part {
         frame: no_frame(alloc),
-        outs: Items::new(alloc),
+        outs: ItemList::new(alloc),
     }
 }
 
@@ -57,8 +57,8 @@ fn no_part(alloc: Global) -> Part {
 fn no_frame(alloc: Global) -> Frame {
     Frame {
         state: 0,
-        vars: Items::new(alloc),
-        held: Items::new(alloc),
+        vars: ItemList::new(alloc),
+        held: ItemList::new(alloc),
         halt: None,
     }
 }

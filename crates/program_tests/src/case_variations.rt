@@ -12,8 +12,8 @@
 //!
 //! In the answer `END` is the place where the bundle ends, `_` is another place, and `..` stands for the first bytes
 //! of the answer, 8 for each write that did not fail.
+use crate::answer_ranges::AnswerRanges;
 use crate::audited_runs::run_and_audit;
-use crate::grouped_answers::Runs;
 use crate::program_answer::{ProgramAnswer, Transfer, ask};
 use case_files::{asked, text_of, word};
 use pals_top::status::{READ_FAULT, WRITE_FAULT};
@@ -52,20 +52,20 @@ fn cuts<R: Threads + Wait + Sync>(
 ) -> io::Result<Vec<u8>> {
     let alloc = rt.alloc();
     let bundle = text_of(rt, case)?;
-    let mut runs = Runs::new(alloc);
+    let mut ranges = AnswerRanges::new(alloc);
     let bytes = bundle.as_slice();
     for length in 0..bytes.len() {
-        add_cut(threads, rt, &mut runs, case, &bytes[..length])?;
+        add_cut(threads, rt, &mut ranges, case, &bytes[..length])?;
     }
-    add_cut(threads, rt, &mut runs, case, bytes)?;
-    runs.text()
+    add_cut(threads, rt, &mut ranges, case, bytes)?;
+    ranges.text()
 }
 
 // Adds the answer to the first bytes of a bundle.
 fn add_cut<R: Threads + Wait + Sync>(
     threads: &R,
     rt: &HostRuntime,
-    runs: &mut Runs,
+    ranges: &mut AnswerRanges,
     case: &str,
     cut: &[u8],
 ) -> io::Result<()> {
@@ -78,7 +78,7 @@ fn add_cut<R: Threads + Wait + Sync>(
         bundle.extend_from_slice(behind.as_bytes())?;
     }
     let asked = ask(threads, alloc, asked(case), bundle, Transfer::whole(PIECE))?;
-    runs.add(alloc, cut.len() as u64, &asked)
+    ranges.add(alloc, cut.len() as u64, &asked)
 }
 
 fn reads<R: Threads + Wait + Sync>(
@@ -88,7 +88,7 @@ fn reads<R: Threads + Wait + Sync>(
     size: usize,
 ) -> io::Result<Vec<u8>> {
     let alloc = rt.alloc();
-    let mut runs = Runs::new(alloc);
+    let mut ranges = AnswerRanges::new(alloc);
     for call in 1..MOST {
         let transfer = Transfer {
             size,
@@ -96,12 +96,12 @@ fn reads<R: Threads + Wait + Sync>(
             failing_write: 0,
         };
         let asked = ask(threads, alloc, asked(case), text_of(rt, case)?, transfer)?;
-        runs.add(alloc, call, &asked)?;
+        ranges.add(alloc, call, &asked)?;
         if asked.status != READ_FAULT {
             break;
         }
     }
-    runs.text()
+    ranges.text()
 }
 
 fn writes<R: Threads + Wait + Sync>(
@@ -117,7 +117,7 @@ fn writes<R: Threads + Wait + Sync>(
         text_of(rt, case)?,
         Transfer::whole(PIECE),
     )?;
-    let mut runs = Runs::new(alloc);
+    let mut ranges = AnswerRanges::new(alloc);
     for call in 1..MOST {
         let transfer = Transfer {
             size: PIECE,
@@ -130,12 +130,12 @@ fn writes<R: Threads + Wait + Sync>(
             asked.text.clear();
             asked.text.extend_from_slice(b"..\n")?;
         }
-        runs.add(alloc, call, &asked)?;
+        ranges.add(alloc, call, &asked)?;
         if over {
             break;
         }
     }
-    runs.text()
+    ranges.text()
 }
 
 // Whether what was written before a call are the first bytes of the whole answer, 8 a call.
@@ -150,13 +150,13 @@ fn events<R: Threads + Wait + Sync>(
     case: &str,
 ) -> io::Result<Vec<u8>> {
     let alloc = rt.alloc();
-    let mut runs = Runs::new(alloc);
+    let mut ranges = AnswerRanges::new(alloc);
     let count = count_events(case);
     for left_out in 0..count {
-        add_without(threads, rt, &mut runs, case, left_out)?;
+        add_without(threads, rt, &mut ranges, case, left_out)?;
     }
-    add_without(threads, rt, &mut runs, case, count)?;
-    runs.text()
+    add_without(threads, rt, &mut ranges, case, count)?;
+    ranges.text()
 }
 
 // How many events a case has.
@@ -174,7 +174,7 @@ fn count_events(case: &str) -> usize {
 fn add_without<R: Threads + Wait + Sync>(
     threads: &R,
     rt: &HostRuntime,
-    runs: &mut Runs,
+    ranges: &mut AnswerRanges,
     case: &str,
     left_out: usize,
 ) -> io::Result<()> {
@@ -182,7 +182,7 @@ fn add_without<R: Threads + Wait + Sync>(
     let shorter = without(alloc, case, left_out)?;
     let bundle = text_of(rt, shorter.as_str())?;
     let asked = ask(threads, alloc, asked(case), bundle, Transfer::whole(PIECE))?;
-    runs.add(alloc, left_out as u64, &asked)
+    ranges.add(alloc, left_out as u64, &asked)
 }
 
 // The case with its events as parts of its bundle, without that of a number.

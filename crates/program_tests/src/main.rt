@@ -1,9 +1,9 @@
 //! What the whole program answers to words and bytes, over sources and sinks in memory that fail where they are told.
 #![tactic(auto)]
 
+mod answer_ranges;
 mod audited_runs;
 mod case_variations;
-mod grouped_answers;
 mod program_answer;
 mod ring_text_reports;
 

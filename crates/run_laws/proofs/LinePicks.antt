@@ -32,7 +32,7 @@ use Rattle.run_laws.specs.JournalReadings.{start_in, starts, act_in, acts}
 use Rattle.pals_clock.specs.declared.clock.Clocks.{Clocks}
 use Rattle.pals_clock.specs.declared.clock.Clocks.TheVariants.{Meet, Lists}
 use Rattle.run_laws.specs.Runs.{clock_at, Does, KeepsTo, Runs, opens, picks_for, goes_on}
-use Rattle.run_laws.specs.ListPicks.{picks_of, coming_start, action_shown, ShowsPick, LinesAre}
+use Rattle.run_laws.specs.PicksAndJournalLines.{picks_of, coming_start, action_shown, ShowsPick, LinesAre}
 use Rattle.run_laws.specs.proof.ListPicks.{LinesArePicks}
 use Rattle.run_laws.proofs.NodePicksAndRunReplay.{many_clocks}
 use Rattle.run_laws.proofs.MissedLinks.{missed_link}

@@ -30,7 +30,7 @@ use Rattle.pals_clock.specs.declared.clock.Clocks.TheVariants.{Lists}
 use Rattle.run_laws.specs.Runs.{clock_at, HasEnded, Runs}
 use Rattle.run_laws.specs.proof.LinkTiming.{due_of}
 use Rattle.run_laws.specs.proof.ReadingsAndStopCauses.{CauseFits, StopFits}
-use Rattle.run_laws.specs.ListPicks.{picks_of, IsPickFor}
+use Rattle.run_laws.specs.PicksAndJournalLines.{picks_of, IsPickFor}
 use Rattle.run_laws.specs.ListRunEndsAndStops.{IsOver, PicksAll, ListStop}
 use Rattle.run_laws.specs.proof.ListRunEndsAndStops.{EndsAreTimely, DoneArePicked, EndedPicksEnd, ListsStop}
 use Rattle.run_laws.proofs.NodeActions.{IsPlan, length-targets, sized, size}

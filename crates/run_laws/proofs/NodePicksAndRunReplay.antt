@@ -48,7 +48,7 @@ use Rattle.pals_clock.specs.declared.clock.Clocks.TheVariants.{Meet, Lists}
 use Rattle.run_laws.specs.Runs.{no_clock, clock_at, Does, Begins, Takes, KeepsTo, Picks, AreFresh, HaveFreshClocks, Runs, opens}
 use Rattle.run_laws.specs.Runs.{picks_for, goes_on}
 use Rattle.run_laws.specs.proof.ListPicks.{IsPicked}
-use Rattle.run_laws.specs.ListPicks.{picks_of, IsPrefix}
+use Rattle.run_laws.specs.PicksAndJournalLines.{picks_of, IsPrefix}
 use Rattle.run_laws.proofs.NodeActions.{IsPlan, length-targets}
 use Rattle.run_laws.proofs.TargetPicks.{does_next, picks_next, goes_otherwise, is_prefix}
 use Rattle.run_laws.proofs.ProgressByEvent.{acting, is_at_most, next_is, target_is, starts_follow, steps_follow}

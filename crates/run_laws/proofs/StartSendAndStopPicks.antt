@@ -35,7 +35,7 @@ use Rattle.run_laws.specs.JournalReadings.{listed, start_in, send_in, starts, se
 use Rattle.pals_clock.specs.declared.clock.Clocks.{Clocks}
 use Rattle.pals_clock.specs.declared.clock.Clocks.TheVariants.{Meet, Lists}
 use Rattle.run_laws.specs.Runs.{no_clock, clock_at, Does, Takes, KeepsTo, Picks, Runs, opens, picks_for, goes_on}
-use Rattle.run_laws.specs.ListPicks.{picks_of, IsPickFor}
+use Rattle.run_laws.specs.PicksAndJournalLines.{picks_of, IsPickFor}
 use Rattle.run_laws.proofs.TargetPicks.{pick_at}
 use Rattle.run_laws.proofs.ProgressByEvent.{action_is}
 use Rattle.run_laws.proofs.NodePicksAndRunReplay.{runs_agree, many_clocks, nodes_pick, next_target, acting_by, plan_rules, held_of}

@@ -25,7 +25,7 @@ use Rattle.bus_machine.specs.Nodes.{sent_rounds}
 use Rattle.bus_machine.specs.ActionsAndTargets.{targets, target, next_in}
 use Rattle.run_laws.specs.JournalReadings.{sends}
 use Rattle.run_laws.specs.Runs.{clock_at, lists_in, HasEnded, Runs}
-use Rattle.run_laws.specs.ListPicks.{picks_of, IsPickFor}
+use Rattle.run_laws.specs.PicksAndJournalLines.{picks_of, IsPickFor}
 use Rattle.run_laws.specs.proof.LinkTiming.{due_of}
 use Rattle.run_laws.specs.TimelyMessages.{IsTimely}
 use Rattle.run_laws.specs.ListRunEndsAndStops.{PicksAll, PicksEndAt, ListStop, AllAtEnd}

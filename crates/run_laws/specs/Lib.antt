@@ -2,7 +2,6 @@ pub mod JournalReadings
 pub mod NodeActions
 pub mod Runs
 pub mod NodeLinkQuantifiers
-pub mod ListPicks
 pub mod TimelyMessages
 pub mod Meetings
 pub mod BoundsBrokenAtStops
@@ -21,3 +20,4 @@ pub mod EventFaults
 pub mod EventLists
 pub mod ListRunEndsAndStops
 pub mod EntryEventsAndReadings
+pub mod PicksAndJournalLines

@@ -11,7 +11,7 @@ use Rattle.bus_machine.specs.BusStates.{BusState, node_at}
 use Rattle.bus_machine.specs.RunParameters.{Run}
 use Rattle.bus_machine.specs.ActionsAndTargets.{targets}
 use Rattle.run_laws.specs.Runs.{HasEnded}
-use Rattle.run_laws.specs.ListPicks.{picks_of, IsPickFor}
+use Rattle.run_laws.specs.PicksAndJournalLines.{picks_of, IsPickFor}
 use Rattle.run_laws.specs.NodeLinkQuantifiers.{EachNode}
 use Rattle.pals_clock.specs.declared.clock.Clocks.{Clocks}
 use Rattle.pals_clock.specs.declared.clock.Clocks.TheVariants.{Meet, Lists}

@@ -14,7 +14,7 @@ use Rattle.bus_machine.specs.ActionsAndTargets.{target}
 use Rattle.run_laws.specs.Runs.{HasEnded}
 use Rattle.run_laws.specs.JournalReadings.{acts}
 use Rattle.run_laws.specs.NodeLinkQuantifiers.{EachNode, EachLink}
-use Rattle.run_laws.specs.ListPicks.{picks_of, IsPrefix, LinesAre}
+use Rattle.run_laws.specs.PicksAndJournalLines.{picks_of, IsPrefix, LinesAre}
 use Rattle.run_laws.specs.TimelyMessages.{IsTimely}
 use Rattle.run_laws.specs.ListRunEndsAndStops.{IsOver, AllOver, PicksAll, PicksEndAt, ListStop}
 use Rattle.run_laws.specs.Meetings.{ShowTargets, AllDone, IsLate, MeetingStop}

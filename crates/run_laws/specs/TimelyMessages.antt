@@ -4,7 +4,7 @@ use Rattle.pals_clock.specs.ClockStates.{ClockState}
 use Rattle.pals_model.specs.Delays.{delay_of}
 use Rattle.bus_machine.specs.Plans.{link_at}
 use Rattle.bus_machine.specs.RunParameters.{Run}
-use Rattle.run_laws.specs.ListPicks.{IsPickFor}
+use Rattle.run_laws.specs.PicksAndJournalLines.{IsPickFor}
 use Rattle.bus_machine.specs.declared.node_action.NodeAction.TheVariants as action
 
 -- a round of a link is in time: where its target's picks reach the start of the round after it, its source's picks

@@ -3,7 +3,7 @@ ghost use Rattle.std.specs.Prelude.{length, IfOk};
 ghost use Rattle.pals_runs.specs.proof.FormulasOfForms.{formula_of};
 ghost use Rattle.run_monitor.specs.proof.FlatForms.{built, forms_of, HasParts, IsFlat, Adds};
 
-use pals_base::{Items, NoMemory, NodeNo};
+use pals_base::{ItemList, NoMemory, NodeNo};
 use pals_runs::{Compare, Form};
 
 /// A form whose parts are named by their places in a list, which are before its own.
@@ -26,7 +26,7 @@ pub enum FlatForm {
 }
 
 // Adds a form whose parts are there, and says where it stands.
-fn push(forms: &mut Items<FlatForm>, form: FlatForm) -> Result<usize, NoMemory>
+fn push(forms: &mut ItemList<FlatForm>, form: FlatForm) -> Result<usize, NoMemory>
     requires order { IsFlat forms.old }
     requires parts { HasParts (length forms.old) form }
     ensures { IfOk result (λ at. Adds forms.old forms.new at (built (forms_of forms.old) form)) }
@@ -38,7 +38,7 @@ fn push(forms: &mut Items<FlatForm>, form: FlatForm) -> Result<usize, NoMemory>
 
 /// Adds the forms of a formula, the whole last, and says where it stands. It recurs as deep as the
 /// formula is.
-pub fn add(forms: &mut Items<FlatForm>, form: &Form) -> Result<usize, NoMemory>
+pub fn add(forms: &mut ItemList<FlatForm>, form: &Form) -> Result<usize, NoMemory>
     requires { IsFlat forms.old }
     ensures { IfOk result (λ at. Adds forms.old forms.new at (formula_of form.now)) }
 {

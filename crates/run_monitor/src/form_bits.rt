@@ -6,7 +6,7 @@ ghost use Rattle.run_monitor.specs.proof.FormBits.{bit_at, seen_bit, row_bit, ne
 ghost use Rattle.run_monitor.specs.proof.FormBits.{AreNext};
 
 use crate::flat_form::FlatForm;
-use pals_base::{Frame, Items, NodeNo};
+use pals_base::{Frame, ItemList, NodeNo};
 use pals_model::Part;
 use pals_runs::Compare;
 
@@ -75,7 +75,7 @@ fn seen_bit(form: FlatForm, node: NodeNo, frame: &Frame, before: bool) -> bool
 }
 
 /// Writes what each form says of a frame of a component, where it reads that component.
-pub(crate) fn see_frame(forms: &[FlatForm], node: NodeNo, frame: &Frame, bits: &mut Items<bool>)
+pub(crate) fn see_frame(forms: &[FlatForm], node: NodeNo, frame: &Frame, bits: &mut ItemList<bool>)
     requires { length bits.old ≡ length forms.now }
     ensures len { length bits.new ≡ length bits.old }
     ensures each { AreSeen forms.now node.0 frame.now bits.old bits.new }
@@ -124,7 +124,7 @@ fn row_bit(form: FlatForm, parts: &[Part], before: bool) -> bool
 }
 
 /// Writes what each form says of the frames of all components, where it reads one.
-pub(crate) fn see_row(forms: &[FlatForm], parts: &[Part], bits: &mut Items<bool>)
+pub(crate) fn see_row(forms: &[FlatForm], parts: &[Part], bits: &mut ItemList<bool>)
     requires { length bits.old ≡ length forms.now }
     ensures len { length bits.new ≡ length bits.old }
     ensures each { AreOfRow forms.now (row_of parts.now) bits.old bits.new }
@@ -156,7 +156,7 @@ fn next_bit(form: FlatForm, at: usize, begun: bool, kept: &[bool], bits: &[bool]
 }
 
 /// Writes the bit that each form has in a further round.
-pub(crate) fn advance_all(forms: &[FlatForm], begun: bool, kept: &[bool], bits: &mut Items<bool>)
+pub(crate) fn advance_all(forms: &[FlatForm], begun: bool, kept: &[bool], bits: &mut ItemList<bool>)
     requires size { length bits.old ≡ length forms.now }
     requires order { IsFlat forms.now }
     ensures len { length bits.new ≡ length bits.old }

@@ -6,7 +6,7 @@ ghost use Rattle.run_monitor.specs.proof.MonitorStates.{said, IsNew, Sees, SeesA
 
 use crate::flat_form::{FlatForm, add};
 use crate::form_bits::{advance_all, bit_at, see_frame, see_row};
-use pals_base::{Frame, Items, NoMemory, NodeNo};
+use pals_base::{Frame, ItemList, NoMemory, NodeNo};
 use pals_model::Part;
 use pals_runs::Form;
 use std::alloc::Global;
@@ -16,10 +16,10 @@ use std::mem::swap;
 /// A monitor of a formula: for each form in it, what it said at the last round.
 #[derive(Drop)]
 pub struct Monitor {
-    forms: Items<FlatForm>,
+    forms: ItemList<FlatForm>,
     begun: bool,
-    kept: Items<bool>,
-    seen: Items<bool>,
+    kept: ItemList<bool>,
+    seen: ItemList<bool>,
 }
 
 impl Model for Monitor {
@@ -49,10 +49,10 @@ impl Monitor {
     pub fn of(alloc: Global, form: &Form) -> Result<Monitor, NoMemory>
         ensures { IfOk result (λ monitor. IsNew (formula_of form.now) monitor) }
     {
-        let mut forms = Items::new(alloc);
+        let mut forms = ItemList::new(alloc);
         add(&mut forms, form)?;
-        let kept = Items::from_vec(vec![in alloc; false; forms.len()]?);
-        let seen = Items::from_vec(vec![in alloc; false; forms.len()]?);
+        let kept = ItemList::from_vec(vec![in alloc; false; forms.len()]?);
+        let seen = ItemList::from_vec(vec![in alloc; false; forms.len()]?);
         Ok(Monitor {
             forms,
             begun: false,

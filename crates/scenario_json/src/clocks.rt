@@ -8,7 +8,7 @@ ghost use Rattle.scenario_values.specs.FaultPlaces.{inside};
 ghost use Rattle.scenario_json.specs.Clocks.{reading_list, with_clock, clock_lists, is_meet, clocks_in};
 
 use pals_base::limits::{LIST_ITEMS, READING};
-use pals_base::{Items, Nanos, NoMemory};
+use pals_base::{ItemList, Nanos, NoMemory};
 use pals_clock::{Clocks, ListClock};
 use scenario_values::json_values::{entries, short_list, whole};
 use scenario_values::placed_faults::Place;
@@ -18,13 +18,13 @@ use std::alloc::Global;
 
 // The readings of one clock, which don't fall.
 #[tactic(auto, unfolding(crate::specs::Clocks::reading_list))]
-fn reading_list(alloc: Global, name: &str, value: &Value) -> Result<Items<Nanos>, ScenarioFault>
+fn reading_list(alloc: Global, name: &str, value: &Value) -> Result<ItemList<Nanos>, ScenarioFault>
     ensures value { Answers (reading_list (inside (codes "clocks") name.now) (view value.now)) result }
     ensures order { IfOk result IsNonDecreasing }
     ensures range { IfOk result AreReadings }
 {
     let items = short_list(alloc, Place::Name("clocks", name), LIST_ITEMS, value)?;
-    let mut readings = Items::new(alloc);
+    let mut readings = ItemList::new(alloc);
     let mut last = 0;
     for (at, item) in items.iter().enumerate() {
         let place = Place::NameIndex("clocks", name, at);
@@ -40,7 +40,7 @@ fn reading_list(alloc: Global, name: &str, value: &Value) -> Result<Items<Nanos>
 fn add_clock(
     alloc: Global,
     names: &DesignNames<'_>,
-    clocks: &mut Items<ListClock>,
+    clocks: &mut ItemList<ListClock>,
     name: &str,
     value: &Value,
 ) -> Result<(), ScenarioFault>
@@ -55,12 +55,12 @@ fn add_clock(
 }
 
 // A clock without readings for each of `count` nodes.
-fn empty_clocks(alloc: Global, count: usize) -> Result<Items<ListClock>, NoMemory>
+fn empty_clocks(alloc: Global, count: usize) -> Result<ItemList<ListClock>, NoMemory>
     ensures { IfOk result (λ clocks. clocks ≡ replicate count (unpicked [])) }
 {
-    let mut clocks = Items::new(alloc);
+    let mut clocks = ItemList::new(alloc);
     for _done in 0..count {
-        clocks.push(ListClock::new(Items::new(alloc)))?;
+        clocks.push(ListClock::new(ItemList::new(alloc)))?;
     }
     Ok(clocks)
 }

@@ -10,7 +10,7 @@ ghost use Rattle.scenario_json.specs.Events.{word_of, is_usual, usual_word, node
 ghost use Rattle.scenario_json.specs.Events.{pass_parts, event_of, event_in, events_in};
 
 use pals_base::limits::{LIST_ITEMS, READING, ROUNDS};
-use pals_base::{Items, LinkNo, Nanos, NodeNo};
+use pals_base::{ItemList, LinkNo, Nanos, NodeNo};
 use pals_runs::{Command, Event};
 use scenario_values::json_values::{elements, is_whole, short_list, text, whole};
 use scenario_values::placed_faults::{Place, out_of_range, wrong_kind};
@@ -152,10 +152,10 @@ fn reading_parts(
     alloc: Global,
     place: Place<'_>,
     values: &[Value],
-) -> Result<Items<Nanos>, ScenarioFault>
+) -> Result<ItemList<Nanos>, ScenarioFault>
     ensures { Answers (reading_parts (place_text place.entry) (map view values.now)) result }
 {
-    let mut readings = Items::new(alloc);
+    let mut readings = ItemList::new(alloc);
     for value in values {
         let reading = whole(alloc, place, 0, READING, value)?;
         readings.push(reading)?;
@@ -170,7 +170,7 @@ fn pass_parts(
     names: &DesignNames<'_>,
     place: Place<'_>,
     parts: &[Value],
-) -> Result<(Nanos, Items<Nanos>), ScenarioFault>
+) -> Result<(Nanos, ItemList<Nanos>), ScenarioFault>
     ensures { Answers (pass_parts names.now (place_text place.entry) (map view parts.now)) result }
 {
     let [time, readings] = parts else {
@@ -261,11 +261,11 @@ pub fn read_events(
     names: &DesignNames<'_>,
     command: &Command,
     value: &Value,
-) -> Result<Items<Event>, ScenarioFault>
+) -> Result<ItemList<Event>, ScenarioFault>
     ensures { Answers (events_in names.now command.now (view value.now)) result }
 {
     let items = short_list(alloc, Place::Field("events"), LIST_ITEMS, value)?;
-    let mut events = Items::new(alloc);
+    let mut events = ItemList::new(alloc);
     for (at, item) in items.iter().enumerate() {
         let place = Place::Index("events", at);
         let event = read_event(alloc, names, command, place, item)?;

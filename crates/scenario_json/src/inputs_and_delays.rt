@@ -8,7 +8,7 @@ ghost use Rattle.scenario_json.specs.InputsAndDelays.{value_list, with_input, in
 ghost use Rattle.scenario_json.specs.InputsAndDelays.{delays_in};
 
 use pals_base::limits::HOUR;
-use pals_base::{Items, Kind, Nanos, NoMemory, Tuple};
+use pals_base::{ItemList, Kind, Nanos, NoMemory, Tuple};
 use scenario_values::json_values::{elements, entries, port_value, whole};
 use scenario_values::placed_faults::{Place, out_of_range};
 use scenario_values::{DesignNames, ScenarioFault};
@@ -21,7 +21,7 @@ fn value_list(alloc: Global, kind: Kind, name: &str, value: &Value) -> Result<Tu
     ensures { Answers (value_list kind (inside (codes "inputs") name.now) (view value.now)) result }
 {
     let items = elements(alloc, Place::Name("inputs", name), value)?;
-    let mut values = Items::new(alloc);
+    let mut values = ItemList::new(alloc);
     for (at, item) in items.iter().enumerate() {
         let place = Place::NameIndex("inputs", name, at);
         let port = port_value(alloc, kind, place, item)?;
@@ -35,7 +35,7 @@ fn value_list(alloc: Global, kind: Kind, name: &str, value: &Value) -> Result<Tu
 fn add_input(
     alloc: Global,
     names: &DesignNames<'_>,
-    lists: &mut Items<Tuple>,
+    lists: &mut ItemList<Tuple>,
     name: &str,
     value: &Value,
 ) -> Result<(), ScenarioFault>
@@ -50,12 +50,12 @@ fn add_input(
 }
 
 /// An empty list for each of `count` root in ports.
-pub fn no_inputs(alloc: Global, count: usize) -> Result<Items<Tuple>, NoMemory>
+pub fn no_inputs(alloc: Global, count: usize) -> Result<ItemList<Tuple>, NoMemory>
     ensures { IfOk result (λ lists. lists ≡ replicate count []) }
 {
-    let mut lists = Items::new(alloc);
+    let mut lists = ItemList::new(alloc);
     for _done in 0..count {
-        lists.push(Items::new(alloc))?;
+        lists.push(ItemList::new(alloc))?;
     }
     Ok(lists)
 }
@@ -66,7 +66,7 @@ pub fn read_inputs(
     alloc: Global,
     names: &DesignNames<'_>,
     value: &Value,
-) -> Result<Items<Tuple>, ScenarioFault>
+) -> Result<ItemList<Tuple>, ScenarioFault>
     ensures { Answers (inputs_in names.now (view value.now)) result }
 {
     let members = entries(alloc, Place::Field("inputs"), value)?;
@@ -79,14 +79,14 @@ pub fn read_inputs(
 
 // The delays of one link.
 #[tactic(auto, unfolding(crate::specs::InputsAndDelays::delay_list))]
-fn delay_list(alloc: Global, name: &str, value: &Value) -> Result<Items<Nanos>, ScenarioFault>
+fn delay_list(alloc: Global, name: &str, value: &Value) -> Result<ItemList<Nanos>, ScenarioFault>
     ensures { Answers (delay_list (inside (codes "delays") name.now) (view value.now)) result }
 {
     let items = elements(alloc, Place::Name("delays", name), value)?;
     if items.len() == 0 {
         return Err(out_of_range(alloc, Place::Name("delays", name)));
     }
-    let mut delays = Items::new(alloc);
+    let mut delays = ItemList::new(alloc);
     for (at, item) in items.iter().enumerate() {
         let place = Place::NameIndex("delays", name, at);
         let delay = whole(alloc, place, 0, HOUR, item)?;
@@ -100,7 +100,7 @@ fn delay_list(alloc: Global, name: &str, value: &Value) -> Result<Items<Nanos>, 
 fn add_delays(
     alloc: Global,
     names: &DesignNames<'_>,
-    lists: &mut Items<Items<Nanos>>,
+    lists: &mut ItemList<ItemList<Nanos>>,
     name: &str,
     value: &Value,
 ) -> Result<(), ScenarioFault>
@@ -115,14 +115,17 @@ fn add_delays(
 }
 
 /// The least delay of the network for each link.
-pub fn least_delays(alloc: Global, names: &DesignNames<'_>) -> Result<Items<Items<Nanos>>, NoMemory>
+pub fn least_delays(
+    alloc: Global,
+    names: &DesignNames<'_>,
+) -> Result<ItemList<ItemList<Nanos>>, NoMemory>
     ensures { IfOk result (λ lists. lists ≡ replicate (length names.now.links) (names.now.gamma.mu_min ∷ [])) }
 {
     let least = names.design().gamma().mu_min;
     let count = names.design().links().len();
-    let mut lists = Items::new(alloc);
+    let mut lists = ItemList::new(alloc);
     for _done in 0..count {
-        lists.push(Items::from_slice(alloc, &[least])?)?;
+        lists.push(ItemList::from_slice(alloc, &[least])?)?;
     }
     Ok(lists)
 }
@@ -133,7 +136,7 @@ pub fn read_delays(
     alloc: Global,
     names: &DesignNames<'_>,
     value: &Value,
-) -> Result<Items<Items<Nanos>>, ScenarioFault>
+) -> Result<ItemList<ItemList<Nanos>>, ScenarioFault>
     ensures { Answers (delays_in names.now (view value.now)) result }
 {
     let members = entries(alloc, Place::Field("delays"), value)?;

@@ -1,6 +1,6 @@
 //! Scenarios, as users of them see them.
 use analysis_fields::{Processor, Property, RoundFault};
-use pals_base::{Items, NodeNo, Text};
+use pals_base::{ItemList, NodeNo, Text};
 use pals_clock::Clocks;
 use pals_model::{Delays, Env};
 use pals_runs::{Event, Pair};
@@ -13,13 +13,13 @@ use pals_runs::{Event, Pair};
 pub struct Scenario {
     pub rounds: u32,
     pub env: Env,
-    pub events: Items<Event>,
+    pub events: ItemList<Event>,
     pub clocks: Clocks,
     pub delays: Delays,
-    pub trace: Items<Text>,
-    pub properties: Items<Property>,
-    pub replicas: Items<NodeNo>,
-    pub faults: Items<RoundFault>,
-    pub plants: Items<Pair>,
-    pub processors: Items<Processor>,
+    pub trace: ItemList<Text>,
+    pub properties: ItemList<Property>,
+    pub replicas: ItemList<NodeNo>,
+    pub faults: ItemList<RoundFault>,
+    pub plants: ItemList<Pair>,
+    pub processors: ItemList<Processor>,
 }

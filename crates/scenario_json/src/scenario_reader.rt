@@ -29,7 +29,7 @@ use analysis_fields::{
     read_replicas,
 };
 use pals_base::limits::{CELLS, ROUNDS};
-use pals_base::{Items, Nanos, NodeNo, Text, Tuple};
+use pals_base::{ItemList, Nanos, NodeNo, Text, Tuple};
 use pals_clock::Clocks;
 use pals_model::{Delays, Design, Env};
 use pals_runs::{Command, Event, Pair};
@@ -115,7 +115,7 @@ fn inputs_in(
     alloc: Global,
     names: &DesignNames<'_>,
     value: &Value,
-) -> Result<Items<Tuple>, ScenarioFault>
+) -> Result<ItemList<Tuple>, ScenarioFault>
     ensures { Answers (inputs_field names.now (view value.now)) result }
 {
     match value.get("inputs") {
@@ -129,14 +129,14 @@ fn events_in(
     names: &DesignNames<'_>,
     command: &Command,
     value: &Value,
-) -> Result<Items<Event>, ScenarioFault>
+) -> Result<ItemList<Event>, ScenarioFault>
     ensures { Answers (events_field names.now command.now (view value.now)) result }
 {
     let Some(events) = value.get("events") else {
         if needs_events(command) {
             return Err(missing(alloc, Place::Field("events")));
         }
-        return Ok(Items::new(alloc));
+        return Ok(ItemList::new(alloc));
     };
     read_events(alloc, names, command, events)
 }
@@ -154,7 +154,7 @@ fn delays_in(
     alloc: Global,
     names: &DesignNames<'_>,
     value: &Value,
-) -> Result<Items<Items<Nanos>>, ScenarioFault>
+) -> Result<ItemList<ItemList<Nanos>>, ScenarioFault>
     ensures { Answers (delays_field names.now (view value.now)) result }
 {
     match value.get("delays") {
@@ -163,14 +163,18 @@ fn delays_in(
     }
 }
 
-fn trace_in(alloc: Global, command: &Command, value: &Value) -> Result<Items<Text>, ScenarioFault>
+fn trace_in(
+    alloc: Global,
+    command: &Command,
+    value: &Value,
+) -> Result<ItemList<Text>, ScenarioFault>
     ensures { Answers (trace_field command.now (view value.now)) result }
 {
     let Some(trace) = value.get("trace") else {
         if needs_trace(command) {
             return Err(missing(alloc, Place::Field("trace")));
         }
-        return Ok(Items::new(alloc));
+        return Ok(ItemList::new(alloc));
     };
     read_trace(alloc, trace)
 }
@@ -180,14 +184,14 @@ fn properties_in(
     names: &DesignNames<'_>,
     command: &Command,
     value: &Value,
-) -> Result<Items<Property>, ScenarioFault>
+) -> Result<ItemList<Property>, ScenarioFault>
     ensures { Answers (properties_field names.now command.now (view value.now)) result }
 {
     let Some(properties) = value.get("properties") else {
         if needs_properties(command) {
             return Err(missing(alloc, Place::Field("properties")));
         }
-        return Ok(Items::new(alloc));
+        return Ok(ItemList::new(alloc));
     };
     read_properties(alloc, names, properties)
 }
@@ -196,12 +200,12 @@ fn replicas_in(
     alloc: Global,
     names: &DesignNames<'_>,
     value: &Value,
-) -> Result<Items<NodeNo>, ScenarioFault>
+) -> Result<ItemList<NodeNo>, ScenarioFault>
     ensures { Answers (replicas_field names.now (view value.now)) result }
 {
     match value.get("replicas") {
         Some(replicas) => read_replicas(alloc, names, replicas),
-        None => Ok(Items::new(alloc)),
+        None => Ok(ItemList::new(alloc)),
     }
 }
 
@@ -210,12 +214,12 @@ fn faults_in(
     names: &DesignNames<'_>,
     replicas: &[NodeNo],
     value: &Value,
-) -> Result<Items<RoundFault>, ScenarioFault>
+) -> Result<ItemList<RoundFault>, ScenarioFault>
     ensures { Answers (faults_field names.now replicas.now (view value.now)) result }
 {
     match value.get("faults") {
         Some(faults) => read_faults(alloc, names, replicas, faults),
-        None => Ok(Items::new(alloc)),
+        None => Ok(ItemList::new(alloc)),
     }
 }
 
@@ -223,12 +227,12 @@ fn plants_in(
     alloc: Global,
     names: &DesignNames<'_>,
     value: &Value,
-) -> Result<Items<Pair>, ScenarioFault>
+) -> Result<ItemList<Pair>, ScenarioFault>
     ensures { Answers (plants_field names.now (view value.now)) result }
 {
     match value.get("plants") {
         Some(plants) => read_plants(alloc, names, plants),
-        None => Ok(Items::new(alloc)),
+        None => Ok(ItemList::new(alloc)),
     }
 }
 
@@ -237,14 +241,14 @@ fn processors_in(
     names: &DesignNames<'_>,
     command: &Command,
     value: &Value,
-) -> Result<Items<Processor>, ScenarioFault>
+) -> Result<ItemList<Processor>, ScenarioFault>
     ensures { Answers (processors_field names.now command.now (view value.now)) result }
 {
     let Some(processors) = value.get("processors") else {
         if needs_processors(command) {
             return Err(missing(alloc, Place::Field("processors")));
         }
-        return Ok(Items::new(alloc));
+        return Ok(ItemList::new(alloc));
     };
     read_processors(alloc, names, processors)
 }

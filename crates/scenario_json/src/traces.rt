@@ -4,7 +4,7 @@ ghost use Rattle.scenario_values.specs.ResultCombinators.{Answers};
 ghost use Rattle.scenario_json.specs.Traces.{trace_in};
 
 use pals_base::limits::LIST_ITEMS;
-use pals_base::{Items, Text};
+use pals_base::{ItemList, Text};
 use scenario_values::ScenarioFault;
 use scenario_values::json_values::{owned, short_list, text};
 use scenario_values::placed_faults::Place;
@@ -13,11 +13,11 @@ use std::alloc::Global;
 
 /// The lines of a trace.
 #[tactic(auto, unfolding(crate::specs::Traces::trace_in))]
-pub fn read_trace(alloc: Global, value: &Value) -> Result<Items<Text>, ScenarioFault>
+pub fn read_trace(alloc: Global, value: &Value) -> Result<ItemList<Text>, ScenarioFault>
     ensures { Answers (trace_in (view value.now)) result }
 {
     let items = short_list(alloc, Place::Field("trace"), LIST_ITEMS, value)?;
-    let mut lines = Items::new(alloc);
+    let mut lines = ItemList::new(alloc);
     for (at, item) in items.iter().enumerate() {
         let line = text(alloc, Place::Index("trace", at), item)?;
         let owned = owned(alloc, line)?;

@@ -1,7 +1,7 @@
 //! The instructions of step code, and the parts of which a code is made.
 ghost use Rattle.std.specs.Prelude.{◌≡◌, slice_get};
 
-use pals_base::Items;
+use pals_base::ItemList;
 
 /// One instruction. Operands lie on a stack. Places, slots, ports and states are numbers from 0.
 #[derive(Clone, Copy, Debug)]
@@ -139,8 +139,8 @@ impl Instr {
 /// behind those of the variables.
 #[derive(Drop)]
 pub struct CodeParts {
-    pub instrs: Items<Instr>,
-    pub entries: Items<Option<u32>>,
+    pub instrs: ItemList<Instr>,
+    pub entries: ItemList<Option<u32>>,
     pub vars: u32,
     pub loops: u32,
     pub ins: u32,

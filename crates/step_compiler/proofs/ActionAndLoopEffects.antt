@@ -20,7 +20,7 @@ use Rattle.step_code.specs.declared.instr.Instr.{Instr}
 use Rattle.step_code.specs.declared.instr.Instr.TheVariants as code
 use Rattle.step_code.specs.InstructionEffects.{Goes, StepInputs, on_found, step}
 use Rattle.step_code.specs.CodeLengths.{length_acts}
-use Rattle.step_compiler.proofs.AccessBounds.{Sizes}
+use Rattle.step_compiler.proofs.BehaviourAccessBounds.{Sizes}
 use Rattle.step_code.proofs.ListMembers.{get_set_other, get_set_same}
 use Rattle.step_compiler.proofs.ExpressionRuns.{At, at, Leads, Traps', Gives, Shows, leads_on, leads_trap, goes}
 

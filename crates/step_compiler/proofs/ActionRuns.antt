@@ -22,7 +22,7 @@ use Rattle.step_code.specs.CodeLengths.{length_of, length_act, length_acts, leng
 use Rattle.step_compiler.specs.ExpressionAndActionInstructions.{code_of, code_act, code_acts, code_branches}
 use Rattle.step_compiler.proofs.PlacedCodeLengths.{HasAt, has_front, has_back, code-length, act-length, acts-length}
 use Rattle.step_compiler.proofs.PlacedCodeLengths.{branches-length}
-use Rattle.step_compiler.proofs.AccessBounds.{Sees, Sizes, SeesAct, SeesActs, SeesBranches}
+use Rattle.step_compiler.proofs.BehaviourAccessBounds.{Sees, Sizes, SeesAct, SeesActs, SeesBranches}
 use Rattle.step_code.proofs.RunsWithinWeight.{spans}
 use Rattle.step_code.proofs.ListMembers.{get_set_other, get_set_same}
 use Rattle.step_compiler.proofs.ExpressionRuns.{At, at, Gives, stays, leads_on, goes, jumps, passes, expr_runs}

@@ -45,8 +45,8 @@ use Rattle.step_compiler.specs.proof.BlockOrder.{block_order}
 use Rattle.step_compiler.specs.BlockInstructions.{block_code, blocks_code, dispatch_offset, entry_of}
 use Rattle.step_compiler.specs.proof.BlockLengthsAndStarts.{in_list}
 use Rattle.step_compiler.specs.proof.CompiledCode.{block_starts, compiled}
-use Rattle.step_compiler.proofs.AccessBounds.{Sizes, IsGood, AreGood}
-use Rattle.step_compiler.proofs.SoundAccesses.{Fitting, acts_seen, trigger_seen}
+use Rattle.step_compiler.proofs.BehaviourAccessBounds.{Sizes, IsGood, AreGood}
+use Rattle.step_compiler.proofs.SoundBehaviourAccesses.{Fitting, acts_seen, trigger_seen}
 use Rattle.step_compiler.proofs.PlacedCodeLengths.{HasAt, blocks-length}
 use Rattle.step_compiler.proofs.TransitionRules.{edge_has}
 use Rattle.step_compiler.proofs.BlockOrderCompleteness.{all_member, order_sum}

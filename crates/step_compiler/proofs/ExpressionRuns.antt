@@ -18,7 +18,7 @@ use Rattle.step_code.specs.proof.CodeRuns.{CodeOutcome, Trapped, then_run, run}
 use Rattle.step_code.specs.CodeLengths.{operand_length, length_of, length_rest}
 use Rattle.step_compiler.specs.ExpressionAndActionInstructions.{operator, operand_code, code_of, code_rest}
 use Rattle.step_compiler.proofs.PlacedCodeLengths.{HasAt, has_front, has_back, code-length, operand-length}
-use Rattle.step_compiler.proofs.AccessBounds.{Sees, SeesAll}
+use Rattle.step_compiler.proofs.BehaviourAccessBounds.{Sees, SeesAll}
 
 -- ---- runs
 pub record At : Type 0 where

@@ -1,5 +1,4 @@
 pub mod PlacedCodeLengths
-pub mod AccessBounds
 pub mod ExpressionRuns
 pub mod ActionAndLoopEffects
 pub mod ActionRuns
@@ -13,7 +12,6 @@ pub mod CappedBlockStarts
 pub mod AwaitedStateMarks
 pub mod BlockOrderInvariant
 pub mod BlockOrderCompleteness
-pub mod SoundAccesses
 pub mod BlockPlaces
 pub mod CompilerCorrectness
 pub mod StackHeights
@@ -26,3 +24,5 @@ pub mod SoundAndUniqueOrder
 pub mod LayoutLaws
 pub mod UnguardedLastTransition
 pub mod TransitionRules
+pub mod SoundBehaviourAccesses
+pub mod BehaviourAccessBounds

@@ -21,7 +21,7 @@ use Rattle.step_code.specs.CodeLengths.{length_of, length_acts, length_trigger, 
 use Rattle.step_compiler.specs.ExpressionAndActionInstructions.{code_of, code_acts}
 use Rattle.step_compiler.proofs.PlacedCodeLengths.{HasAt, has_front, has_back, code-length, acts-length, trigger-length}
 use Rattle.step_compiler.proofs.PlacedCodeLengths.{edge-length}
-use Rattle.step_compiler.proofs.AccessBounds.{Sizes, SeesTrigger, IsGood, AreGood}
+use Rattle.step_compiler.proofs.BehaviourAccessBounds.{Sizes, SeesTrigger, IsGood, AreGood}
 use Rattle.step_compiler.specs.BlockInstructions.{trigger_code, last_instr, edge_code, block_code}
 use Rattle.step_compiler.proofs.ExpressionRuns.{At, at, runs, Leads, Traps', Gives, leads_on, leads_trap, goes, jumps}
 use Rattle.step_compiler.proofs.ExpressionRuns.{passes}

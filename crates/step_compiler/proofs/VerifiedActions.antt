@@ -18,7 +18,7 @@ use Rattle.step_code.specs.Loops.{closes, loop_from, loop_at, with_loop, loops_b
 use Rattle.step_code.specs.proof.VerifierRules.{on_some, stays, ends_loop}
 use Rattle.step_code.specs.CodeLengths.{length_of, length_act, length_acts, length_branches}
 use Rattle.step_compiler.specs.ExpressionAndActionInstructions.{code_of, code_act, code_acts, code_branches}
-use Rattle.step_compiler.proofs.AccessBounds.{Sees, Sizes, SeesAct, SeesActs, SeesBranches}
+use Rattle.step_compiler.proofs.BehaviourAccessBounds.{Sees, Sizes, SeesAct, SeesActs, SeesBranches}
 use Rattle.step_compiler.proofs.PlacedCodeLengths.{HasAt, has_front, has_back, code-length, act-length, acts-length}
 use Rattle.step_compiler.proofs.PlacedCodeLengths.{branches-length}
 use Rattle.step_compiler.proofs.LoopsClosedWithinParts.{Outer, Closed, jump_stays, closed_both, one_closed, none_closed}

@@ -15,7 +15,7 @@ use Rattle.step_code.specs.proof.StackHeights.{takes, after, Member, back_of, al
 use Rattle.step_code.specs.proof.VerifierRules.{stays, lacks_loop, misses_slot}
 use Rattle.step_code.specs.CodeLengths.{operand_length, length_of, length_rest}
 use Rattle.step_compiler.specs.ExpressionAndActionInstructions.{operator, operand_code, code_of, code_rest}
-use Rattle.step_compiler.proofs.AccessBounds.{Sees, SeesAll}
+use Rattle.step_compiler.proofs.BehaviourAccessBounds.{Sees, SeesAll}
 use Rattle.step_compiler.proofs.PlacedCodeLengths.{HasAt, has_front, has_back, code-length, operand-length}
 use Rattle.step_compiler.proofs.StackHeights.{next_height, height, height_next, height_at, Right, operand_height}
 use Rattle.step_compiler.proofs.StackHeights.{expr_height}

@@ -35,8 +35,8 @@ use Rattle.step_compiler.specs.BlockInstructions.{trigger_code, last_instr, fals
 use Rattle.step_compiler.specs.BlockInstructions.{start_of, blocks_code, dispatch_offset, entry_of}
 use Rattle.step_compiler.specs.proof.BlockLengthsAndStarts.{order_length, in_list}
 use Rattle.step_compiler.specs.proof.CompiledCode.{block_starts, compiled}
-use Rattle.step_compiler.proofs.AccessBounds.{SeesTrigger}
-use Rattle.step_compiler.proofs.SoundAccesses.{acts_seen, trigger_seen}
+use Rattle.step_compiler.proofs.BehaviourAccessBounds.{SeesTrigger}
+use Rattle.step_compiler.proofs.SoundBehaviourAccesses.{acts_seen, trigger_seen}
 use Rattle.step_compiler.proofs.PlacedCodeLengths.{HasAt, has_front, has_back, code-length, acts-length, trigger-length}
 use Rattle.step_compiler.proofs.PlacedCodeLengths.{edge-length, blocks-length}
 use Rattle.step_compiler.proofs.TransitionRules.{edge_has}

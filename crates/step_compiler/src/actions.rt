@@ -8,14 +8,14 @@ ghost use Rattle.step_compiler.specs.proof.AppendedCode.{Adds};
 use crate::checked_numbers::{next_depth, place_behind};
 use crate::code_lengths::{acts_length, branches_length, expr_length};
 use crate::expressions::push_expr;
-use pals_base::{Act, Branch, Items, NoMemory};
+use pals_base::{Act, Branch, ItemList, NoMemory};
 use step_code::Instr;
 
 /// Adds the instructions of actions, where `variables` variables are in sight, those of the loops
 /// round the place among them. It recurs as deep as the tree is, and counts each part again at each
 /// level above it.
 #[cycle(push_act)]
-pub fn push_acts(code: &mut Items<Instr>, acts: &[Act], variables: u32) -> Result<(), NoMemory>
+pub fn push_acts(code: &mut ItemList<Instr>, acts: &[Act], variables: u32) -> Result<(), NoMemory>
     ensures { OnOk result (Adds code.old code.new (code_acts (actions_along acts.now) variables)) }
 {
     for act in acts {
@@ -25,7 +25,7 @@ pub fn push_acts(code: &mut Items<Instr>, acts: &[Act], variables: u32) -> Resul
 }
 
 #[cycle(push_act)]
-fn push_act(code: &mut Items<Instr>, act: &Act, variables: u32) -> Result<(), NoMemory>
+fn push_act(code: &mut ItemList<Instr>, act: &Act, variables: u32) -> Result<(), NoMemory>
     ensures { OnOk result (Adds code.old code.new (code_act (action_of act.now) variables)) }
 {
     match act {
@@ -53,7 +53,7 @@ fn push_act(code: &mut Items<Instr>, act: &Act, variables: u32) -> Result<(), No
 // The body between the two ends of a loop.
 #[cycle(push_act)]
 fn push_for(
-    code: &mut Items<Instr>,
+    code: &mut ItemList<Instr>,
     low: i64,
     high: i64,
     body: &[Act],
@@ -77,7 +77,7 @@ fn push_for(
 // The branches of an `if`, each of which jumps to the end of all.
 #[cycle(push_act)]
 fn push_branches(
-    code: &mut Items<Instr>,
+    code: &mut ItemList<Instr>,
     branches: &[Branch],
     variables: u32,
     end: u32,
@@ -93,7 +93,7 @@ fn push_branches(
 // One branch: where its guard is not true, it jumps to the next one.
 #[cycle(push_act)]
 fn push_branch(
-    code: &mut Items<Instr>,
+    code: &mut ItemList<Instr>,
     branch: &Branch,
     variables: u32,
     end: u32,

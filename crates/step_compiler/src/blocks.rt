@@ -13,7 +13,7 @@ use crate::checked_numbers::place_behind;
 use crate::code_lengths::transition_length;
 use crate::list_access::item_at;
 use crate::transitions::{is_complete, push_transition};
-use pals_base::{Behaviour, Guard, Items, NoMemory, Transition};
+use pals_base::{Behaviour, Guard, ItemList, NoMemory, Transition};
 use std::alloc::Global;
 use step_code::Instr;
 
@@ -77,10 +77,10 @@ pub fn entries(
     alloc: Global,
     behaviour: &Behaviour,
     starts: &[u32],
-) -> Result<Items<Option<u32>>, NoMemory>
+) -> Result<ItemList<Option<u32>>, NoMemory>
     ensures { IfOk result (λ entries. entries ≡ map (entry_of behaviour.now (in_list starts.now)) (states_of behaviour.now)) }
 {
-    let mut entries = Items::new(alloc);
+    let mut entries = ItemList::new(alloc);
     for state in 0..behaviour.states().len() {
         entries.push(entry_of(behaviour, starts, state)?)?;
     }
@@ -117,7 +117,7 @@ fn dispatch_offset(transitions: &[Transition], state: usize) -> u64
 
 /// Adds the blocks of states in order.
 pub fn push_blocks(
-    code: &mut Items<Instr>,
+    code: &mut ItemList<Instr>,
     behaviour: &Behaviour,
     starts: &[u32],
     order: &[usize],
@@ -132,7 +132,7 @@ pub fn push_blocks(
 
 // Adds the block of a state: the transitions that leave it, in the text's order.
 fn push_block(
-    code: &mut Items<Instr>,
+    code: &mut ItemList<Instr>,
     behaviour: &Behaviour,
     starts: &[u32],
     state: usize,
@@ -147,7 +147,7 @@ fn push_block(
 
 // Adds a transition, if it leaves the state.
 fn push_if_leaving(
-    code: &mut Items<Instr>,
+    code: &mut ItemList<Instr>,
     behaviour: &Behaviour,
     starts: &[u32],
     state: usize,

@@ -13,7 +13,7 @@ use crate::code_lengths::transitions_length;
 use crate::compile_fault::CompileFault;
 use crate::loop_depths::transitions_depth;
 use pals_base::limits::INSTRUCTIONS;
-use pals_base::{Behaviour, Items, NoMemory};
+use pals_base::{Behaviour, ItemList, NoMemory};
 use std::alloc::Global;
 use step_code::{Code, CodeFault, CodeParts, verify};
 
@@ -56,7 +56,7 @@ fn compiled(alloc: Global, behaviour: &Behaviour) -> Result<CodeParts, NoMemory>
     let parts = behaviour.parts();
     let order = block_order(alloc, behaviour)?;
     let starts = starts(alloc, behaviour, &order)?;
-    let mut instrs = Items::new(alloc);
+    let mut instrs = ItemList::new(alloc);
     push_blocks(&mut instrs, behaviour, &starts, &order)?;
     Ok(CodeParts {
         instrs,

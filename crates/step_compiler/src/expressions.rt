@@ -6,13 +6,13 @@ ghost use Rattle.step_compiler.specs.proof.AppendedCode.{Adds};
 
 use crate::checked_numbers::place_behind;
 use crate::code_lengths::expr_length;
-use pals_base::{Expr, Items, NoMemory, Op, Operand};
+use pals_base::{Expr, ItemList, NoMemory, Op, Operand};
 use step_code::Instr;
 
 /// Adds the instructions that leave the value of an expression on the stack. It recurs as deep as
 /// the tree is, and counts each part again at each level above it.
 #[cycle(push_expr)]
-pub fn push_expr(code: &mut Items<Instr>, expr: &Expr) -> Result<(), NoMemory>
+pub fn push_expr(code: &mut ItemList<Instr>, expr: &Expr) -> Result<(), NoMemory>
     ensures { OnOk result (Adds code.old code.new (code_of (tree_of expr.now))) }
 {
     match expr {
@@ -41,7 +41,7 @@ pub fn push_expr(code: &mut Items<Instr>, expr: &Expr) -> Result<(), NoMemory>
 
 // Those of the later operands of a chain.
 #[cycle(push_expr)]
-fn push_rest(code: &mut Items<Instr>, rest: &[Operand]) -> Result<(), NoMemory>
+fn push_rest(code: &mut ItemList<Instr>, rest: &[Operand]) -> Result<(), NoMemory>
     ensures { OnOk result (Adds code.old code.new (code_rest (operands_along rest.now))) }
 {
     for operand in rest {
@@ -52,7 +52,7 @@ fn push_rest(code: &mut Items<Instr>, rest: &[Operand]) -> Result<(), NoMemory>
 
 // Those of an operator and its right side: `and then` and `or else` jump past it.
 #[cycle(push_expr)]
-fn push_operand(code: &mut Items<Instr>, op: Op, right: &Expr) -> Result<(), NoMemory>
+fn push_operand(code: &mut ItemList<Instr>, op: Op, right: &Expr) -> Result<(), NoMemory>
     ensures { OnOk result (Adds code.old code.new (operand_of op (tree_of right.now))) }
 {
     match op {
@@ -67,7 +67,7 @@ fn push_operand(code: &mut Items<Instr>, op: Op, right: &Expr) -> Result<(), NoM
 
 // The value of the right side where the left one is true, else 0.
 #[cycle(push_expr)]
-fn push_and_then(code: &mut Items<Instr>, right: &Expr) -> Result<(), NoMemory>
+fn push_and_then(code: &mut ItemList<Instr>, right: &Expr) -> Result<(), NoMemory>
     ensures { OnOk result (Adds code.old code.new (operand_of Op.AndThen (tree_of right.now))) }
 {
     let length = expr_length(right);
@@ -81,7 +81,7 @@ fn push_and_then(code: &mut Items<Instr>, right: &Expr) -> Result<(), NoMemory>
 
 // 1 where the left side is true, else the value of the right one.
 #[cycle(push_expr)]
-fn push_or_else(code: &mut Items<Instr>, right: &Expr) -> Result<(), NoMemory>
+fn push_or_else(code: &mut ItemList<Instr>, right: &Expr) -> Result<(), NoMemory>
     ensures { OnOk result (Adds code.old code.new (operand_of Op.OrElse (tree_of right.now))) }
 {
     let other = place_behind(code.len(), 3)?;

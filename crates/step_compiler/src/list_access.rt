@@ -1,4 +1,4 @@
-//! Items of lists at places that may be past their end.
+//! ItemList of lists at places that may be past their end.
 ghost use Rattle.std.specs.Prelude.{◌≡◌, slice_index_or, slice_set, true};
 
 /// The item at a place of a list, or another one past its end.

@@ -12,7 +12,7 @@ use crate::checked_numbers::{count, place_behind};
 use crate::code_lengths::transition_length;
 use crate::expressions::push_expr;
 use crate::list_access::item_at;
-use pals_base::{Behaviour, Guard, Items, NoMemory, StateDecl, Transition};
+use pals_base::{Behaviour, Guard, ItemList, NoMemory, StateDecl, Transition};
 use step_code::Instr;
 
 /// Whether a step ends in a state. A number of no state is such an end.
@@ -28,7 +28,7 @@ pub fn is_complete(states: &[StateDecl], state: usize) -> bool
 /// Adds the instructions of a transition: its guard, its actions, and the end of the step, or a jump
 /// to the block of the state that it goes to.
 pub fn push_transition(
-    code: &mut Items<Instr>,
+    code: &mut ItemList<Instr>,
     behaviour: &Behaviour,
     starts: &[u32],
     transition: &Transition,
@@ -58,7 +58,7 @@ fn false_guard_target(
 
 // A guard, and the jump to a place where it is not true.
 fn push_guard(
-    code: &mut Items<Instr>,
+    code: &mut ItemList<Instr>,
     guard: &Guard,
     false_guard_target: u32,
 ) -> Result<(), NoMemory>

@@ -12,7 +12,7 @@ ghost use Rattle.step_vm.specs.proof.RoomCapacity.{IsRoomOf};
 use crate::instruction_effects::{CodeInputs, Continuation, advance};
 use crate::room::Room;
 use crate::stack::Stack;
-use pals_base::{Frame, Items, PortValue, Trap};
+use pals_base::{Frame, ItemList, PortValue, Trap};
 use step_code::{Code, CodeParts};
 
 /// How a run comes to its end: in a state, or by a trap.
@@ -155,7 +155,7 @@ fn run_from(
 }
 
 // Holds each present input.
-fn hold(held: &mut Items<i64>, inputs: &[PortValue])
+fn hold(held: &mut ItemList<i64>, inputs: &[PortValue])
     requires { length inputs.now ≡ length held.old }
     ensures { held.new ≡ holding held.old inputs.now }
 {
@@ -184,7 +184,7 @@ fn begin(slots: &mut [i64], vars: &[i64])
 }
 
 // The variables at the end: the first slots.
-fn keep(vars: &mut Items<i64>, slots: &[i64])
+fn keep(vars: &mut ItemList<i64>, slots: &[i64])
     requires { length vars.old ≤ length slots.now }
     ensures { vars.new ≡ take (length vars.old) slots.now }
 {

@@ -13,7 +13,7 @@ use Rattle.pals_model.specs.declared.environment.Env.{Env}
 use Rattle.pals_model.specs.ComponentInputs.{feed_names, root_inputs}
 use Rattle.pals_model.specs.DesignRules.{IsDesign, IsLink, IsFeed}
 use Rattle.pals_model.proofs.FirstMatches.{at_element}
-use Rattle.pals_model.proofs.RootInputFeedLaws.{root_inputs_are_feeds}
+use Rattle.pals_model.proofs.RootInputsAndFeeds.{root_inputs_are_feeds}
 use Rattle.pals_model.proofs.ShapeLaws.{component_at}
 use Rattle.sync_product.specs.proof.RenumberedDesigns.{renumbered_link, renumbered_feed, values_of, IsRenumbered}
 use Rattle.sync_product.specs.proof.RenumberedDesigns.{AreSameInputs}

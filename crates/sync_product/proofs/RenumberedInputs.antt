@@ -18,7 +18,7 @@ use Rattle.pals_model.specs.ComponentInputs.{feed_goes_to, source_of, read_link,
 use Rattle.pals_model.specs.DesignRules.{IsDesign, IsLink, IsFeed}
 use Rattle.pals_model.proofs.FirstMatches.{at_element}
 use Rattle.pals_model.proofs.SourceLaws.{link_is_source, feed_is_source, nothing_is_source}
-use Rattle.pals_model.proofs.RootInputFeedLaws.{root_inputs_are_feeds}
+use Rattle.pals_model.proofs.RootInputsAndFeeds.{root_inputs_are_feeds}
 use Rattle.sync_product.specs.proof.RenumberedDesigns.{renumbered_link, renumbered_feed, IsRenumbered, values_of}
 use Rattle.sync_product.specs.proof.RenumberedDesigns.{AreSameInputs}
 use Rattle.sync_product.proofs.PassingElements.{Passes, some_or_none}

@@ -12,7 +12,7 @@ use crate::tuple_columns::write_port_tuple;
 use crate::wiring::WiredComponent;
 use behaviour_sem::fire_into;
 use pals_base::tuples::absent;
-use pals_base::{Behaviour, Frame, Items, NoMemory, PortValue, Tuple};
+use pals_base::{Behaviour, Frame, ItemList, NoMemory, PortValue, Tuple};
 use pals_model::{Component, Part};
 use std::alloc::Global;
 use std::mem::swap;
@@ -25,7 +25,7 @@ pub struct Stage {
     pub inputs: Tuple,
     pub outs: Vec<PortValue>,
     pub before: Frame,
-    pub rows: Items<Tuple>,
+    pub rows: ItemList<Tuple>,
     pub sent: usize,
 }
 
@@ -48,7 +48,7 @@ impl Stage {
         ensures { IfOk result (λ stage. stage_size stage ≡ stage_size_of sent component.now) }
     {
         let outs = component.behaviour.outs().len();
-        let mut rows = Items::new(alloc);
+        let mut rows = ItemList::new(alloc);
         for _step in 0..component.rate {
             rows.push(absent(alloc, outs)?)?;
         }
@@ -148,7 +148,7 @@ impl Stage {
 }
 
 /// Writes what the root out ports show of these rows.
-pub fn write_taps(outs: &mut Items<Tuple>, rows: &[Tuple], taps: &[u32])
+pub fn write_taps(outs: &mut ItemList<Tuple>, rows: &[Tuple], taps: &[u32])
     requires { map (λ tuple. length tuple) outs.old ≡ map (λ _. length rows.now) taps.now }
     ensures after { outs.new ≡ map (λ port. column port rows.now) taps.now }
     ensures sizes { map (λ tuple. length tuple) outs.new ≡ map (λ tuple. length tuple) outs.old }

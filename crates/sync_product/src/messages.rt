@@ -6,11 +6,11 @@ ghost use Rattle.sync_product.specs.proof.Rounds.{sent_by};
 
 use crate::component_stage::Stage;
 use crate::tuple_columns::write_port_tuple;
-use pals_base::{Items, Tuple};
+use pals_base::{ItemList, Tuple};
 use pals_model::Design;
 
 /// Writes the message of each link, from the rows of its source.
-pub fn send_all(design: &Design, stages: &[Stage], messages: &mut Items<Tuple>)
+pub fn send_all(design: &Design, stages: &[Stage], messages: &mut ItemList<Tuple>)
     requires stages { map stage_size stages.now ≡ stage_sizes design.now }
     requires messages { map (λ tuple. length tuple) messages.old ≡ message_sizes design.now }
     ensures sent { messages.new ≡ map (sent_by stages.now) design.now.links }

@@ -8,7 +8,7 @@ ghost use Rattle.sync_product.specs.proof.ComponentWiring.{all_taps};
 
 use crate::component_stage::Stage;
 use pals_base::tuples::absent;
-use pals_base::{Frame, Items, NoMemory, Tuple};
+use pals_base::{Frame, ItemList, NoMemory, Tuple};
 use pals_model::{Design, Part};
 use std::alloc::Global;
 
@@ -27,10 +27,10 @@ pub fn stages(alloc: Global, design: &Design) -> Result<Vec<Stage>, NoMemory>
 }
 
 /// An absent message on each link.
-pub fn opening_messages(alloc: Global, design: &Design) -> Result<Items<Tuple>, NoMemory>
+pub fn opening_messages(alloc: Global, design: &Design) -> Result<ItemList<Tuple>, NoMemory>
     ensures { IfOk result (λ messages. messages ≡ map (λ link. replicate (rate_of design.now link.source.0) Absent) design.now.links) }
 {
-    let mut messages = Items::new(alloc);
+    let mut messages = ItemList::new(alloc);
     for link in design.links() {
         let rate = design.parts().rate(link.source);
         messages.push(absent(alloc, rate as usize)?)?;
@@ -39,10 +39,10 @@ pub fn opening_messages(alloc: Global, design: &Design) -> Result<Items<Tuple>, 
 }
 
 // An absent tuple for each of these ports.
-fn absent_each(alloc: Global, ports: &[u32], rate: u32) -> Result<Items<Tuple>, NoMemory>
+fn absent_each(alloc: Global, ports: &[u32], rate: u32) -> Result<ItemList<Tuple>, NoMemory>
     ensures { IfOk result (λ tuples. tuples ≡ map (λ _. replicate rate Absent) ports.now) }
 {
-    let mut tuples = Items::new(alloc);
+    let mut tuples = ItemList::new(alloc);
     for _port in ports {
         tuples.push(absent(alloc, rate as usize)?)?;
     }
@@ -53,12 +53,12 @@ fn absent_each(alloc: Global, ports: &[u32], rate: u32) -> Result<Items<Tuple>, 
 pub fn opening_parts(
     alloc: Global,
     design: &Design,
-    taps: &[Items<u32>],
-) -> Result<Items<Part>, NoMemory>
+    taps: &[ItemList<u32>],
+) -> Result<ItemList<Part>, NoMemory>
     requires { taps.now ≡ all_taps design.now }
     ensures { IfOk result (λ parts. parts ≡ opening_parts design.now) }
 {
-    let mut parts = Items::new(alloc);
+    let mut parts = ItemList::new(alloc);
     for (node, component) in design.components().iter().enumerate() {
         parts.push(Part {
             frame: Frame::initial(alloc, &component.behaviour)?,

@@ -9,7 +9,7 @@ use crate::opening::{opening_messages, opening_parts, stages};
 use crate::round::run_all;
 use crate::round_inputs::RoundInputs;
 use crate::wiring::Wiring;
-use pals_base::{Items, LinkNo, NoMemory, NodeNo, PortValue, Tuple};
+use pals_base::{ItemList, LinkNo, NoMemory, NodeNo, PortValue, Tuple};
 use pals_model::{Design, Part};
 use std::alloc::Global;
 use std::marker::Model;
@@ -23,10 +23,10 @@ pub struct Product {
     design: Arc<Design>,
     wiring: Wiring,
     stages: Vec<Stage>,
-    parts: Items<Part>,
-    messages: Items<Tuple>,
-    next_parts: Items<Part>,
-    next_messages: Items<Tuple>,
+    parts: ItemList<Part>,
+    messages: ItemList<Tuple>,
+    next_parts: ItemList<Part>,
+    next_messages: ItemList<Tuple>,
 }
 
 // By hand, so that a product let go is one call, which the crates above cite.

@@ -7,7 +7,7 @@ ghost use Rattle.sync_product.specs.proof.Rounds.{AreStepped, frames_of};
 use crate::component_stage::Stage;
 use crate::round_inputs::RoundInputs;
 use crate::wiring::Wiring;
-use pals_base::{Items, NoMemory};
+use pals_base::{ItemList, NoMemory};
 use pals_model::Part;
 
 /// Makes the steps of all components, from their frames in the parts of the round before. At Ok the
@@ -17,7 +17,7 @@ pub fn run_all(
     wiring: &Wiring,
     parts: &[Part],
     stages: &mut Vec<Stage>,
-    next: &mut Items<Part>,
+    next: &mut ItemList<Part>,
 ) -> Result<(), NoMemory>
     requires wiring { IsWiring round.design.now wiring.now }
     requires parts { map part_size parts.now ≡ part_sizes round.design.now }

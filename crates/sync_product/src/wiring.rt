@@ -2,7 +2,7 @@
 ghost use Rattle.std.specs.Prelude.{◌<◌, IfOk, length};
 
 use crate::taps::all_taps;
-use pals_base::{Items, NoMemory};
+use pals_base::{ItemList, NoMemory};
 use pals_model::port_sources::all_sources;
 use pals_model::{Component, Design, PortSource};
 use std::alloc::Global;
@@ -18,8 +18,8 @@ pub struct WiredComponent<'a> {
 /// Where the in ports of each component of a design read from, and which of its out ports root out
 /// ports show.
 pub struct Wiring {
-    pub sources: Items<Items<PortSource>>,
-    pub taps: Items<Items<u32>>,
+    pub sources: ItemList<ItemList<PortSource>>,
+    pub taps: ItemList<ItemList<u32>>,
 }
 
 impl Drop for Wiring {

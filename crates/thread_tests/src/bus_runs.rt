@@ -7,7 +7,7 @@ use crate::accepted_design::design_of;
 use design_codes::compile_all;
 use loose_world::add_common_rows;
 use node_threads::{Gate, Host, NodeEnd, RunEnd, Starter, run_threads};
-use pals_base::{Items, Nanos, NoMemory, PortValue};
+use pals_base::{ItemList, Nanos, NoMemory, PortValue};
 use pals_bus::Bus;
 use pals_clock::Clocks;
 use pals_model::{Delays, Design, Env};
@@ -23,17 +23,17 @@ const MILLI: Nanos = 1_000_000;
 fn delays(alloc: Global, design: &Design) -> Result<Delays, NoMemory>
     ensures { IfOk result (AreDelays (length design.now.links)) }
 {
-    let mut lists = Items::new(alloc);
+    let mut lists = ItemList::new(alloc);
     for _link in design.links() {
-        lists.push(Items::from_slice(alloc, &[MILLI])?)?;
+        lists.push(ItemList::from_slice(alloc, &[MILLI])?)?;
     }
     Ok(Delays { lists })
 }
 
 // The one root in port has this value in round 0.
 fn inputs(alloc: Global, value: i64) -> Result<Env, NoMemory> {
-    let mut lists = Items::new(alloc);
-    lists.push(Items::from_slice(alloc, &[PortValue::Present(value)])?)?;
+    let mut lists = ItemList::new(alloc);
+    lists.push(ItemList::from_slice(alloc, &[PortValue::Present(value)])?)?;
     Ok(Env { lists })
 }
 

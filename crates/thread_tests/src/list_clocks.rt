@@ -6,7 +6,7 @@ ghost use Rattle.pals_clock.specs.ClockStates.{AreReadings};
 use crate::bus_runs::{bus_of, tells};
 use case_files::example_designs::TWO_COUNTERS;
 use node_threads::{Host, NoGate, ThreadStarter};
-use pals_base::{Items, Nanos, NoMemory};
+use pals_base::{ItemList, Nanos, NoMemory};
 use pals_clock::{Clocks, ListClock};
 use std::alloc::Global;
 use std::process::Abort;
@@ -16,7 +16,7 @@ use std::thread::Threads;
 
 // A clock that shows all targets of a counter.
 fn whole(alloc: Global) -> Result<ListClock, NoMemory> {
-    let readings = Items::from_slice(
+    let readings = ItemList::from_slice(
         alloc,
         &[
             9_000_000, 10_000_000, 18_000_000, 19_000_000, 27_000_000, 28_000_000,
@@ -26,12 +26,12 @@ fn whole(alloc: Global) -> Result<ListClock, NoMemory> {
 }
 
 fn one_reading(alloc: Global) -> Result<ListClock, NoMemory> {
-    let readings = Items::from_slice(alloc, &[9_000_000])?;
+    let readings = ItemList::from_slice(alloc, &[9_000_000])?;
     Ok(ListClock::new(readings))
 }
 
 fn equal_readings(alloc: Global) -> Result<ListClock, NoMemory> {
-    let readings = Items::from_slice(alloc, &[9_000_000, 9_000_000, 9_000_000, 9_000_000])?;
+    let readings = ItemList::from_slice(alloc, &[9_000_000, 9_000_000, 9_000_000, 9_000_000])?;
     Ok(ListClock::new(readings))
 }
 
@@ -41,11 +41,11 @@ fn many_readings(alloc: Global) -> Result<ListClock, NoMemory> {
     Ok(ListClock::new(readings))
 }
 
-fn steady(alloc: Global) -> Result<Items<Nanos>, NoMemory>
+fn steady(alloc: Global) -> Result<ItemList<Nanos>, NoMemory>
     ensures order { IfOk result IsNonDecreasing }
     ensures range { IfOk result AreReadings }
 {
-    let mut readings = Items::new(alloc);
+    let mut readings = ItemList::new(alloc);
     for number in 0u64..1_000_000 {
         readings.push(number * 30)?;
     }
@@ -60,7 +60,7 @@ fn tells_by<R: Threads + Wait + Sync + Abort>(
     wanted: &str,
 ) -> Result<bool, Fail> {
     let bus = bus_of(rt, alloc, TWO_COUNTERS, false)?;
-    let mut lists = Items::new(alloc);
+    let mut lists = ItemList::new(alloc);
     lists.push(clocks.0)?;
     lists.push(clocks.1)?;
     let host = Host {
@@ -77,8 +77,8 @@ const ENDED_AT_ONCE: &str = "clock ended 9000000\nclock ended 9000000\n";
 fn empty_lists_end_at_once(rt: HostRuntime) -> Result<(), Fail> {
     let alloc = rt.alloc();
     let clocks = (
-        ListClock::new(Items::new(alloc)),
-        ListClock::new(Items::new(alloc)),
+        ListClock::new(ItemList::new(alloc)),
+        ListClock::new(ItemList::new(alloc)),
     );
     assert!(rt; tells_by(&rt, alloc, clocks, ENDED_AT_ONCE)?);
     Ok(())

@@ -3,7 +3,7 @@ use crate::bus_runs::{bus_of, tells};
 use crate::gates::{Meets, Yields};
 use case_files::example_designs::TURN;
 use node_threads::{FakeStarter, Host, NoGate, ThreadStarter};
-use pals_base::{Items, NodeNo};
+use pals_base::{ItemList, NodeNo};
 use pals_clock::Clocks;
 use std::test::Fail;
 
@@ -55,7 +55,7 @@ fn refused_starts_do_not_show(rt: HostRuntime) -> Result<(), Fail> {
     for refused in &REFUSED {
         let host = Host {
             runtime: &rt,
-            starter: &mut FakeStarter::new(Items::from_slice(alloc, refused)?),
+            starter: &mut FakeStarter::new(ItemList::from_slice(alloc, refused)?),
             gate: &NoGate,
         };
         assert!(rt; tells(host, alloc, &bus, Clocks::Meet, TURNED)?);

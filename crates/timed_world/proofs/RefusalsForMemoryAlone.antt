@@ -25,7 +25,7 @@ use Rattle.pals_bus.specs.declared.bus_error.MessageError.{MessageError}
 use Rattle.pals_bus.specs.declared.bus_error.MessageError.TheVariants as message
 use Rattle.pals_bus.specs.BusValues.{BusValue}
 use Rattle.pals_bus.specs.proof.Answers.{BusStartEnds, BusStepEnds, LinkEnds}
-use Rattle.pals_bus.proofs.LooseEvents.{busy_waits_not, no_next_step}
+use Rattle.pals_bus.proofs.LooseStopsAndFaults.{busy_waits_not, no_next_step}
 use Rattle.run_laws.specs.Worlds.{reading_at}
 use Rattle.run_laws.proofs.FaultlessEventConditions.{starts_in_time, steps_in_time, sends_in_time, arrives_in_time}
 use Rattle.run_laws.proofs.WorldNodeTiming.{may_is}

@@ -11,7 +11,7 @@ ghost use Rattle.run_laws.specs.EventFaults.{fault_of};
 ghost use Rattle.timed_world.specs.proof.WorldValuesAndMoves.{Moves, world_of};
 
 use crate::world::World;
-use pals_base::{Items, LinkNo, Nanos, NoMemory, NodeNo};
+use pals_base::{ItemList, LinkNo, Nanos, NoMemory, NodeNo};
 use pals_bus::{BusStartEnd, BusStepEnd, LinkEnd};
 use pals_runs::{Event, EventFault};
 use std::alloc::AllocError;
@@ -140,7 +140,11 @@ impl World {
 }
 
 // Adds a time to those of a node. If there is not enough memory, nothing changes.
-fn add_moment(moments: &mut Items<Items<Nanos>>, at: usize, time: Nanos) -> Result<(), NoMemory>
+fn add_moment(
+    moments: &mut ItemList<ItemList<Nanos>>,
+    at: usize,
+    time: Nanos,
+) -> Result<(), NoMemory>
     requires { at < length moments.old }
     ensures ok { OnOk result (moments.new ≡ slice_set moments.old at (slice_index_or moments.old at [] ++ time ∷ [])) }
     ensures same { OnErr result (moments.new ≡ moments.old) }

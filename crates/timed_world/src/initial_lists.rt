@@ -4,7 +4,7 @@ ghost use Rattle.pals_model.specs.Delays.{AreDelays};
 ghost use Rattle.pals_model.specs.DesignRules.{IsDesign};
 ghost use Rattle.run_laws.specs.Worlds.{zeros};
 
-use pals_base::{Items, Nanos, NoMemory};
+use pals_base::{ItemList, Nanos, NoMemory};
 use pals_model::{Delays, Design};
 use std::alloc::Global;
 
@@ -15,9 +15,9 @@ pub fn least_delays(alloc: Global, design: &Design) -> Result<Delays, NoMemory>
     ensures rules { IsDesign design.now }
 {
     let least = design.gamma().mu_min;
-    let mut lists = Items::new(alloc);
+    let mut lists = ItemList::new(alloc);
     for _link in design.links() {
-        let mut list = Items::new(alloc);
+        let mut list = ItemList::new(alloc);
         list.push(least)?;
         lists.push(list)?;
     }
@@ -25,10 +25,10 @@ pub fn least_delays(alloc: Global, design: &Design) -> Result<Delays, NoMemory>
 }
 
 /// The time 0, for each node.
-pub fn no_times(alloc: Global, design: &Design) -> Result<Items<Nanos>, NoMemory>
+pub fn no_times(alloc: Global, design: &Design) -> Result<ItemList<Nanos>, NoMemory>
     ensures { IfOk result (λ times. times ≡ zeros design.now) }
 {
-    let mut times = Items::new(alloc);
+    let mut times = ItemList::new(alloc);
     for _component in design.components() {
         times.push(0)?;
     }
@@ -36,12 +36,12 @@ pub fn no_times(alloc: Global, design: &Design) -> Result<Items<Nanos>, NoMemory
 }
 
 /// No times, for each node.
-pub fn no_moments(alloc: Global, design: &Design) -> Result<Items<Items<Nanos>>, NoMemory>
+pub fn no_moments(alloc: Global, design: &Design) -> Result<ItemList<ItemList<Nanos>>, NoMemory>
     ensures { IfOk result (λ lists. lists ≡ map (λ _. []) design.now.components) }
 {
-    let mut lists = Items::new(alloc);
+    let mut lists = ItemList::new(alloc);
     for _component in design.components() {
-        lists.push(Items::new(alloc))?;
+        lists.push(ItemList::new(alloc))?;
     }
     Ok(lists)
 }

@@ -14,7 +14,7 @@ ghost use Rattle.timed_world.specs.proof.WorldValuesAndMoves.{opening_value, wor
 use crate::initial_lists::{least_delays, no_moments, no_times};
 use crate::node_standing::NodeStanding;
 use bus_machine::Plan;
-use pals_base::{Items, LinkNo, Nanos, NoMemory, NodeNo};
+use pals_base::{ItemList, LinkNo, Nanos, NoMemory, NodeNo};
 use pals_bus::Bus;
 use pals_model::{Design, Env};
 use std::alloc::Global;
@@ -30,10 +30,10 @@ use step_code::Code;
 pub struct World {
     pub(crate) bus: Bus,
     pub(crate) time: Nanos,
-    pub(crate) readings: Items<Nanos>,
-    pub(crate) since: Items<Nanos>,
-    pub(crate) ready: Items<Nanos>,
-    pub(crate) sent_at: Items<Items<Nanos>>,
+    pub(crate) readings: ItemList<Nanos>,
+    pub(crate) since: ItemList<Nanos>,
+    pub(crate) ready: ItemList<Nanos>,
+    pub(crate) sent_at: ItemList<ItemList<Nanos>>,
 }
 
 impl Model for World {
@@ -56,7 +56,7 @@ impl World {
     pub fn new(
         alloc: Global,
         design: Arc<Design>,
-        codes: Items<Code>,
+        codes: ItemList<Code>,
         env: Env,
         rounds: u32,
     ) -> Result<World, NoMemory>

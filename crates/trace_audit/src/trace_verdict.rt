@@ -15,7 +15,7 @@ use crate::replay::Replay;
 use crate::report::{ReportEnd, read_report};
 use crate::row_text::row_size;
 use crate::told;
-use pals_base::{Items, NoMemory, Text};
+use pals_base::{ItemList, NoMemory, Text};
 use pals_bus::Bus;
 use pals_model::{Delays, Design, Env};
 use pals_runs::{TraceRule, Verdict};
@@ -30,7 +30,7 @@ use step_code::Code;
 pub fn audit(
     alloc: Global,
     design: Arc<Design>,
-    codes: Items<Code>,
+    codes: ItemList<Code>,
     env: Env,
     rounds: u32,
     delays: Delays,
@@ -56,7 +56,7 @@ pub fn audit(
 fn open(
     alloc: Global,
     design: &Arc<Design>,
-    codes: Items<Code>,
+    codes: ItemList<Code>,
     env: Env,
     rounds: u32,
     delays: Delays,

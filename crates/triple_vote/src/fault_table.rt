@@ -3,7 +3,7 @@
 ghost use Rattle.std.specs.Prelude.{◌≡◌, ◌<◌, ◌+◌, ◌*◌, ◌^◌, IfOk, length, replicate, Option};
 ghost use Rattle.triple_vote.specs.proof.FaultTables.{place, is_replica, is_placed, with_fault, AreFirst};
 
-use pals_base::{Items, NoMemory};
+use pals_base::{ItemList, NoMemory};
 use pals_runs::VoteFault;
 use std::alloc::Global;
 
@@ -37,15 +37,15 @@ fn is_placed(fault: &VoteFault, links: usize) -> bool
 }
 
 // No fault at any place on so many links.
-fn no_faults(alloc: Global, links: usize) -> Result<Items<Option<usize>>, NoMemory>
+fn no_faults(alloc: Global, links: usize) -> Result<ItemList<Option<usize>>, NoMemory>
     requires { links < 2 ^ 32 }
     ensures { IfOk result (λ places. places ≡ replicate (links * 9 + 4) Option.None) }
 {
-    Ok(Items::from_vec(vec![in alloc; None; links * 9 + 4]?))
+    Ok(ItemList::from_vec(vec![in alloc; None; links * 9 + 4]?))
 }
 
 // Puts the number of a fault at its place, if it has one on so many links.
-fn put_fault(places: &mut Items<Option<usize>>, links: usize, fault: &VoteFault, number: usize)
+fn put_fault(places: &mut ItemList<Option<usize>>, links: usize, fault: &VoteFault, number: usize)
     requires { length places.old ≡ links * 9 + 4 }
     ensures { places.new ≡ with_fault links places.old fault.now number }
 {
@@ -61,12 +61,12 @@ pub fn first_faults(
     alloc: Global,
     faults: &[VoteFault],
     links: usize,
-) -> Result<Items<Option<usize>>, NoMemory>
+) -> Result<ItemList<Option<usize>>, NoMemory>
     requires { links < 2 ^ 32 }
     ensures { IfOk result (λ places. AreFirst faults.now links places) }
 {
     if faults.is_empty() {
-        return Ok(Items::new(alloc));
+        return Ok(ItemList::new(alloc));
     }
     let mut places = no_faults(alloc, links)?;
     for at in (0..faults.len()).rev() {

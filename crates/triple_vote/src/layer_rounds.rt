@@ -6,7 +6,7 @@ ghost use Rattle.sync_product.specs.proof.Rounds.{frames_of};
 ghost use Rattle.triple_vote.specs.proof.ReplicaLayers.{lengths, frame_sizes, tap_sizes, has_replica, AreRun, AreSent};
 ghost use Rattle.triple_vote.specs.proof.ReplicaLayers.{AreWhole};
 
-use pals_base::{Items, NoMemory, NodeNo, PortValue, Tuple};
+use pals_base::{ItemList, NoMemory, NodeNo, PortValue, Tuple};
 use pals_model::{Design, Part, PortSource};
 use sync_product::component_stage::Stage;
 use sync_product::round_inputs::RoundInputs;
@@ -35,11 +35,11 @@ pub fn tuple_at(tuples: &[Tuple], at: usize) -> &[PortValue]
 /// sizes stay in every case.
 pub fn run_all(
     round: RoundInputs,
-    sources: &[Items<PortSource>],
+    sources: &[ItemList<PortSource>],
     there: &[bool],
     parts: &[Part],
     stages: &mut Vec<Stage>,
-    next: &mut Items<Part>,
+    next: &mut ItemList<Part>,
 ) -> Result<(), NoMemory>
     requires sources { sources.now ≡ all_sources round.design.now }
     requires there { length there.now ≡ length round.design.now.components }
@@ -66,7 +66,7 @@ pub fn run_all(
 }
 
 /// Writes the message of each link whose source is there.
-pub fn send_all(design: &Design, there: &[bool], stages: &[Stage], sent: &mut Items<Tuple>)
+pub fn send_all(design: &Design, there: &[bool], stages: &[Stage], sent: &mut ItemList<Tuple>)
     requires stages { map stage_size stages.now ≡ stage_sizes design.now }
     requires sent { lengths sent.old ≡ message_sizes design.now }
     ensures sent { AreSent design.now there.now stages.now sent.new }
@@ -88,7 +88,7 @@ pub fn send_all(design: &Design, there: &[bool], stages: &[Stage], sent: &mut It
 }
 
 /// Writes the whole tuple of each root out port whose source is there.
-pub fn show_all(design: &Design, there: &[bool], stages: &[Stage], shown: &mut Items<Tuple>)
+pub fn show_all(design: &Design, there: &[bool], stages: &[Stage], shown: &mut ItemList<Tuple>)
     requires stages { map stage_size stages.now ≡ stage_sizes design.now }
     requires shown { lengths shown.old ≡ tap_sizes design.now }
     ensures shown { AreWhole design.now there.now stages.now shown.new }

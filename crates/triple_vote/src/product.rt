@@ -12,7 +12,7 @@ use crate::opening::opening_shown;
 use crate::replica_layer::Layer;
 use crate::tap_tuples::show_each;
 use crate::three_layers::{opening_layers, opening_received, receive_each, run_each, swap_each};
-use pals_base::{Frame, Items, LinkNo, NoMemory, NodeNo, PortValue, Tuple};
+use pals_base::{Frame, ItemList, LinkNo, NoMemory, NodeNo, PortValue, Tuple};
 use pals_model::port_sources::all_sources;
 use pals_model::{Design, PortSource};
 use pals_runs::VoteFault;
@@ -28,12 +28,12 @@ use sync_product::opening::stages;
 pub struct VoteProduct {
     alloc: Global,
     design: Arc<Design>,
-    replicated: Items<bool>,
-    sources: Items<Items<PortSource>>,
+    replicated: ItemList<bool>,
+    sources: ItemList<ItemList<PortSource>>,
     stages: Vec<Stage>,
     layers: Vec<Layer>,
-    received_messages: Vec<Items<Tuple>>,
-    shown: Items<Tuple>,
+    received_messages: Vec<ItemList<Tuple>>,
+    shown: ItemList<Tuple>,
 }
 
 // By hand, so that a product let go is one call, which the crates above cite.
@@ -93,7 +93,7 @@ impl VoteProduct {
         Ok(VoteProduct {
             alloc,
             design,
-            replicated: Items::from_vec(replicated),
+            replicated: ItemList::from_vec(replicated),
             sources,
             stages,
             layers,

@@ -13,7 +13,7 @@ use crate::fault_table::{FaultTable, place};
 use crate::layer_rounds::{has_replica, tuple_at};
 use crate::replica_layer::Layer;
 use crate::votes::vote_into;
-use pals_base::{Items, PortValue, Tuple};
+use pals_base::{ItemList, PortValue, Tuple};
 use pals_model::Design;
 
 // What a replica sends to a reader: the tuple of the first fault at their place, where the table of first
@@ -79,7 +79,7 @@ pub fn receive_all(
     table: FaultTable,
     layers: &[Layer],
     at: usize,
-    received_messages: &mut Items<Tuple>,
+    received_messages: &mut ItemList<Tuple>,
 )
     requires at { at < 3 }
     requires layers { AreThree design.now layers.now }

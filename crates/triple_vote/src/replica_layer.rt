@@ -7,7 +7,7 @@ ghost use Rattle.triple_vote.specs.proof.ReplicaLayers.{HasRoom, IsOpened, Stays
 
 use crate::layer_rounds::{run_all, send_all, show_all};
 use crate::opening::{opening_frames, opening_shown};
-use pals_base::{Items, NoMemory, Tuple};
+use pals_base::{ItemList, NoMemory, Tuple};
 use pals_model::{Design, Part, PortSource};
 use std::alloc::Global;
 use std::mem::swap;
@@ -19,11 +19,11 @@ use sync_product::round_inputs::RoundInputs;
 /// those of the next, and what they make in a round: a message for each link, and the whole tuple for
 /// each root out port. What stands where a component has no such replica means nothing.
 pub struct Layer {
-    pub there: Items<bool>,
-    pub parts: Items<Part>,
-    pub next: Items<Part>,
-    pub sent: Items<Tuple>,
-    pub shown: Items<Tuple>,
+    pub there: ItemList<bool>,
+    pub parts: ItemList<Part>,
+    pub next: ItemList<Part>,
+    pub sent: ItemList<Tuple>,
+    pub shown: ItemList<Tuple>,
 }
 
 // By hand, so that a layer let go is one call.
@@ -41,7 +41,7 @@ impl Drop for Layer {
 
 impl Layer {
     /// The replicas before the first round.
-    pub fn new(alloc: Global, design: &Design, there: Items<bool>) -> Result<Layer, NoMemory>
+    pub fn new(alloc: Global, design: &Design, there: ItemList<bool>) -> Result<Layer, NoMemory>
         ensures { IfOk result (IsOpened design.now there) }
     {
         let parts = opening_frames(alloc, design)?;
@@ -61,7 +61,7 @@ impl Layer {
     pub fn run(
         &mut self,
         round: RoundInputs,
-        sources: &[Items<PortSource>],
+        sources: &[ItemList<PortSource>],
         stages: &mut Vec<Stage>,
     ) -> Result<(), NoMemory>
         requires room { HasRoom round.design.now self.old }

@@ -7,7 +7,7 @@ ghost use Rattle.triple_vote.specs.proof.ThreeLayers.{AreThree, shown_in, tuple_
 use crate::layer_rounds::{has_replica, tuple_at};
 use crate::replica_layer::Layer;
 use crate::votes::vote_into;
-use pals_base::{Items, PortValue, Tuple};
+use pals_base::{ItemList, PortValue, Tuple};
 use pals_model::Design;
 
 // What the replicas of a number made for a root out port, nothing past the end.
@@ -37,7 +37,12 @@ fn show(layers: &[Layer], number: usize, three: bool, to: &mut Tuple)
 }
 
 /// Writes what each root out port shows, from what all replicas made.
-pub fn show_each(design: &Design, replicated: &[bool], layers: &[Layer], shown: &mut Items<Tuple>)
+pub fn show_each(
+    design: &Design,
+    replicated: &[bool],
+    layers: &[Layer],
+    shown: &mut ItemList<Tuple>,
+)
     requires layers { AreThree design.now layers.now }
     requires shown { lengths shown.old ≡ tap_sizes design.now }
     ensures shown { AreShown design.now replicated.now layers.now shown.new }

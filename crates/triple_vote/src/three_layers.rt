@@ -11,7 +11,7 @@ ghost use Rattle.triple_vote.specs.proof.ThreeLayers.{AreSwapped};
 use crate::fault_table::FaultTable;
 use crate::received_messages::receive_all;
 use crate::replica_layer::Layer;
-use pals_base::{Items, NoMemory, PortValue, Tuple};
+use pals_base::{ItemList, NoMemory, PortValue, Tuple};
 use pals_model::{Design, PortSource};
 use std::alloc::Global;
 use sync_product::component_stage::Stage;
@@ -29,16 +29,16 @@ pub fn opening_layers(
     ensures { IfOk result (λ layers. AreOpened design.now replicated.now layers.items) }
 {
     let all = vec![in alloc; true; design.components().len()]?;
-    let first = Layer::new(alloc, design, Items::from_vec(all))?;
-    let marked = Items::from_slice(alloc, replicated)?;
+    let first = Layer::new(alloc, design, ItemList::from_vec(all))?;
+    let marked = ItemList::from_slice(alloc, replicated)?;
     let second = Layer::new(alloc, design, marked)?;
-    let marked = Items::from_slice(alloc, replicated)?;
+    let marked = ItemList::from_slice(alloc, replicated)?;
     let third = Layer::new(alloc, design, marked)?;
     Ok(vec![in alloc; first, second, third]?)
 }
 
 /// An absent message on each link, for three replicas.
-pub fn opening_received(alloc: Global, design: &Design) -> Result<Vec<Items<Tuple>>, NoMemory>
+pub fn opening_received(alloc: Global, design: &Design) -> Result<Vec<ItemList<Tuple>>, NoMemory>
     ensures { IfOk result (λ received_messages. received_messages.items ≡ replicate 3 (opening design.now).messages) }
 {
     let first = opening_messages(alloc, design)?;
@@ -52,8 +52,8 @@ pub fn opening_received(alloc: Global, design: &Design) -> Result<Vec<Items<Tupl
 pub fn run_each(
     design: &Design,
     values: &[PortValue],
-    received_messages: &[Items<Tuple>],
-    sources: &[Items<PortSource>],
+    received_messages: &[ItemList<Tuple>],
+    sources: &[ItemList<PortSource>],
     stages: &mut Vec<Stage>,
     layers: &mut Vec<Layer>,
 ) -> Result<(), NoMemory>
@@ -83,7 +83,7 @@ pub fn receive_each(
     replicated: &[bool],
     table: FaultTable,
     layers: &[Layer],
-    received_messages: &mut Vec<Items<Tuple>>,
+    received_messages: &mut Vec<ItemList<Tuple>>,
 )
     requires layers { AreThree design.now layers.now }
     requires faults { All (IsFault design.now) table.faults.now }

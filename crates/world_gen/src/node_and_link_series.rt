@@ -9,7 +9,7 @@ ghost use Rattle.world_gen.specs.proof.EventSeries.{timetable, next_moment, even
 
 use crate::event_series::{EventKind, EventSeries};
 use pals_base::period_bound_and_releases::step_period;
-use pals_base::{Items, LinkNo, Nanos, NoMemory, NodeNo};
+use pals_base::{ItemList, LinkNo, Nanos, NoMemory, NodeNo};
 use pals_model::Design;
 use pals_runs::Event;
 use std::alloc::Global;
@@ -88,7 +88,7 @@ fn arrive_series(design: &Design, rounds: u32, link: LinkNo) -> EventSeries
 
 #[tactic(auto, using(crate::proofs::TabulatedLists::add_numbered))]
 fn add_begins(
-    all_series: &mut Items<EventSeries>,
+    all_series: &mut ItemList<EventSeries>,
     design: &Design,
     rounds: u32,
 ) -> Result<(), NoMemory>
@@ -103,7 +103,7 @@ fn add_begins(
 
 #[tactic(auto, using(crate::proofs::TabulatedLists::add_numbered))]
 fn add_finishes(
-    all_series: &mut Items<EventSeries>,
+    all_series: &mut ItemList<EventSeries>,
     design: &Design,
     rounds: u32,
 ) -> Result<(), NoMemory>
@@ -118,7 +118,7 @@ fn add_finishes(
 
 #[tactic(auto, using(crate::proofs::TabulatedLists::add_numbered))]
 fn add_sends(
-    all_series: &mut Items<EventSeries>,
+    all_series: &mut ItemList<EventSeries>,
     design: &Design,
     rounds: u32,
 ) -> Result<(), NoMemory>
@@ -132,7 +132,7 @@ fn add_sends(
 
 #[tactic(auto, using(crate::proofs::TabulatedLists::add_numbered))]
 fn add_arrivals(
-    all_series: &mut Items<EventSeries>,
+    all_series: &mut ItemList<EventSeries>,
     design: &Design,
     rounds: u32,
 ) -> Result<(), NoMemory>
@@ -149,11 +149,11 @@ pub fn timetable(
     alloc: Global,
     design: &Design,
     rounds: u32,
-) -> Result<Items<EventSeries>, NoMemory>
+) -> Result<ItemList<EventSeries>, NoMemory>
     requires { rounds ≤ ROUNDS }
     ensures { IfOk result (λ all_series. all_series ≡ timetable design.now rounds) }
 {
-    let mut all_series = Items::new(alloc);
+    let mut all_series = ItemList::new(alloc);
     let is_instant = design.gamma().alpha_min == 0;
     if !is_instant {
         add_finishes(&mut all_series, design, rounds)?;
@@ -192,7 +192,7 @@ pub fn next_moment(all_series: &[EventSeries], from: Nanos) -> Option<Nanos>
 
 /// Adds what the courses do at a moment.
 pub fn add_events(
-    events: &mut Items<Event>,
+    events: &mut ItemList<Event>,
     all_series: &[EventSeries],
     moment: Nanos,
 ) -> Result<(), NoMemory>

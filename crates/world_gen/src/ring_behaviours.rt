@@ -6,7 +6,7 @@ ghost use Rattle.world_gen.specs.Rings.{number_port, ring_variable, ring_state, 
 ghost use Rattle.world_gen.specs.Rings.{ring_actions, ring_edge, ring_behaviour};
 
 use pals_base::{
-    Act, Behaviour, BehaviourParts, Expr, Guard, Items, Kind, NoMemory, Op, Operand, PortDecl,
+    Act, Behaviour, BehaviourParts, Expr, Guard, ItemList, Kind, NoMemory, Op, Operand, PortDecl,
     StateDecl, Text, Transition, VarDecl,
 };
 use std::alloc::Global;
@@ -79,7 +79,7 @@ fn actions(alloc: Global) -> Result<Vec<Act>, NoMemory>
     Ok(vec![in alloc; assign, emit]?)
 }
 
-fn transitions(alloc: Global) -> Result<Items<Transition>, NoMemory>
+fn transitions(alloc: Global) -> Result<ItemList<Transition>, NoMemory>
     ensures { IfOk result (λ transitions. transitions ≡ ring_edge ∷ []) }
 {
     let acts = actions(alloc)?;
@@ -95,7 +95,7 @@ fn transitions(alloc: Global) -> Result<Items<Transition>, NoMemory>
 }
 
 // A port of numbers, alone.
-fn ports(alloc: Global, name: &str) -> Result<Items<PortDecl>, NoMemory>
+fn ports(alloc: Global, name: &str) -> Result<ItemList<PortDecl>, NoMemory>
     ensures { IfOk result (λ ports. ports ≡ number_port name.now ∷ []) }
 {
     let name = Text::from_str(alloc, name)?;
@@ -108,7 +108,7 @@ fn ports(alloc: Global, name: &str) -> Result<Items<PortDecl>, NoMemory>
     )
 }
 
-fn variables(alloc: Global) -> Result<Items<VarDecl>, NoMemory>
+fn variables(alloc: Global) -> Result<ItemList<VarDecl>, NoMemory>
     ensures { IfOk result (λ variables. variables ≡ ring_variable ∷ []) }
 {
     let name = Text::from_str(alloc, "x")?;
@@ -122,7 +122,7 @@ fn variables(alloc: Global) -> Result<Items<VarDecl>, NoMemory>
     )
 }
 
-fn states(alloc: Global) -> Result<Items<StateDecl>, NoMemory>
+fn states(alloc: Global) -> Result<ItemList<StateDecl>, NoMemory>
     ensures { IfOk result (λ states. states ≡ ring_state ∷ []) }
 {
     let name = Text::from_str(alloc, "s")?;
@@ -136,10 +136,10 @@ fn states(alloc: Global) -> Result<Items<StateDecl>, NoMemory>
 }
 
 // A list of one item.
-fn only<T: Drop>(alloc: Global, item: T) -> Result<Items<T>, NoMemory>
+fn only<T: Drop>(alloc: Global, item: T) -> Result<ItemList<T>, NoMemory>
     ensures { IfOk result (λ items. items ≡ item ∷ []) }
 {
-    let mut items = Items::new(alloc);
+    let mut items = ItemList::new(alloc);
     items.push(item)?;
     Ok(items)
 }

@@ -5,7 +5,7 @@ ghost use Rattle.pals_base.specs.declared.limits.TheConstants.{COMPONENTS};
 ghost use Rattle.world_gen.specs.Rings.{ring_rate, ring_adaptor, before_in, ring_path, ring_component, ring_link, ring};
 
 use crate::ring_behaviours::ring_behaviour;
-use pals_base::{Adaptor, Gamma, Items, Nanos, NoMemory, NodeNo, Text};
+use pals_base::{Adaptor, Gamma, ItemList, Nanos, NoMemory, NodeNo, Text};
 use pals_model::{Component, Design, DesignParts, Link};
 use std::alloc::Global;
 
@@ -86,10 +86,10 @@ fn component(alloc: Global, number: u32) -> Result<Component, NoMemory>
 }
 
 #[tactic(auto, using(pals_base::proofs::UpwardNumbers::map_upwards_more))]
-fn components(alloc: Global, n: u32) -> Result<Items<Component>, NoMemory>
+fn components(alloc: Global, n: u32) -> Result<ItemList<Component>, NoMemory>
     ensures { IfOk result (λ components. components ≡ map ring_component (upwards 0 n)) }
 {
-    let mut components = Items::new(alloc);
+    let mut components = ItemList::new(alloc);
     for number in 0..n {
         components.push(component(alloc, number)?)?;
     }
@@ -97,10 +97,10 @@ fn components(alloc: Global, n: u32) -> Result<Items<Component>, NoMemory>
 }
 
 #[tactic(auto, using(pals_base::proofs::UpwardNumbers::map_upwards_more))]
-fn links(alloc: Global, n: u32) -> Result<Items<Link>, NoMemory>
+fn links(alloc: Global, n: u32) -> Result<ItemList<Link>, NoMemory>
     ensures { IfOk result (λ links. links ≡ map (ring_link n) (upwards 0 n)) }
 {
-    let mut links = Items::new(alloc);
+    let mut links = ItemList::new(alloc);
     for number in 0..n {
         links.push(link(n, number))?;
     }
@@ -122,8 +122,8 @@ pub fn ring(alloc: Global, n: u32) -> Result<Design, NoMemory>
         gamma: BOUNDS,
         components,
         links,
-        feeds: Items::new(alloc),
-        taps: Items::new(alloc),
-        ignored: Items::new(alloc),
+        feeds: ItemList::new(alloc),
+        taps: ItemList::new(alloc),
+        ignored: ItemList::new(alloc),
     }))
 }

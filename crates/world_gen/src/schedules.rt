@@ -10,22 +10,22 @@ ghost use Rattle.world_gen.specs.proof.EventSeries.{IsEventSeries, moment_events
 
 use crate::event_series::EventSeries;
 use crate::node_and_link_series::{add_events, next_moment, timetable};
-use pals_base::{Items, Nanos, NoMemory};
+use pals_base::{ItemList, Nanos, NoMemory};
 use pals_model::Design;
 use pals_runs::Event;
 use std::alloc::Global;
 
 // The clocks of all nodes show a time.
-fn readings(alloc: Global, nodes: usize, time: Nanos) -> Result<Items<Nanos>, NoMemory>
+fn readings(alloc: Global, nodes: usize, time: Nanos) -> Result<ItemList<Nanos>, NoMemory>
     ensures { IfOk result (λ readings. readings ≡ replicate nodes time) }
 {
-    Ok(Items::from_vec(vec![in alloc; time; nodes]?))
+    Ok(ItemList::from_vec(vec![in alloc; time; nodes]?))
 }
 
 // Adds a Pass to a moment, and what the courses do at it.
 fn add_moment(
     alloc: Global,
-    events: &mut Items<Event>,
+    events: &mut ItemList<Event>,
     nodes: usize,
     all_series: &[EventSeries],
     moment: Nanos,
@@ -42,7 +42,7 @@ fn add_moment(
 
 /// The schedule of a design for a number of rounds. It is within the bounds, and leaves all nodes
 /// done.
-pub fn schedule(alloc: Global, design: &Design, rounds: u32) -> Result<Items<Event>, NoMemory>
+pub fn schedule(alloc: Global, design: &Design, rounds: u32) -> Result<ItemList<Event>, NoMemory>
     requires some { 1 ≤ rounds }
     requires most { rounds ≤ ROUNDS }
     ensures exact { IfOk result (λ events. IsScheduleOf design.now rounds events) }
@@ -51,7 +51,7 @@ pub fn schedule(alloc: Global, design: &Design, rounds: u32) -> Result<Items<Eve
     let timetable = timetable(alloc, design, rounds)?;
     let all_series = timetable.as_slice();
     let nodes = design.components().len();
-    let mut events = Items::new(alloc);
+    let mut events = ItemList::new(alloc);
     let mut from = 0;
     while let Some(moment) = next_moment(all_series, from) {
         add_moment(alloc, &mut events, nodes, all_series, moment)?;

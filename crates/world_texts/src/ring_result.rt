@@ -10,7 +10,7 @@ ghost use Rattle.world_gen.specs.Rings.{ring, ring_number, ring_sum};
 ghost use Rattle.world_texts.specs.RingResultLines.{ring_text, number_in, IsDoneRing};
 
 use design_codes::{CodesError, compile_all};
-use pals_base::{Items, NoMemory, NodeNo};
+use pals_base::{ItemList, NoMemory, NodeNo};
 use pals_bus::Bus;
 use pals_model::{Design, Env, Part};
 use pals_report::{LineWord, add_line};
@@ -74,7 +74,7 @@ fn done_ring(alloc: Global, nodes: u32, rounds: u32) -> Result<World, NoMemory>
     let codes = codes_of(alloc, &design)?;
     let events = schedule(alloc, &design, rounds)?;
     let env = Env {
-        lists: Items::new(alloc),
+        lists: ItemList::new(alloc),
     };
     let mut world = World::new(alloc, Arc::new(alloc, design)?, codes, env, rounds)?;
     go_through(&mut world, events.as_slice())?;
@@ -82,7 +82,7 @@ fn done_ring(alloc: Global, nodes: u32, rounds: u32) -> Result<World, NoMemory>
 }
 
 // The codes of a ring, which are not too long.
-fn codes_of(alloc: Global, design: &Design) -> Result<Items<Code>, NoMemory>
+fn codes_of(alloc: Global, design: &Design) -> Result<ItemList<Code>, NoMemory>
     requires { (nodes : ℕ) × (design.now ≡ ring nodes) }
     ensures { IfOk result (AreCodes design.now) }
 {

@@ -10,7 +10,7 @@ ghost use Rattle.loose_world.specs.SentLines.{AreOutLinks};
 ghost use Rattle.world_texts.specs.proof.WorldTexts.{IsOpening, TellsEvents, TellsWorld};
 
 use loose_world::{OutLinks, add_finished_rows, add_sent_messages};
-use pals_base::{Items, NoMemory};
+use pals_base::{ItemList, NoMemory};
 use pals_model::{Design, Env};
 use pals_runs::{Event, EventFault};
 use std::alloc::{AllocError, Global};
@@ -33,7 +33,7 @@ pub enum WorldReport {
 pub fn tell_world(
     alloc: Global,
     design: Arc<Design>,
-    codes: Items<Code>,
+    codes: ItemList<Code>,
     env: Env,
     rounds: u32,
     events: &[Event],

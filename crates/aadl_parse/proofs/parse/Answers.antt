@@ -9,7 +9,7 @@ use Rattle.aadl_grammar.specs.proof.ParserAnswers.{here}
 use Rattle.aadl_grammar.specs.proof.TerminalViews.{spots_of}
 use Rattle.aadl_grammar.proofs.TerminalViews.{spots_past, some_left}
 use Rattle.aadl_parse.specs.ParseResults.{IsFaultOfText, of_parse}
-use Rattle.aadl_parse.specs.proof.DeclarationAndPackageParts.{package_of}
+use Rattle.aadl_parse.specs.proof.DeclarationRestsAndPackageParts.{package_of}
 use Rattle.aadl_parse.proofs.ParseResults.{at_fault, left_fault, at_tree, only_one, residual}
 use Rattle.aadl_parse.proofs.parse.Goals as goal
 

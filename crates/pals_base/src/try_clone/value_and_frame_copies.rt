@@ -3,7 +3,7 @@
 use super::TryClone;
 use crate::basic_types::{NoMemory, PortValue};
 use crate::frames::Frame;
-use crate::items::Items;
+use crate::item_list::ItemList;
 use crate::text::Text;
 use std::alloc::Global;
 
@@ -29,8 +29,8 @@ impl TryClone for Frame {
     fn try_clone(&self, alloc: Global) -> Result<Frame, NoMemory> {
         Ok(Frame {
             state: self.state,
-            vars: Items::from_slice(alloc, self.vars.as_slice())?,
-            held: Items::from_slice(alloc, self.held.as_slice())?,
+            vars: ItemList::from_slice(alloc, self.vars.as_slice())?,
+            held: ItemList::from_slice(alloc, self.held.as_slice())?,
             halt: self.halt,
         })
     }

@@ -12,7 +12,7 @@ use Rattle.run_laws.specs.NodeActions.{Follows}
 use Rattle.run_laws.specs.Runs.{clock_at}
 use Rattle.run_laws.specs.proof.RunQuantifiers.{InListRuns}
 use Rattle.run_laws.specs.NodeLinkQuantifiers.{EachNode}
-use Rattle.run_laws.specs.ListPicks.{IsPrefix, picks_of, LinesAre}
+use Rattle.run_laws.specs.PicksAndJournalLines.{IsPrefix, picks_of, LinesAre}
 
 -- ---- of a node
 -- its actions so far were done at its list's picks for them; its clock has picked for these, and at most for the next

@@ -18,7 +18,7 @@ use Rattle.run_laws.specs.ListRunEndsAndStops.{AllAtEnd, PicksAll}
 use Rattle.run_laws.specs.proof.RunTermination.{IsFirstEnded}
 use Rattle.run_laws.specs.Meetings.{AllDone, IsLate}
 use Rattle.run_laws.specs.BoundsBrokenAtStops.{DelaysFit}
-use Rattle.run_laws.specs.ListPicks.{IsPickFor}
+use Rattle.run_laws.specs.PicksAndJournalLines.{IsPickFor}
 use Rattle.run_laws.specs.Runs.{Runs, lists_in}
 use Rattle.bus_machine.specs.declared.node_action.NodeAction.TheVariants as action
 

@@ -2,7 +2,7 @@ use Rattle.std.proofs.Common.{◌∙◌, Some, None, refl, sym, ap}
 use Rattle.std.proofs.lemmas.Option.{slice_get_read, slice_get_past}
 use Rattle.aadl_tree.specs.declared.declarations.Declaration.TheVariants as declarations
 use Rattle.aadl_names.specs.NameResolution.{implementation_in}
-use Rattle.aadl_names.proofs.NumberedDeclarations.{declaration_there}
+use Rattle.aadl_names.proofs.DeclarationsAndMembers.{declaration_there}
 use Rattle.aadl_names.proofs.declarations_by_number.implementation_at.Goals as goal
 
 pub returns-in-Some-Implementation : goal.returns-in-Some-Implementation

@@ -3,7 +3,7 @@ use Rattle.std.specs.Prelude.{slice_get}
 use Rattle.aadl_tree.specs.proof.DeclarationViews.{subcomponent_view}
 use Rattle.aadl_tree.specs.proof.PlaceMaps.{kept_place}
 use Rattle.aadl_names.specs.NameResolution.{subcomponents_of}
-use Rattle.aadl_names.proofs.NumberedDeclarations.{view_lent}
+use Rattle.aadl_names.proofs.DeclarationsAndMembers.{view_lent}
 use Rattle.aadl_names.proofs.declarations_by_number.subcomponent_at.Goals as goal
 
 pub returns-in-Some : goal.returns-in-Some

@@ -3,7 +3,7 @@ use Rattle.std.proofs.lemmas.Option.{slice_get_read, slice_get_past}
 use Rattle.aadl_tree.specs.declared.declarations.Declaration.TheVariants as declarations
 use Rattle.aadl_tree.specs.proof.PackageViews.{placed}
 use Rattle.aadl_names.specs.NameResolution.{type_in, type_numbered}
-use Rattle.aadl_names.proofs.NumberedDeclarations.{declaration_there}
+use Rattle.aadl_names.proofs.DeclarationsAndMembers.{declaration_there}
 use Rattle.aadl_names.proofs.declarations_by_number.type_numbered.Goals as goal
 
 pub returns-in-Some-Type : goal.returns-in-Some-Type

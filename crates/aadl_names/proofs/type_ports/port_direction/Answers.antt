@@ -4,7 +4,7 @@ use Rattle.aadl_tree.specs.Declarations.{Feature}
 use Rattle.aadl_tree.specs.proof.DeclarationViews.{feature_view}
 use Rattle.aadl_tree.specs.proof.PlaceMaps.{kept_place}
 use Rattle.aadl_names.specs.NameResolution.{features_of, direction_in}
-use Rattle.aadl_names.proofs.NumberedDeclarations.{view_lent}
+use Rattle.aadl_names.proofs.DeclarationsAndMembers.{view_lent}
 use Rattle.aadl_names.proofs.type_ports.port_direction.Goals as goal
 
 pub returns : goal.returns

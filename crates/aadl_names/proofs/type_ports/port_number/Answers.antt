@@ -4,7 +4,7 @@ use Rattle.aadl_tree.specs.proof.DeclarationViews.{type_view}
 use Rattle.aadl_tree.specs.proof.PlaceMaps.{kept_place}
 use Rattle.aadl_names.specs.NameResolution.{port_named, features_of, type_numbered}
 use Rattle.aadl_names.proofs.MemberNumbers.{ok_as}
-use Rattle.aadl_names.proofs.NumberedDeclarations.{members_there}
+use Rattle.aadl_names.proofs.DeclarationsAndMembers.{members_there}
 use Rattle.aadl_names.proofs.type_ports.port_number.Goals as goal
 
 pub returns-in-Some-type_numbered : goal.returns-in-Some-type_numbered

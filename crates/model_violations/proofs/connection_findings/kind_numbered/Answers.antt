@@ -4,7 +4,7 @@ use Rattle.aadl_tree.specs.Declarations.{Feature}
 use Rattle.aadl_tree.specs.proof.PlaceMaps.{kept_place}
 use Rattle.aadl_tree.specs.proof.DeclarationViews.{feature_view}
 use Rattle.aadl_names.specs.NameResolution.{features_of}
-use Rattle.aadl_names.proofs.NumberedDeclarations.{view_lent}
+use Rattle.aadl_names.proofs.DeclarationsAndMembers.{view_lent}
 use Rattle.annex_resolve.specs.ExpressionTypesAndFindings.{kind_in}
 use Rattle.model_violations.specs.ConnectionFindings.{kind_numbered}
 use Rattle.model_violations.proofs.connection_findings.kind_numbered.Goals as goal

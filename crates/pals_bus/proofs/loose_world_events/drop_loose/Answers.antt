@@ -2,7 +2,7 @@ use Rattle.std.proofs.Common.{refl, sym, subst}
 use Rattle.pals_runs.specs.declared.events_and_faults.Event.TheVariants as event
 use Rattle.bus_machine.specs.Machine.{Drop}
 use Rattle.pals_bus.specs.proof.LooseStopsAndFaults.{LooseEnds}
-use Rattle.pals_bus.proofs.LooseEvents.{link_ends}
+use Rattle.pals_bus.proofs.LooseStopsAndFaults.{link_ends}
 use Rattle.pals_bus.proofs.loose_world_events.drop_loose.Goals as goal
 
 pub returns-in-Err-clause-end : goal.returns-in-Err-clause-end

@@ -1,7 +1,7 @@
 use Rattle.std.proofs.Common.{sym, subst}
 use Rattle.pals_runs.specs.declared.events_and_faults.Event.TheVariants as event
 use Rattle.pals_bus.specs.proof.LooseStopsAndFaults.{LooseEnds}
-use Rattle.pals_bus.proofs.LooseEvents.{finish_ends}
+use Rattle.pals_bus.proofs.LooseStopsAndFaults.{finish_ends}
 use Rattle.pals_bus.proofs.loose_world_events.finish_loose.Goals as goal
 
 pub returns-in-Err-clause-end : goal.returns-in-Err-clause-end

@@ -1,4 +1,4 @@
-use Rattle.pals_model.proofs.RootInputFeedLaws.{root_inputs_differ, root_inputs_are_feeds, root_inputs_in_order}
+use Rattle.pals_model.proofs.RootInputsAndFeeds.{root_inputs_differ, root_inputs_are_feeds, root_inputs_in_order}
 use Rattle.pals_model.proofs.laws.root_inputs_and_feeds.root_inputs_are_feeds.Goals as goal
 
 pub returns : goal.returns

@@ -1,4 +1,5 @@
--- The ends of a run that its answers tell. In time there is one, and it is no stop.
+-- A run's answers tell one end: two ends are equal, and no run both has all its rounds and ends. In time no end is a
+-- stop.
 use Rattle.std.proofs.Common.{◌≡◌, ◌∙◌, ◌⊎◌, inl, inr, ℕ, ◌<◌, Bool, true, false, List, length, ◌++◌, Some, None, sym}
 use Rattle.std.proofs.Common.{ap, arith}
 use Rattle.std.proofs.lemmas.Bool.{cases_lt}

@@ -19,7 +19,7 @@ use Rattle.pals_base.specs.TypingRules.{allows, port_kinds, declared_or, operato
 use Rattle.pals_base.specs.TypingRules.{suits_port, turns, is_short, is_sound, are_sound, branches_are_sound}
 use Rattle.pals_base.specs.BehaviourRules.{has_condition}
 use Rattle.step_compiler.specs.LoopDepths.{depth_act, depth_acts, depth_branches}
-use Rattle.step_compiler.proofs.AccessBounds.{Sees, SeesAll, Sizes, SeesAct, SeesActs, SeesBranches, SeesTrigger}
+use Rattle.step_compiler.proofs.BehaviourAccessBounds.{Sees, SeesAll, Sizes, SeesAct, SeesActs, SeesBranches, SeesTrigger}
 
 -- a value has some type
 abbrev pub Typed : Kinds → Type 0

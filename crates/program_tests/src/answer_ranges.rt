@@ -1,21 +1,21 @@
-//! The answers to a series of cases, those that follow one another with one status and first line grouped in one
-//! line.
+//! The answers to a numbered series of cases, in one line for each range of numbers that follow one another with one
+//! status and first line.
 use crate::program_answer::ProgramAnswer;
 use std::alloc::Global;
 use std::io;
 
 /// The lines so far, and the one that may still grow: its first and its last number, and what it says.
 #[derive(Drop)]
-pub struct Runs {
+pub struct AnswerRanges {
     text: String,
     first: u64,
     last: u64,
     says: String,
 }
 
-impl Runs {
-    pub fn new(alloc: Global) -> Runs {
-        Runs {
+impl AnswerRanges {
+    pub fn new(alloc: Global) -> AnswerRanges {
+        AnswerRanges {
             text: String::new(alloc),
             first: 0,
             last: 0,

@@ -1,5 +1,5 @@
--- Lemmas on what holds of all elements and of all pairs of a list: of its images, of its parts, and of the two
--- halves that a test makes.
+-- Lemmas on what holds of all elements and of each two elements of a list: of its images, of its parts, and of the
+-- two halves that a test makes.
 use Rattle.std.proofs.Common.{◌≡◌, ◌∙◌, ℕ, zero, suc, ◌+◌, ◌<◌, Bool, true, false, not, cond, List, [], ◌∷◌, ◌++◌, map}
 use Rattle.std.proofs.Common.{Option, Some, refl, sym, ap, subst, arith}
 use Rattle.std.specs.Prelude.{filter, slice_get, find}

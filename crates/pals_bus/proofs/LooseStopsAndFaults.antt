@@ -1,4 +1,5 @@
--- For the functions of `loose_world_events`: what an event without a reading leaves, and why one is refused.
+-- Why an event without a reading is refused or stops the bus, and that no stop stands after one that happens: for
+-- `loose_world_events`.
 use Rattle.std.proofs.Common.{◌≡◌, ◌≢◌, ◌∙◌, inl, inr, ℕ, true, false, Option, Some, None, refl, ap}
 use Rattle.std.specs.Prelude.{is_some}
 use Rattle.std.proofs.lemmas.Bool.{false≢true}

@@ -4,21 +4,21 @@ ghost use Rattle.std.specs.Prelude.{slice_index_or, option_copied, ◌==◌};
 ghost use Rattle.std.specs.Slice.Iter.{iter_rest};
 ghost use Rattle.std.specs.Iterator.Adapters.{IterYieldsInOrder};
 ghost use Rattle.std.specs.Borrow.{sem, Lends};
-ghost use Rattle.pals_base.specs.contracts.items.Items.{the_row};
+ghost use Rattle.pals_base.specs.contracts.item_list.ItemList.{the_row};
 
 use std::alloc::{AllocError, Global};
 use std::marker::Model;
 use std::ops::{Index, IndexMut};
 use std::slice::Iter;
 
-/// Items in order. Contracts see the list of them, so two are equal exactly where they have equal
+/// ItemList in order. Contracts see the list of them, so two are equal exactly where they have equal
 /// items, wherever these lie in memory.
 #[derive(Drop)]
-pub struct Items<T> {
+pub struct ItemList<T> {
     items: Vec<T>,
 }
 
-impl<T> Model for Items<T> {
+impl<T> Model for ItemList<T> {
     ghost use Rattle.std.specs.Prelude.{List};
 
     ghost Value = { List T };
@@ -26,21 +26,21 @@ impl<T> Model for Items<T> {
     ghost view = { λ list. list.items.items };
 }
 
-impl<T> Items<T> {
+impl<T> ItemList<T> {
     /// An empty list. It takes no memory.
-    pub fn new(alloc: Global) -> Items<T>
+    pub fn new(alloc: Global) -> ItemList<T>
         ensures { result ≡ [] }
     {
-        Items {
+        ItemList {
             items: Vec::new(alloc),
         }
     }
 
     /// The items of a vector.
-    pub fn from_vec(items: Vec<T>) -> Items<T>
+    pub fn from_vec(items: Vec<T>) -> ItemList<T>
         ensures { result ≡ items.items }
     {
-        Items { items }
+        ItemList { items }
     }
 
     /// The items as a vector.
@@ -88,7 +88,7 @@ impl<T> Items<T> {
     }
 }
 
-impl<T: Drop> Items<T> {
+impl<T: Drop> ItemList<T> {
     /// Adds an item at the end. If there is not enough memory, nothing changes.
     pub fn push(&mut self, item: T) -> Result<(), AllocError>
         ensures ok { OnOk result (self.new ≡ self.old ++ item ∷ []) }
@@ -107,12 +107,12 @@ impl<T: Drop> Items<T> {
     }
 }
 
-impl<T: Copy> Items<T> {
+impl<T: Copy> ItemList<T> {
     /// The items of a slice.
-    pub fn from_slice(alloc: Global, items: &[T]) -> Result<Items<T>, AllocError>
+    pub fn from_slice(alloc: Global, items: &[T]) -> Result<ItemList<T>, AllocError>
         ensures { IfOk result (λ list. list ≡ items.now) }
     {
-        Ok(Items {
+        Ok(ItemList {
             items: Vec::from_slice(alloc, items)?,
         })
     }
@@ -126,7 +126,7 @@ impl<T: Copy> Items<T> {
     }
 }
 
-impl<T> Index<usize> for Items<T> {
+impl<T> Index<usize> for ItemList<T> {
     type Output = T;
 
     ghost can_index = { λ list at. at < length list };
@@ -141,7 +141,7 @@ impl<T> Index<usize> for Items<T> {
     }
 }
 
-impl<T> IndexMut<usize> for Items<T> {
+impl<T> IndexMut<usize> for ItemList<T> {
     fn index_mut(&mut self, at: usize) -> &mut T
         requires { at < length self.old }
         ensures* writes_back { sem 𝓛 (Lends (the_row T.row) T.row self.entry result (λ item. slice_set self.entry.now at item)) }

@@ -1,4 +1,4 @@
--- Why the laws of root in ports hold.
+-- Which root in ports a design has: the names of its feeds, each once and in order, of the kind of what each feeds.
 use Rattle.std.proofs.Common.{◌≡◌, ℕ, zero, suc, ◌+◌, ◌<◌, ◌≤◌, Bool, true, false, not, ◌||◌, cond, List, [], ◌∷◌, ◌++◌}
 use Rattle.std.proofs.Common.{length, get_or, slice_get, slice_index_or, Some, None, All, AllPairs, if◌then◌else◌, inl}
 use Rattle.std.proofs.Common.{inr, refl, sym, ap, ◌∙◌, subst, arith, append_assoc, ne_of_lt}

@@ -1,4 +1,5 @@
--- The code's declaration, subcomponent or port of a number is the one that has this number in the package.
+-- The code's declaration, subcomponent or port of a number is the one that has this number in the package, and its
+-- port of a name is the port of that name.
 use denote.Ref.{Bor}
 use Rattle.std.proofs.Common.{◌≡◌, ◌∙◌, ℕ, List, Option, Some, None, refl, sym, ap, map}
 use Rattle.std.specs.Prelude.{slice_get, option_map, option_copied}
