@@ -91,8 +91,10 @@ pub fn trace_back(
     requires declared { ArePermitted (placed wires.now.uses.names.tree.now) }
     requires one { OneEach (placed wires.now.uses.names.tree.now) root }
     requires no_thread { is_thread_at (placed wires.now.uses.names.tree.now) root ≡ false }
-    requires thread { IsThreadPort (placed wires.now.uses.names.tree.now) root (record { path = reverse path.now; port = port }) }
-    ensures { IfOk result (Traces (placed wires.now.uses.names.tree.now) root (record { path = reverse path.now; port = port })) }
+    requires thread { IsThreadPort (placed wires.now.uses.names.tree.now) root
+        (record { path = reverse path.now; port = port }) }
+    ensures { IfOk result (Traces (placed wires.now.uses.names.tree.now) root
+        (record { path = reverse path.now; port = port })) }
 {
     match climb(wires, root, path, port) {
         WalkResult::Nowhere => Ok(None),
@@ -167,7 +169,8 @@ fn route_from(
 
 // Walks up from a port of the component at a path.
 fn climb(wires: &PackageConnections<'_>, root: usize, path: &[usize], port: usize) -> WalkResult
-    ensures { spec.climbed path.now result ≡ walks.walk_back (placed wires.now.uses.names.tree.now) root None (reverse path.now) port }
+    ensures { spec.climbed path.now result ≡ walks.walk_back (placed wires.now.uses.names.tree.now) root None
+        (reverse path.now) port }
 {
     let mut depth = path.len();
     let mut here = port;
@@ -207,7 +210,8 @@ fn entry_at(
 ) -> Option<ConnectionInto>
     requires { depth < length path.now }
     ensures { result ≡ spec.entry (placed wires.now.uses.names.tree.now)
-        (uses.number_at_path (placed wires.now.uses.names.tree.now) root (reverse (take depth path.now))) (slice_index path.now depth) port }
+        (uses.number_at_path (placed wires.now.uses.names.tree.now) root (reverse (take depth path.now)))
+        (slice_index path.now depth) port }
 {
     match standing(&wires.uses, root, &path[..depth]) {
         Some(declaration) => entry_into(wires, declaration, path[depth], port),
@@ -256,7 +260,8 @@ fn descend(
     requires out { is_in_at (placed wires.now.uses.names.tree.now) number port ≡ false }
     ensures { IfOk result (λ begin. (root : ℕ) → OneEach (placed wires.now.uses.names.tree.now) root
         → uses.number_at_path (placed wires.now.uses.names.tree.now) root (reverse path.items) ≡ Some number
-        → Descends (placed wires.now.uses.names.tree.now) root (record { path = reverse path.items; port = port }) begin) }
+        → Descends (placed wires.now.uses.names.tree.now) root (record { path = reverse path.items; port = port })
+        begin) }
 {
     let mut way = path;
     let mut here = number;

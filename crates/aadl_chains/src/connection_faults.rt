@@ -54,7 +54,8 @@ fn check_all(
     number: usize,
 ) -> Result<(), AllocError>
     requires { AreChainPorts (placed wires.now.uses.names.tree.now) ways.now }
-    ensures { OnOk result (FindsAll (IsFoundIn (placed wires.now.uses.names.tree.now) ways.now.root number) finder.old finder.new) }
+    ensures { OnOk result (FindsAll (IsFoundIn (placed wires.now.uses.names.tree.now) ways.now.root number) finder.old
+        finder.new) }
 {
     for (at, wire) in wires.wires(number).iter().enumerate() {
         check(finder, wires, ways, number, at, *wire)?;
@@ -73,7 +74,8 @@ fn check(
 ) -> Result<(), AllocError>
     requires ways { AreChainPorts (placed wires.now.uses.names.tree.now) ways.now }
     requires wire { slice_get (connection_ports_at (placed wires.now.uses.names.tree.now) number) at ≡ Some wire }
-    ensures { OnOk result (FindsAll (IsFoundAt (placed wires.now.uses.names.tree.now) ways.now.root number at) finder.old finder.new) }
+    ensures { OnOk result (FindsAll (IsFoundAt (placed wires.now.uses.names.tree.now) ways.now.root number at)
+        finder.old finder.new) }
 {
     match wires.connection(number, at) {
         Some(connection) => {
@@ -92,7 +94,8 @@ fn report(
     is_on_way: bool,
     is_second: bool,
 ) -> Result<(), AllocError>
-    ensures { OnOk result (finder.new ≡ found (found finder.old (dead_end is_on_way (connection_view kept_place connection.now)))
+    ensures { OnOk result (finder.new ≡ found
+        (found finder.old (dead_end is_on_way (connection_view kept_place connection.now)))
         (second is_second (connection_view kept_place connection.now))) }
 {
     report_dead_end(finder, connection, is_on_way)?;
@@ -104,7 +107,8 @@ fn report_dead_end(
     connection: &Connection,
     is_on_way: bool,
 ) -> Result<(), AllocError>
-    ensures { OnOk result (finder.new ≡ found finder.old (dead_end is_on_way (connection_view kept_place connection.now))) }
+    ensures { OnOk result (finder.new ≡ found finder.old
+        (dead_end is_on_way (connection_view kept_place connection.now))) }
 {
     if is_on_way {
         Ok(())
@@ -118,7 +122,8 @@ fn report_second(
     connection: &Connection,
     is_second: bool,
 ) -> Result<(), AllocError>
-    ensures { OnOk result (finder.new ≡ found finder.old (second is_second (connection_view kept_place connection.now))) }
+    ensures { OnOk result (finder.new ≡ found finder.old
+        (second is_second (connection_view kept_place connection.now))) }
 {
     if is_second {
         finder.two_sources(connection.name.spelling.as_str(), connection.name.at)

@@ -52,7 +52,8 @@ impl PortCounts {
     ) -> Result<PortCounts, AllocError>
         requires order { IsOrder (containment (placed wires.now.uses.names.tree.now)) order.now.keys }
         requires declared { ArePermitted (placed wires.now.uses.names.tree.now) }
-        ensures { IfOk result (λ takes. (n : ℕ) → Contains order.now.keys n → AreCounted (placed wires.now.uses.names.tree.now) limit takes n) }
+        ensures { IfOk result (λ takes. (n : ℕ) → Contains order.now.keys n
+            → AreCounted (placed wires.now.uses.names.tree.now) limit takes n) }
     {
         let mut takes = PortCounts {
             numbers: IndexMap::new(alloc),
@@ -159,7 +160,8 @@ impl PortCounts {
     ) -> Result<(), AllocError>
         requires wire { slice_get (connection_ports_at (placed wires.now.uses.names.tree.now) number) at ≡ Some wire }
         requires declared { ArePermitted (placed wires.now.uses.names.tree.now) }
-        ensures { OnOk result (IsCounted (placed wires.now.uses.names.tree.now) limit number at wire self.old self.new) }
+        ensures { OnOk result (IsCounted (placed wires.now.uses.names.tree.now) limit number at wire self.old
+            self.new) }
     {
         match wire.source {
             Some(source) => match source {
@@ -180,7 +182,8 @@ impl PortCounts {
     // Adds to the number of a port.
     fn increase(&mut self, port: PortAt, more: usize, limit: usize) -> Result<(), AllocError>
         ensures { OnOk result ((other : PortAt)
-            → entered_count self.new other ≡ (if same_port port other then min limit (entered_count self.old port + more) else entered_count self.old other)) }
+            → entered_count self.new other ≡ (if same_port port other
+            then min limit (entered_count self.old port + more) else entered_count self.old other)) }
     {
         let number = add_up_to(limit, self.at(port), more);
         self.numbers.insert(port, number)?;

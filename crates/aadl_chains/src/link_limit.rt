@@ -42,7 +42,8 @@ pub fn has_too_many_links(
     requires ends { (fault : PackageFault) → ¬ IsEndFault (placed wires.now.uses.names.tree.now) root fault }
     requires root { root < length (placed wires.now.uses.names.tree.now).declarations }
     requires no_thread { is_thread_at (placed wires.now.uses.names.tree.now) root ≡ false }
-    ensures { IfOk result (λ more. IsTrue more ↔ MoreThan LINKS (IsLink (placed wires.now.uses.names.tree.now) root) OtherTarget) }
+    ensures { IfOk result (λ more. IsTrue more
+        ↔ MoreThan LINKS (IsLink (placed wires.now.uses.names.tree.now) root) OtherTarget) }
 {
     let counts = link_counts(alloc, wires, order, LINKS + 1)?;
     Ok(count_at(counts.as_slice(), root) > LINKS)
@@ -134,7 +135,8 @@ fn links_deeper(
 ) -> usize
     requires { (s m : ℕ) → below (placed wires.now.uses.names.tree.now) number s ≡ Some m
         → IsNumber limit (EndsLink (placed wires.now.uses.names.tree.now) m) (slice_index counts.now m) }
-    ensures { IsNumber limit (λ port. (s : ℕ) × IsLinkBelow (placed wires.now.uses.names.tree.now) number s port) result }
+    ensures { IsNumber limit (λ port. (s : ℕ) × IsLinkBelow (placed wires.now.uses.names.tree.now) number s port)
+        result }
 {
     let mut count = 0;
     for target in wires.uses.targets(number) {
@@ -154,7 +156,8 @@ fn links_carried(
     requires takes { AreTakenBelow (placed wires.now.uses.names.tree.now) limit ends.now.takes.now number }
     requires direction { ends.now.gives.now.direction ≡ directions.Out }
     requires gives { IsInside (placed wires.now.uses.names.tree.now) directions.Out ends.now.gives.now.ports }
-    ensures { IsNumber limit (λ port. (k : ℕ) × FromThread (placed wires.now.uses.names.tree.now) number k port) result }
+    ensures { IsNumber limit (λ port. (k : ℕ) × FromThread (placed wires.now.uses.names.tree.now) number k port)
+        result }
 {
     let mut count = 0;
     for (at, wire) in wires.wires(number).iter().enumerate() {

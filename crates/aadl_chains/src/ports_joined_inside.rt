@@ -31,7 +31,8 @@ impl JoinedInside {
         direction: Direction,
     ) -> Result<JoinedInside, AllocError>
         requires { IsOrder (containment (placed wires.now.uses.names.tree.now)) order.now.keys }
-        ensures { IfOk result (λ inside. (inside.direction ≡ direction) × IsInside (placed wires.now.uses.names.tree.now) direction inside.ports) }
+        ensures { IfOk result (λ inside. (inside.direction ≡ direction)
+            × IsInside (placed wires.now.uses.names.tree.now) direction inside.ports) }
     {
         let ports = ports_of(alloc, wires, order, direction)?;
         Ok(JoinedInside { direction, ports })
@@ -46,7 +47,8 @@ impl JoinedInside {
         port: usize,
     ) -> bool
         requires { IsInside (placed wires.now.uses.names.tree.now) self.now.direction self.now.ports }
-        ensures { IsTrue result ↔ ReachesIn (placed wires.now.uses.names.tree.now) self.now.direction declaration sub port }
+        ensures { IsTrue result ↔ ReachesIn (placed wires.now.uses.names.tree.now) self.now.direction declaration sub
+            port }
     {
         reaches_in(
             &self.ports,
@@ -136,7 +138,8 @@ fn joined(
     number: usize,
     wire: ConnectionPorts,
 ) -> Option<usize>
-    ensures { result ≡ spec.joined_by ports.now (placed wires.now.uses.names.tree.now) direction number (spec.outer_end direction wire)
+    ensures { result ≡ spec.joined_by ports.now (placed wires.now.uses.names.tree.now) direction number
+        (spec.outer_end direction wire)
         (spec.inner_end direction wire) }
 {
     match outer_end(direction, wire) {

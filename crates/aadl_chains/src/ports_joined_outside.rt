@@ -46,10 +46,12 @@ impl JoinedOutside {
         side: PortSearch,
     ) -> Result<JoinedOutside, AllocError>
         requires order { IsOrder (containment (placed wires.now.uses.names.tree.now)) order.now.keys }
-        requires used { (n : ℕ) → Contains used.now.keys n ↔ IsInUse (placed wires.now.uses.names.tree.now) side.root n }
+        requires used { (n : ℕ) → Contains used.now.keys n
+            ↔ IsInUse (placed wires.now.uses.names.tree.now) side.root n }
         requires opposite { inside.now.direction ≡ opposite side.direction }
         requires inside { IsInside (placed wires.now.uses.names.tree.now) (opposite side.direction) inside.now.ports }
-        ensures { IfOk result (λ outside. (outside.side ≡ side) × IsOutside (placed wires.now.uses.names.tree.now) side.root side.direction outside.ports) }
+        ensures { IfOk result (λ outside. (outside.side ≡ side)
+            × IsOutside (placed wires.now.uses.names.tree.now) side.root side.direction outside.ports) }
     {
         let ports = ports_of(alloc, wires, inside, order, used, side)?;
         Ok(JoinedOutside { side, ports })
@@ -63,10 +65,13 @@ impl JoinedOutside {
         declaration: usize,
         site: NumberedPort,
     ) -> bool
-        requires outside { IsOutside (placed wires.now.uses.names.tree.now) self.now.side.root self.now.side.direction self.now.ports }
+        requires outside { IsOutside (placed wires.now.uses.names.tree.now) self.now.side.root self.now.side.direction
+            self.now.ports }
         requires opposite { inside.now.direction ≡ opposite self.now.side.direction }
-        requires inside { IsInside (placed wires.now.uses.names.tree.now) (opposite self.now.side.direction) inside.now.ports }
-        ensures { IsTrue result ↔ LeadsFrom (placed wires.now.uses.names.tree.now) self.now.side.root self.now.side.direction declaration site }
+        requires inside { IsInside (placed wires.now.uses.names.tree.now) (opposite self.now.side.direction)
+            inside.now.ports }
+        ensures { IsTrue result ↔ LeadsFrom (placed wires.now.uses.names.tree.now) self.now.side.root
+            self.now.side.direction declaration site }
     {
         leads_from(
             &self.ports,
@@ -116,7 +121,8 @@ fn lead_if_used(
     requires used { (n : ℕ) → Contains used.now.keys n ↔ IsInUse (placed wires.now.uses.names.tree.now) side.root n }
     requires opposite { inside.now.direction ≡ opposite side.direction }
     requires inside { IsInside (placed wires.now.uses.names.tree.now) (opposite side.direction) inside.now.ports }
-    ensures { OnOk result (AreLedIfUsed (placed wires.now.uses.names.tree.now) side.root side.direction number ports.old ports.new) }
+    ensures { OnOk result (AreLedIfUsed (placed wires.now.uses.names.tree.now) side.root side.direction number ports.old
+        ports.new) }
 {
     if used.contains(&number) {
         lead_each(ports, wires, inside, side, number)
@@ -136,7 +142,8 @@ fn lead_each(
     requires used { IsInUse (placed wires.now.uses.names.tree.now) side.root number }
     requires opposite { inside.now.direction ≡ opposite side.direction }
     requires inside { IsInside (placed wires.now.uses.names.tree.now) (opposite side.direction) inside.now.ports }
-    ensures { OnOk result (AreLed (placed wires.now.uses.names.tree.now) side.root side.direction number ports.old ports.new) }
+    ensures { OnOk result (AreLed (placed wires.now.uses.names.tree.now) side.root side.direction number ports.old
+        ports.new) }
 {
     for wire in wires.wires(number) {
         lead(ports, wires, inside, side, number, *wire)?;
@@ -155,7 +162,8 @@ fn lead(
 ) -> Result<(), AllocError>
     requires opposite { inside.now.direction ≡ opposite side.direction }
     requires inside { IsInside (placed wires.now.uses.names.tree.now) (opposite side.direction) inside.now.ports }
-    ensures { OnOk result (IsLed (placed wires.now.uses.names.tree.now) side.root side.direction inside.now.ports number wire ports.old ports.new) }
+    ensures { OnOk result (IsLed (placed wires.now.uses.names.tree.now) side.root side.direction inside.now.ports number
+        wire ports.old ports.new) }
 {
     match led(ports, wires, inside, side, number, wire) {
         Some(port) => ports.add(port),
@@ -173,7 +181,8 @@ fn led(
     wire: ConnectionPorts,
 ) -> Option<PortAt>
     requires { inside.now.direction ≡ opposite side.direction }
-    ensures { result ≡ spec.led_by ports.now inside.now.ports (placed wires.now.uses.names.tree.now) side.root side.direction number wire }
+    ensures { result ≡ spec.led_by ports.now inside.now.ports (placed wires.now.uses.names.tree.now) side.root
+        side.direction number wire }
 {
     if leads_from(
         ports,
@@ -199,7 +208,8 @@ fn leads_from(
     site: Option<NumberedPort>,
 ) -> bool
     requires { inside.now.direction ≡ opposite side.direction }
-    ensures { result ≡ spec.leads_from ports.now inside.now.ports (placed wires.now.uses.names.tree.now) side.root side.direction number site }
+    ensures { result ≡ spec.leads_from ports.now inside.now.ports (placed wires.now.uses.names.tree.now) side.root
+        side.direction number site }
 {
     match site {
         Some(NumberedPort::Own(port)) => {

@@ -11,7 +11,8 @@ ghost use Rattle.aadl_grammar.specs.proof.CanonicalRoundTrip.{HasSameTree};
 /// The canonical text of a tree has a tree, within the greatest nesting, that is the same except
 /// for its places, and no other. The text does not depend on the places of the tree.
 pub fn canonical_text_is_read_back()
-    ensures of_text { (text : List ℕ) (tree : PackageTree ℕ) → IsTreeOf text tree → HasSameTree (canon tree) (package_to no_place tree) }
+    ensures of_text { (text : List ℕ) (tree : PackageTree ℕ) → IsTreeOf text tree
+        → HasSameTree (canon tree) (package_to no_place tree) }
     ensures only { (text : List ℕ) (tree again : PackageTree ℕ)
         → IsTreeOf text tree → IsTreeOf (canon tree) again → package_to no_place again ≡ package_to no_place tree }
     ensures of_tree { (tree : SourceTree) → ∥ HasSameTree (canon (meaning tree)) (meaning tree) ∥₁ }

@@ -26,9 +26,11 @@ pub fn one_terminal_decides()
 /// Each opener makes the nesting deeper by one, that of a guard and that of an annex too, and each
 /// closer takes one back.
 pub fn openers_are_counted()
-    ensures openers { map (λ m. nesting 0 (mark m ∷ [])) (k.ParenOpen ∷ k.BracketOpen ∷ k.BraceOpen ∷ k.AnnexOpen ∷ k.GuardOpen ∷ k.If ∷ [])
+    ensures openers { map (λ m. nesting 0 (mark m ∷ []))
+        (k.ParenOpen ∷ k.BracketOpen ∷ k.BraceOpen ∷ k.AnnexOpen ∷ k.GuardOpen ∷ k.If ∷ [])
         ≡ 1 ∷ 1 ∷ 1 ∷ 1 ∷ 1 ∷ 1 ∷ [] }
-    ensures closers { map (λ m. nesting 1 (mark m ∷ [])) (k.ParenClose ∷ k.BracketClose ∷ k.BraceClose ∷ k.AnnexClose ∷ k.GuardClose ∷ [])
+    ensures closers { map (λ m. nesting 1 (mark m ∷ []))
+        (k.ParenClose ∷ k.BracketClose ∷ k.BraceClose ∷ k.AnnexClose ∷ k.GuardClose ∷ [])
         ≡ 0 ∷ 0 ∷ 0 ∷ 0 ∷ 0 ∷ [] }
 {}
 
@@ -38,8 +40,10 @@ pub fn openers_are_counted()
 pub fn fate_of_package()
     ensures finished { (end : ℕ) (spots : List PlacedTerminal)
         → (fate 0 end whole_package spots ≡ finished) ↔ (IsPackage (kinds_of spots) × IsShallow 0 (kinds_of spots)) }
-    ensures syntax { (end : ℕ) (spots : List PlacedTerminal) (at : ℕ) → (fate 0 end whole_package spots ≡ syntax_at at) ↔ FailsAt IsPackage 0 end spots at }
-    ensures deep { (end : ℕ) (spots : List PlacedTerminal) (at : ℕ) → (fate 0 end whole_package spots ≡ deep_at at) ↔ DeepAt IsPackage 0 spots at }
+    ensures syntax { (end : ℕ) (spots : List PlacedTerminal) (at : ℕ) → (fate 0 end whole_package spots ≡ syntax_at at)
+        ↔ FailsAt IsPackage 0 end spots at }
+    ensures deep { (end : ℕ) (spots : List PlacedTerminal) (at : ℕ) → (fate 0 end whole_package spots ≡ deep_at at)
+        ↔ DeepAt IsPackage 0 spots at }
 {}
 
 /// The machine finishes on just the bodies of behaviour annexes that are not nested too deep, each
@@ -48,27 +52,35 @@ pub fn fate_of_package()
 pub fn fate_of_behaviour()
     ensures finished { (end : ℕ) (spots : List PlacedTerminal)
         → (fate 1 end annex_body spots ≡ finished) ↔ (IsBehaviour (kinds_of spots) × IsShallow 1 (kinds_of spots)) }
-    ensures syntax { (end : ℕ) (spots : List PlacedTerminal) (at : ℕ) → (fate 1 end annex_body spots ≡ syntax_at at) ↔ FailsAt IsBehaviour 1 end spots at }
-    ensures deep { (end : ℕ) (spots : List PlacedTerminal) (at : ℕ) → (fate 1 end annex_body spots ≡ deep_at at) ↔ DeepAt IsBehaviour 1 spots at }
+    ensures syntax { (end : ℕ) (spots : List PlacedTerminal) (at : ℕ) → (fate 1 end annex_body spots ≡ syntax_at at)
+        ↔ FailsAt IsBehaviour 1 end spots at }
+    ensures deep { (end : ℕ) (spots : List PlacedTerminal) (at : ℕ) → (fate 1 end annex_body spots ≡ deep_at at)
+        ↔ DeepAt IsBehaviour 1 spots at }
 {}
 
 /// Terminals spell one package, or one behaviour, at most, where places do not count. So trees of one
 /// text, with their places, have one canonical text.
 pub fn a_text_has_one_tree()
-    ensures package { (ks : List PlainTerminal) (t u : PackageTree (Unit {0})) → Spells (package_parts t) ks [] → Spells (package_parts u) ks [] → t ≡ u }
-    ensures behaviour { (ks : List PlainTerminal) (t u : AnnexTree (Unit {0})) → Spells (annex_tree_parts t) ks [] → Spells (annex_tree_parts u) ks [] → t ≡ u }
+    ensures package { (ks : List PlainTerminal) (t u : PackageTree (Unit {0})) → Spells (package_parts t) ks []
+        → Spells (package_parts u) ks [] → t ≡ u }
+    ensures behaviour { (ks : List PlainTerminal) (t u : AnnexTree (Unit {0})) → Spells (annex_tree_parts t) ks []
+        → Spells (annex_tree_parts u) ks [] → t ≡ u }
     ensures kept_of_package { (ks : List PlainTerminal) (t u : PackageTree ℕ)
-        → Spells (package_parts t) ks [] → Spells (package_parts u) ks [] → kept (package_parts t) ≡ kept (package_parts u) }
+        → Spells (package_parts t) ks [] → Spells (package_parts u) ks []
+        → kept (package_parts t) ≡ kept (package_parts u) }
     ensures kept_of_behaviour { (ks : List PlainTerminal) (t u : AnnexTree ℕ)
-        → Spells (annex_tree_parts t) ks [] → Spells (annex_tree_parts u) ks [] → kept (annex_tree_parts t) ≡ kept (annex_tree_parts u) }
+        → Spells (annex_tree_parts t) ks [] → Spells (annex_tree_parts u) ks []
+        → kept (annex_tree_parts t) ≡ kept (annex_tree_parts u) }
 {}
 
 /// The tokens of a text are written by one package, or one behaviour, at most, with its places. And
 /// terminals that are just those that a package keeps are written by the same package at their own
 /// places: so the canonical text of a package has its tree.
 pub fn one_tree_with_places()
-    ensures package { (ss : List PlacedTerminal) (t u : PackageTree ℕ) → Written (package_parts t) ss [] → Written (package_parts u) ss [] → t ≡ u }
-    ensures behaviour { (ss : List PlacedTerminal) (t u : AnnexTree ℕ) → Written (annex_tree_parts t) ss [] → Written (annex_tree_parts u) ss [] → t ≡ u }
+    ensures package { (ss : List PlacedTerminal) (t u : PackageTree ℕ) → Written (package_parts t) ss []
+        → Written (package_parts u) ss [] → t ≡ u }
+    ensures behaviour { (ss : List PlacedTerminal) (t u : AnnexTree ℕ) → Written (annex_tree_parts t) ss []
+        → Written (annex_tree_parts u) ss [] → t ≡ u }
     ensures moved { (t : PackageTree ℕ) (ss ts : List PlacedTerminal)
         → Written (package_parts t) ss [] → Rising ss → kinds_of ts ≡ kept (package_parts t) → SamePackage t ts }
 {}
@@ -82,5 +94,6 @@ pub fn worked_fates()
     ensures cut_off { fate 1 99 (s.action ∷ []) [] ≡ syntax_at 99 }
     ensures package { fate 0 99 whole_package (numbered 0 small_package) ≡ finished }
     ensures nested { fate 0 99 (s.expression ∷ []) (numbered 0 (nested GREATEST_NESTING)) ≡ finished }
-    ensures too_deep { fate 0 99 (s.expression ∷ []) (numbered 0 (nested (GREATEST_NESTING + 1))) ≡ deep_at GREATEST_NESTING }
+    ensures too_deep { fate 0 99 (s.expression ∷ []) (numbered 0 (nested (GREATEST_NESTING + 1)))
+        ≡ deep_at GREATEST_NESTING }
 {}

@@ -12,7 +12,8 @@ use aadl_tree::Mark;
 
 /// Where the next item begins: behind its mark, or, where items have no mark before them, at a word.
 fn next_item(reader: &Reader<'_>, at: usize, before: Option<Mark>) -> Option<usize>
-    ensures { MatchOption result (NoneFollows before (here reader.now at)) (λ start. Follows before (here reader.now at) (here reader.now start)) }
+    ensures { MatchOption result (NoneFollows before (here reader.now at))
+        (λ start. Follows before (here reader.now at) (here reader.now start)) }
 {
     match before {
         Some(mark) => reader.take(at, mark),
@@ -52,7 +53,8 @@ pub fn section<T: Drop, F: Fn(usize) -> Parsed<T>>(
     requires advances { Advances reader.now (λ a r. F.post item a r) }
     ensures { (kind : Section) (symbol : Symbol) (of : ItemsOf reader.now None (λ a r. F.post item a r))
         → section_mark kind ≡ keyword → IsSection keyword of.item of.list symbol
-        → Parses reader.now (Allows of.allowed) (symbol ∷ []) (λ x. section_parts kind (flat_map of.parts x.items)) at result }
+        → Parses reader.now (Allows of.allowed) (symbol ∷ [])
+        (λ x. section_parts kind (flat_map of.parts x.items)) at result }
 {
     let mut found = Vec::new(reader.alloc);
     let Some(next) = reader.take(at, keyword) else {

@@ -18,7 +18,8 @@ use aadl_tree::{Identifier, Identifiers, Mark, Name, Path, Reference};
 
 /// `id`
 pub fn identifier(reader: &Reader<'_>, at: usize) -> Parsed<Identifier>
-    ensures { Parses reader.now AnyRoom (s.identifier ∷ []) (λ x. identifier_parts (identifier_view kept_place x)) at result }
+    ensures { Parses reader.now AnyRoom (s.identifier ∷ [])
+        (λ x. identifier_parts (identifier_view kept_place x)) at result }
 {
     match reader.word(at)? {
         Some(found) => Ok(found),
@@ -91,7 +92,8 @@ pub fn dot_identifier(reader: &Reader<'_>, at: usize) -> Parsed<Option<Identifie
 
 /// `{ id "::" } id [ "." id ]`
 pub fn reference(reader: &Reader<'_>, at: usize) -> Parsed<Reference>
-    ensures { Parses reader.now AnyRoom (s.reference ∷ []) (λ x. reference_parts (reference_view kept_place x)) at result }
+    ensures { Parses reader.now AnyRoom (s.reference ∷ [])
+        (λ x. reference_parts (reference_view kept_place x)) at result }
 {
     let mut qualifiers = Vec::new(reader.alloc);
     let (mut type_name, mut rest) = identifier(reader, at)?;

@@ -50,7 +50,8 @@ impl Reader<'_> {
 
     /// The number behind the keyword or symbol, where it comes first.
     pub fn take(&self, at: usize, mark: Mark) -> Option<usize>
-        ensures { MatchOption result (Misses (the mark) (here self.now at)) (λ next. AtMark mark (here self.now at) (here self.now next)) }
+        ensures { MatchOption result (Misses (the mark) (here self.now at))
+            (λ next. AtMark mark (here self.now at) (here self.now next)) }
     {
         let (terminal, next) = self.first(at)?;
         match terminal.kind {
@@ -74,7 +75,8 @@ impl Reader<'_> {
 
     /// The whole number that comes first, and the number behind it.
     pub fn whole(&self, at: usize) -> Option<(i64, usize)>
-        ensures { MatchOption result (Misses a_whole (here self.now at)) (λ x. At (whole x.0) (here self.now at) (here self.now x.1)) }
+        ensures { MatchOption result (Misses a_whole (here self.now at))
+            (λ x. At (whole x.0) (here self.now at) (here self.now x.1)) }
     {
         let (terminal, next) = self.first(at)?;
         match terminal.kind {
@@ -85,7 +87,8 @@ impl Reader<'_> {
 
     /// The real that comes first, and the number behind it.
     pub fn real(&self, at: usize) -> Result<Option<(Vec<u8>, usize)>, ParseFault>
-        ensures ok { IfOk result (λ o. MatchOption o (Misses a_real (here self.now at)) (λ x. At (real x.0.items) (here self.now at) (here self.now x.1))) }
+        ensures ok { IfOk result (λ o. MatchOption o (Misses a_real (here self.now at))
+            (λ x. At (real x.0.items) (here self.now at) (here self.now x.1))) }
         ensures err { IfErr result (λ e. e ≡ Memory) }
     {
         let Some((terminal, next)) = self.first(at) else {
@@ -187,7 +190,8 @@ impl Reader<'_> {
 
     /// The sign that comes first, and the number behind it.
     pub fn sign(&self, at: usize) -> Option<(Sign, usize)>
-        ensures { MatchOption result (MissAll (rows s.terms) (here self.now at)) (λ x. AtMark (sign_mark x.0) (here self.now at) (here self.now x.1)) }
+        ensures { MatchOption result (MissAll (rows s.terms) (here self.now at))
+            (λ x. AtMark (sign_mark x.0) (here self.now at) (here self.now x.1)) }
     {
         if let Some(next) = self.take(at, Mark::Plus) {
             return Some((Sign::Plus, next));

@@ -77,7 +77,8 @@ fn quantity(reader: &Reader<'_>, at: usize) -> Parsed<Quantity>
 /// `[ ".." quantity ]`
 fn upper(reader: &Reader<'_>, at: usize) -> Parsed<Option<Box<Quantity>>>
     ensures { Parses reader.now AnyRoom (s.upper ∷ [])
-        (λ x. parts_if (behind k.Range quantity_parts) (option_map (λ y. quantity_view kept_place y.value) x)) at result }
+        (λ x. parts_if (behind k.Range quantity_parts) (option_map (λ y. quantity_view kept_place y.value) x)) at
+        result }
 {
     let Some(next) = reader.take(at, Mark::Range) else {
         return Ok((None, at));
@@ -106,7 +107,8 @@ fn path_group(reader: &Reader<'_>, at: usize, room: usize) -> Parsed<Path>
 /// `"(" reference ")"`
 fn reference_group(reader: &Reader<'_>, at: usize, room: usize) -> Parsed<Reference>
     ensures { Parses reader.now (Room room) (s.reference_group ∷ [])
-        (λ x. plain k.ParenOpen ∷ (reference_parts (reference_view kept_place x) ++ plain k.ParenClose ∷ [])) at result }
+        (λ x. plain k.ParenOpen ∷ (reference_parts (reference_view kept_place x) ++ plain k.ParenClose ∷ [])) at
+        result }
 {
     let Some(next) = reader.take(at, Mark::ParenOpen) else {
         return Err(ParseFault::Syntax {
@@ -136,7 +138,8 @@ fn operator(reader: &Reader<'_>, at: usize) -> Parsed<AssociationOperator>
 
 /// `[ "applies" "to" path { "," path } ]`
 fn applies(reader: &Reader<'_>, at: usize) -> Parsed<Vec<Path>>
-    ensures { Parses reader.now AnyRoom (s.applies ∷ []) (λ x. applies_parts (map (path_view kept_place) x.items)) at result }
+    ensures { Parses reader.now AnyRoom (s.applies ∷ [])
+        (λ x. applies_parts (map (path_view kept_place) x.items)) at result }
 {
     let Some(next) = reader.take(at, Mark::Applies) else {
         return Ok((Vec::new(reader.alloc), at));
@@ -206,7 +209,8 @@ fn value(reader: &Reader<'_>, at: usize, room: usize) -> Parsed<Value>
 
 /// A string, a name, or a number with its unit, or a range of two.
 fn plain_value(reader: &Reader<'_>, at: usize) -> Parsed<Value>
-    requires { MissAll (on k.ParenOpen [] ∷ on k.BracketOpen [] ∷ on k.Reference [] ∷ on k.Classifier [] ∷ []) (here reader.now at) }
+    requires { MissAll (on k.ParenOpen [] ∷ on k.BracketOpen [] ∷ on k.Reference [] ∷ on k.Classifier [] ∷ [])
+        (here reader.now at) }
     ensures { Parses reader.now AnyRoom (s.value ∷ []) (λ x. value_parts (value_view kept_place x)) at result }
 {
     if let Some((text, next)) = reader.quoted(at)? {
@@ -225,7 +229,8 @@ fn plain_value(reader: &Reader<'_>, at: usize) -> Parsed<Value>
 /// `name ( "=>" | "+=>" ) [ "constant" ] value [ applies ] ";"`
 #[cycle(value)]
 pub fn association(reader: &Reader<'_>, at: usize, room: usize) -> Parsed<Association>
-    ensures { Parses reader.now (Room room) (s.association ∷ []) (λ x. association_parts (association_view kept_place x)) at result }
+    ensures { Parses reader.now (Room room) (s.association ∷ [])
+        (λ x. association_parts (association_view kept_place x)) at result }
 {
     let (name, next) = name(reader, at)?;
     let (operator, next) = operator(reader, next)?;
@@ -246,7 +251,8 @@ pub fn association(reader: &Reader<'_>, at: usize, room: usize) -> Parsed<Associ
 /// `{ property }`
 #[cycle(value)]
 fn associations(reader: &Reader<'_>, at: usize, room: usize) -> Parsed<Vec<Association>>
-    ensures { Parses reader.now (Room room) (s.associations ∷ []) (λ x. associations_parts (associations_view kept_place x.items)) at result }
+    ensures { Parses reader.now (Room room) (s.associations ∷ [])
+        (λ x. associations_parts (associations_view kept_place x.items)) at result }
 {
     let mut found = Vec::new(reader.alloc);
     let mut rest = at;
@@ -261,7 +267,8 @@ fn associations(reader: &Reader<'_>, at: usize, room: usize) -> Parsed<Vec<Assoc
 
 /// `[ "{" property { property } "}" ]`
 pub fn properties(reader: &Reader<'_>, at: usize, room: usize) -> Parsed<Vec<Association>>
-    ensures { Parses reader.now (Room room) (s.properties ∷ []) (λ x. properties_parts (associations_view kept_place x.items)) at result }
+    ensures { Parses reader.now (Room room) (s.properties ∷ [])
+        (λ x. properties_parts (associations_view kept_place x.items)) at result }
 {
     let Some(next) = reader.take(at, Mark::BraceOpen) else {
         return Ok((Vec::new(reader.alloc), at));

@@ -56,7 +56,8 @@ fn add_thread(
 ) -> Result<(), AllocError>
     requires ready { IsReady network.now }
     requires thread { IsNumbered network.now number.0 (reverse path.now) }
-    ensures { OnOk result (ShowsInto network.now number.0 0 incoming.old → ShowsInto network.now (number.0 + 1) 0 incoming.new) }
+    ensures { OnOk result (ShowsInto network.now number.0 0 incoming.old
+        → ShowsInto network.now (number.0 + 1) 0 incoming.new) }
 {
     let Some(declaration) = standing(&network.wires.uses, network.root, path) else {
         unreachable!();
@@ -82,7 +83,8 @@ fn add_port(
 ) -> Result<(), AllocError>
     requires ready { IsReady network.now }
     requires node { IsNode network.now node.now }
-    ensures { OnOk result (ShowsInto network.now node.now.number.0 port incoming.old → ShowsInto network.now node.now.number.0 (port + 1) incoming.new) }
+    ensures { OnOk result (ShowsInto network.now node.now.number.0 port incoming.old
+        → ShowsInto network.now node.now.number.0 (port + 1) incoming.new) }
 {
     if network.wires.is_in(node.declaration, port) {
         add_chain(alloc, incoming, network, node, port)
@@ -102,7 +104,8 @@ fn add_chain(
     requires ready { IsReady network.now }
     requires node { IsNode network.now node.now }
     requires goes_in { is_in_at (tree_of network.now) node.now.declaration port ≡ true }
-    ensures { OnOk result (ShowsInto network.now node.now.number.0 port incoming.old → ShowsInto network.now node.now.number.0 (port + 1) incoming.new) }
+    ensures { OnOk result (ShowsInto network.now node.now.number.0 port incoming.old
+        → ShowsInto network.now node.now.number.0 (port + 1) incoming.new) }
 {
     let wires = network.wires;
     match trace_back(alloc, wires, network.order, network.root, node.path, port)? {
@@ -179,7 +182,8 @@ fn chain_by(
 ) -> Result<Chain, AllocError>
     requires ready { IsReady network.now }
     requires begins { IsChainStart (tree_of network.now) network.now.root route.now.begin }
-    ensures { IfOk result (λ chain. chain ≡ shown.chain_by (tree_of network.now) network.now.root (paths_in network.now) route.now to) }
+    ensures { IfOk result (λ chain. chain ≡ shown.chain_by (tree_of network.now) network.now.root (paths_in network.now)
+        route.now to) }
 {
     Ok(Chain {
         from: start_end(alloc, network, &route.begin)?,

@@ -69,7 +69,8 @@ pub fn check_package<'t>(
     name: &Text,
 ) -> Result<Checked<'t>, PackageFault>
     ensures { MatchResult result
-        (λ checked. (resolving.root_number (placed tree.now) name.now ≡ Some checked.root) × (checked.wires.uses.names.tree.now ≡ tree.now)
+        (λ checked. (resolving.root_number (placed tree.now) name.now ≡ Some checked.root)
+        × (checked.wires.uses.names.tree.now ≡ tree.now)
         × IsChecked (placed tree.now) checked)
         (λ fault. (fault ≡ Memory) ⊎ IsFault (placed tree.now) name.now fault) }
 {
@@ -172,7 +173,8 @@ fn connection_fault(
 // The first fault of limits.
 fn limit_fault(alloc: Global, checked: &Checked<'_>) -> Result<Option<PackageFault>, AllocError>
     requires ordered { IsOrdered (placed checked.now.wires.uses.names.tree.now) checked.now }
-    requires ends { (fault : PackageFault) → ¬ IsEndFault (placed checked.now.wires.uses.names.tree.now) checked.now.root fault }
+    requires ends { (fault : PackageFault) → ¬ IsEndFault (placed checked.now.wires.uses.names.tree.now)
+        checked.now.root fault }
     ensures { IfOk result (FindsFault (placed checked.now.wires.uses.names.tree.now) checked.now) }
 {
     match first_limit(

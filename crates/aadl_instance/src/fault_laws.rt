@@ -8,7 +8,8 @@ ghost use Rattle.aadl_instance.specs.InstancesByPaths.{IsFlat, InstanceParts};
 
 /// A package has a flattened design or a first fault, and not both.
 pub fn not_both()
-    ensures { (tree : PackageTree ℕ) (name : List ℕ) (parts : InstanceParts) (fault : PackageFault) → IsFlat tree name parts → IsFault tree name fault → ⊥ }
+    ensures { (tree : PackageTree ℕ) (name : List ℕ) (parts : InstanceParts) (fault : PackageFault)
+        → IsFlat tree name parts → IsFault tree name fault → ⊥ }
 {}
 
 /// Two first faults stand at one place and are of one kind.

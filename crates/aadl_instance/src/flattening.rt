@@ -26,7 +26,8 @@ pub fn flatten<'t>(
 ) -> Result<Instance<'t>, PackageFault>
     ensures fault { IfErr result (λ fault. (fault ≡ Memory) ⊎ IsFault (placed tree.now) root.now fault) }
     ensures tree { IfOk result (λ x. x.wires.uses.names.tree.now ≡ tree.now) }
-    ensures instance { IfOk result (λ x. (i : IsInstance (placed tree.now) x.root x.threads x.links x.feeds x.taps) × (i.name ≡ root.now)) }
+    ensures instance { IfOk result (λ x. (i : IsInstance (placed tree.now) x.root x.threads x.links x.feeds x.taps)
+        × (i.name ≡ root.now)) }
 {
     match check_package(alloc, tree, root) {
         Ok(checked) => Ok(instance_of(alloc, checked)?),
@@ -37,10 +38,13 @@ pub fn flatten<'t>(
 // The instance of a package that has no fault below a root that has a name.
 fn instance_of<'t>(alloc: Global, checked: Checked<'t>) -> Result<Instance<'t>, NoMemory>
     requires checked { IsChecked (placed checked.wires.uses.names.tree.now) checked }
-    requires name { (name : List ℕ) × (root_number (placed checked.wires.uses.names.tree.now) name ≡ Some checked.root) }
+    requires name { (name : List ℕ) × (root_number (placed checked.wires.uses.names.tree.now) name
+        ≡ Some checked.root) }
     ensures tree { IfOk result (λ x. x.wires.uses.names.tree.now ≡ checked.entry.wires.uses.names.tree.now) }
-    ensures instance { IfOk result (λ x. (name : List ℕ) → root_number (placed checked.entry.wires.uses.names.tree.now) name ≡ Some checked.entry.root
-        → (i : IsInstance (placed checked.entry.wires.uses.names.tree.now) x.root x.threads x.links x.feeds x.taps) × (i.name ≡ name)) }
+    ensures instance { IfOk result (λ x. (name : List ℕ)
+        → root_number (placed checked.entry.wires.uses.names.tree.now) name ≡ Some checked.entry.root
+        → (i : IsInstance (placed checked.entry.wires.uses.names.tree.now) x.root x.threads x.links x.feeds x.taps)
+        × (i.name ≡ name)) }
 {
     let uses = &checked.wires.uses;
     let paths = thread_paths(alloc, uses, &checked.order, &checked.used, checked.root)?;

@@ -26,7 +26,8 @@ pub fn has_too_long_path(
     requires order { IsOrder (containment (placed uses.now.names.tree.now)) order.now.keys }
     requires root { root < length (placed uses.now.names.tree.now).declarations }
     ensures { IfOk result (λ over. IsTrue over
-        ↔ ThreadWith (placed uses.now.names.tree.now) root (λ x path. PATH_BYTES < length (spelled_path (placed uses.now.names.tree.now) root path))) }
+        ↔ ThreadWith (placed uses.now.names.tree.now) root
+        (λ x path. PATH_BYTES < length (spelled_path (placed uses.now.names.tree.now) root path))) }
 {
     let marks = uses.thread_marks(alloc)?;
     let weights = name_weights(alloc, uses.names.tree.declarations.as_slice())?;
@@ -58,7 +59,8 @@ fn name_weights(
     alloc: Global,
     declarations: &[Declaration],
 ) -> Result<SubcomponentWeights, NoMemory>
-    ensures { IfOk result (λ weights. weights ≡ map spec.weights_in (map (declaration_view kept_place) declarations.now)) }
+    ensures { IfOk result (λ weights. weights
+        ≡ map spec.weights_in (map (declaration_view kept_place) declarations.now)) }
 {
     let mut weights = SubcomponentWeights::new(alloc);
     for declaration in declarations {

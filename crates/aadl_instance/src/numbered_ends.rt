@@ -21,7 +21,8 @@ pub fn start_end(
 ) -> Result<ChainEnd, AllocError>
     requires ready { IsReady network.now }
     requires begins { IsChainStart (tree_of network.now) network.now.root begin.now }
-    ensures { IfOk result (λ end. end ≡ end_in (tree_of network.now) network.now.root (paths_in network.now) (begin_port begin.now)) }
+    ensures { IfOk result (λ end. end ≡ end_in (tree_of network.now) network.now.root (paths_in network.now)
+        (begin_port begin.now)) }
 {
     match begin {
         ChainStart::Root(port) => root_end(alloc, network, *port),
@@ -72,7 +73,8 @@ pub fn node_end(
 ) -> ChainEnd
     requires ready { IsReady network.now }
     requires node { IsNode network.now node.now }
-    requires port { HasPort (tree_of network.now) network.now.root (record { path = reverse node.now.path.now; port = port }) }
+    requires port { HasPort (tree_of network.now) network.now.root
+        (record { path = reverse node.now.path.now; port = port }) }
     ensures { result ≡ end_in (tree_of network.now) network.now.root (paths_in network.now)
         (record { path = reverse node.now.path.now; port = port }) }
 {

@@ -30,7 +30,8 @@ fn first_root(
     declarations: &[Declaration],
     name: &Text,
 ) -> Result<Option<usize>, AllocError>
-    ensures { IfOk result (λ number. number ≡ position_from (spec.is_root name.now) 0 (map (declaration_view kept_place) declarations.now)) }
+    ensures { IfOk result (λ number. number ≡ position_from (spec.is_root name.now) 0
+        (map (declaration_view kept_place) declarations.now)) }
 {
     for (number, declaration) in declarations.iter().enumerate() {
         if is_root(alloc, declaration, name)? {
@@ -67,7 +68,8 @@ fn is_root_implementation(
 
 // Whether an implementation has a name.
 fn is_spelled(alloc: Global, x: &Implementation, name: &Text) -> Result<bool, AllocError>
-    ensures { IfOk result (λ is. is ≡ same_name name.now (spelled_implementation (implementation_name_view kept_place x.now.name))) }
+    ensures { IfOk result (λ is. is ≡ same_name name.now
+        (spelled_implementation (implementation_name_view kept_place x.now.name))) }
 {
     let spelled = spelled_implementation(alloc, &x.name)?;
     Ok(same_text(name.as_str(), spelled.as_str()))

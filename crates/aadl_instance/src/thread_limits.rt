@@ -43,9 +43,11 @@ pub fn has_too_many(
 ) -> bool
     ensures used { IsTrue result ↔ HasTooMany (placed wires.now.uses.names.tree.now) used.now.keys part }
     // of all that is in use below a root
-    ensures below { (root : ℕ) → ((n : ℕ) → Contains used.now.keys n ↔ IsInUse (placed wires.now.uses.names.tree.now) root n)
+    ensures below { (root : ℕ) → ((n : ℕ) → Contains used.now.keys n
+        ↔ IsInUse (placed wires.now.uses.names.tree.now) root n)
         → IsTrue result
-        ↔ ThreadWith (placed wires.now.uses.names.tree.now) root (λ x path. spec.most part < spec.count_of (placed wires.now.uses.names.tree.now) x part) }
+        ↔ ThreadWith (placed wires.now.uses.names.tree.now) root
+        (λ x path. spec.most part < spec.count_of (placed wires.now.uses.names.tree.now) x part) }
 {
     for number in 0..wires.uses.len() {
         if used.contains(&number) && wires.uses.is_thread(number) && has_over(wires, number, part) {

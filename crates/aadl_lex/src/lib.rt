@@ -83,7 +83,8 @@ pub fn one_answer()
 /// The tokens of a text stand one behind the other in it, each of a byte at least.
 pub fn tokens_in_order()
     ensures order { (text : List ℕ) (ts : List Token) → AreTokensOf text ts → AreInOrder 0 (length text) ts }
-    ensures within { (text : List ℕ) (ts : List Token) → AreTokensOf text ts → All (λ t. (t.start < t.end) × (t.end ≤ length text)) ts }
+    ensures within { (text : List ℕ) (ts : List Token) → AreTokensOf text ts
+        → All (λ t. (t.start < t.end) × (t.end ≤ length text)) ts }
 {}
 
 /// Each token of a text is spelled as its class says: a word is a letter, and letters, digits and `_`

@@ -11,7 +11,8 @@ use std::alloc::{AllocError, Global};
 
 /// The implementation of a number.
 pub fn implementation_at<'t>(tree: &'t PackageTree, number: usize) -> Option<&'t Implementation>
-    ensures { option_map (implementation_view kept_place) (option_copied result) ≡ spec.implementation_at (placed tree.now) number }
+    ensures { option_map (implementation_view kept_place) (option_copied result)
+        ≡ spec.implementation_at (placed tree.now) number }
 {
     match tree.declarations.get(number) {
         Some(Declaration::Implementation(x)) => Some(x),
@@ -55,7 +56,8 @@ pub fn type_number(
     names: &Names<'_>,
     x: &Implementation,
 ) -> Result<Option<usize>, AllocError>
-    ensures { IfOk result (λ number. number ≡ spec.type_number (placed names.now.tree.now) (implementation_view kept_place x.now)) }
+    ensures { IfOk result (λ number. number ≡ spec.type_number (placed names.now.tree.now)
+        (implementation_view kept_place x.now)) }
 {
     names.type_number(alloc, &x.name.component_type)
 }

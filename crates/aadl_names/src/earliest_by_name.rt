@@ -35,7 +35,8 @@ fn add_spot(
     spot: NumberedPlace,
 ) -> Result<(), AllocError>
     ensures { OnOk result ((other : List ℕ)
-        → value_of table.new other ≡ spec.sooner (value_of table.old other) (if same_name other name.now then Some spot else None)) }
+        → value_of table.new other ≡ spec.sooner (value_of table.old other)
+        (if same_name other name.now then Some spot else None)) }
 {
     let earliest = table.value(alloc, name)?;
     if is_sooner(spot, earliest) {

@@ -9,5 +9,6 @@ ghost use Rattle.aadl_names.specs.proof.DuplicatesBesidePorts.{beside_names};
 
 /// The first of what is looked at in a package is the first of all that is wrong with its names.
 pub fn first_of_all()
-    ensures { (tree : PackageTree ℕ) → (root : ℕ) → FirstOf (package_faults tree root) (found None (wrong_names tree root ++ beside_names tree)) }
+    ensures { (tree : PackageTree ℕ) → (root : ℕ)
+        → FirstOf (package_faults tree root) (found None (wrong_names tree root ++ beside_names tree)) }
 {}

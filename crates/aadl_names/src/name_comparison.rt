@@ -68,7 +68,8 @@ fn is_pair(first: &Identifier, second: &Identifier, text: &[u8]) -> bool
 
 // Whether a text is a word, or two with a point between them.
 fn is_dotted(first: &Identifier, second: &Option<Identifier>, text: &[u8]) -> bool
-    ensures { result ≡ same_name (dotted first.now.spelling (option_map (identifier_view kept_place) second.now)) text.now }
+    ensures { result ≡ same_name (dotted first.now.spelling (option_map (identifier_view kept_place) second.now))
+        text.now }
 {
     match second {
         Some(second) => is_pair(first, second, text),

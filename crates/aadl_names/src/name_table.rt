@@ -45,7 +45,8 @@ impl<V: Copy> NameTable<V> {
     /// Adds a name with its value, unless the name is there.
     pub fn add(&mut self, alloc: Global, name: &str, value: V) -> Result<(), AllocError>
         ensures { OnOk result ((other : List ℕ)
-            → value_of self.new other ≡ option_or (value_of self.old other) (if same_name other name.now then Some value else None)) }
+            → value_of self.new other ≡ option_or (value_of self.old other)
+            (if same_name other name.now then Some value else None)) }
     {
         let key = FoldedName::of(alloc, name)?;
         if self.values.get(&key).is_none() {

@@ -30,7 +30,8 @@ pub struct Names<'t> {
     implementations: NameTable<usize>,
     // the ports of each type, and the subcomponents of each implementation
     members: ItemList<NameTable<usize>>,
-    ghost of_types: { (name : List ℕ) → value_of types name ≡ first_number (is_type name) (placed tree.now).declarations } by { Prim.hlevel props },
+    ghost of_types: { (name : List ℕ) → value_of types name
+        ≡ first_number (is_type name) (placed tree.now).declarations } by { Prim.hlevel props },
     ghost of_implementations: { (name : List ℕ) → value_of implementations name
         ≡ first_number (is_implementation name) (placed tree.now).declarations } by { Prim.hlevel props },
     ghost of_members: { (number : ℕ) (name : List ℕ) → value_of (slice_index_or members number []) name
@@ -67,7 +68,8 @@ impl<'t> Names<'t> {
 
     /// The number of the first type of a name.
     pub fn type_number(&self, alloc: Global, name: &Identifier) -> Result<Option<usize>, AllocError>
-        ensures { IfOk result (λ number. number ≡ first_number (is_type name.now.spelling) (placed self.now.tree.now).declarations) }
+        ensures { IfOk result (λ number. number
+            ≡ first_number (is_type name.now.spelling) (placed self.now.tree.now).declarations) }
     {
         self.types.value(alloc, name.spelling.as_str())
     }
@@ -75,7 +77,8 @@ impl<'t> Names<'t> {
     /// The number of the implementation that a reference names.
     #[tactic(auto, unfolding(crate::specs::NameResolution::referred))]
     pub fn referred(&self, alloc: Global, x: &Reference) -> Result<Option<usize>, AllocError>
-        ensures { IfOk result (λ number. number ≡ spec.referred (placed self.now.tree.now) (reference_view kept_place x.now)) }
+        ensures { IfOk result (λ number. number
+            ≡ spec.referred (placed self.now.tree.now) (reference_view kept_place x.now)) }
     {
         let Some(implementation) = &x.implementation else {
             return Ok(None);
@@ -97,7 +100,8 @@ impl<'t> Names<'t> {
         number: usize,
         name: &str,
     ) -> Result<Option<usize>, AllocError>
-        ensures { IfOk result (λ member. member ≡ member_of (slice_get (placed self.now.tree.now).declarations number) name.now) }
+        ensures { IfOk result (λ member. member
+            ≡ member_of (slice_get (placed self.now.tree.now).declarations number) name.now) }
     {
         match self.members.as_slice().get(number) {
             Some(table) => table.value(alloc, name),
@@ -121,7 +125,8 @@ impl<'t> Names<'t> {
 
 // Whether words are the same, one by one.
 fn same_words(a: &[Identifier], b: &[Identifier]) -> bool
-    ensures { result ≡ spec.same_words (map (identifier_view kept_place) a.now) (map (identifier_view kept_place) b.now) }
+    ensures { result ≡ spec.same_words (map (identifier_view kept_place) a.now)
+        (map (identifier_view kept_place) b.now) }
 {
     if a.len() != b.len() {
         return false;
@@ -155,7 +160,8 @@ fn add_type(
     number: usize,
 ) -> Result<(), AllocError>
     ensures { OnOk result ((name : List ℕ) → value_of types.new name
-        ≡ option_or (value_of types.old name) (if is_type name (declaration_view kept_place declaration.now) then Some number else None)) }
+        ≡ option_or (value_of types.old name)
+        (if is_type name (declaration_view kept_place declaration.now) then Some number else None)) }
 {
     match declaration {
         Declaration::Type(x) => types.add(alloc, x.name.spelling.as_str(), number),
@@ -171,7 +177,8 @@ fn add_implementation(
     number: usize,
 ) -> Result<(), AllocError>
     ensures { OnOk result ((name : List ℕ) → value_of implementations.new name
-        ≡ option_or (value_of implementations.old name) (if is_implementation name (declaration_view kept_place declaration.now) then Some number else None)) }
+        ≡ option_or (value_of implementations.old name)
+        (if is_implementation name (declaration_view kept_place declaration.now) then Some number else None)) }
 {
     match declaration {
         Declaration::Type(_) => Ok(()),
@@ -200,7 +207,8 @@ fn implementations_of(
     declarations: &[Declaration],
 ) -> Result<NameTable<usize>, AllocError>
     ensures { IfOk result (λ table. (name : List ℕ)
-        → value_of table name ≡ first_number (is_implementation name) (map (declaration_view kept_place) declarations.now)) }
+        → value_of table name ≡ first_number (is_implementation name)
+        (map (declaration_view kept_place) declarations.now)) }
 {
     let mut table = NameTable::new(alloc);
     for (number, declaration) in declarations.iter().enumerate() {
@@ -226,7 +234,8 @@ fn members_of(
 
 // The numbers of ports by their names.
 fn port_numbers(alloc: Global, ports: &[Feature]) -> Result<NameTable<usize>, AllocError>
-    ensures { IfOk result (λ table. (name : List ℕ) → value_of table name ≡ port_named (map (feature_view kept_place) ports.now) name) }
+    ensures { IfOk result (λ table. (name : List ℕ)
+        → value_of table name ≡ port_named (map (feature_view kept_place) ports.now) name) }
 {
     let mut table = NameTable::new(alloc);
     for (number, port) in ports.iter().enumerate() {
@@ -237,7 +246,8 @@ fn port_numbers(alloc: Global, ports: &[Feature]) -> Result<NameTable<usize>, Al
 
 // The numbers of subcomponents by their names.
 fn sub_numbers(alloc: Global, subs: &[Subcomponent]) -> Result<NameTable<usize>, AllocError>
-    ensures { IfOk result (λ table. (name : List ℕ) → value_of table name ≡ sub_named (map (subcomponent_view kept_place) subs.now) name) }
+    ensures { IfOk result (λ table. (name : List ℕ)
+        → value_of table name ≡ sub_named (map (subcomponent_view kept_place) subs.now) name) }
 {
     let mut table = NameTable::new(alloc);
     for (number, sub) in subs.iter().enumerate() {
@@ -249,7 +259,8 @@ fn sub_numbers(alloc: Global, subs: &[Subcomponent]) -> Result<NameTable<usize>,
 // The numbers of what a declaration has: the ports of a type, or the subcomponents of an
 // implementation.
 fn member_numbers(alloc: Global, declaration: &Declaration) -> Result<NameTable<usize>, AllocError>
-    ensures { IfOk result (λ table. (name : List ℕ) → value_of table name ≡ member_of (Some (declaration_view kept_place declaration.now)) name) }
+    ensures { IfOk result (λ table. (name : List ℕ)
+        → value_of table name ≡ member_of (Some (declaration_view kept_place declaration.now)) name) }
 {
     match declaration {
         Declaration::Type(x) => port_numbers(alloc, x.features.as_slice()),

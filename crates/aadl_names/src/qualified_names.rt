@@ -28,7 +28,8 @@ fn add_dotted(
     second: &Option<Identifier>,
 ) -> Result<(), AllocError>
     ensures { OnOk result (string_bytes text.new
-        ≡ string_bytes text.old ++ spec.dotted first.now.spelling (option_map (identifier_view kept_place) second.now)) }
+        ≡ string_bytes text.old ++ spec.dotted first.now.spelling
+        (option_map (identifier_view kept_place) second.now)) }
 {
     text.push_str(first.spelling.as_str())?;
     if let Some(second) = second {
@@ -44,7 +45,8 @@ pub fn dotted(
     first: &Identifier,
     second: &Option<Identifier>,
 ) -> Result<Text, AllocError>
-    ensures { IfOk result (λ text. text ≡ spec.dotted first.now.spelling (option_map (identifier_view kept_place) second.now)) }
+    ensures { IfOk result (λ text. text ≡ spec.dotted first.now.spelling
+        (option_map (identifier_view kept_place) second.now)) }
 {
     let mut text = String::new(alloc);
     add_dotted(&mut text, first, second)?;

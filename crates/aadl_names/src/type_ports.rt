@@ -15,7 +15,8 @@ pub fn port_number(
     of_type: Option<usize>,
     name: &str,
 ) -> Result<Option<usize>, AllocError>
-    ensures { IfOk result (λ port. port ≡ spec.port_named (spec.features_of (spec.type_numbered (placed names.now.tree.now) of_type)) name.now) }
+    ensures { IfOk result (λ port. port ≡ spec.port_named
+        (spec.features_of (spec.type_numbered (placed names.now.tree.now) of_type)) name.now) }
 {
     let Some(number) = of_type else {
         return Ok(None);
@@ -28,7 +29,8 @@ pub fn port_number(
 
 /// Which way a port of the type of a number goes.
 pub fn port_direction(names: &Names<'_>, of_type: Option<usize>, port: usize) -> Option<Direction>
-    ensures { result ≡ spec.direction_in (spec.features_of (spec.type_numbered (placed names.now.tree.now) of_type)) port }
+    ensures { result ≡ spec.direction_in (spec.features_of (spec.type_numbered (placed names.now.tree.now) of_type))
+        port }
 {
     let feature = type_numbered(names.tree, of_type)?.features.get(port)?;
     Some(feature.direction)

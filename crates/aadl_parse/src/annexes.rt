@@ -12,7 +12,8 @@ use behaviour_parse::body;
 
 /// `unread | "{**" behaviour "**}"`
 fn content(reader: &Reader<'_>, at: usize, room: usize) -> Parsed<AnnexContent>
-    ensures { Parses reader.now (Room room) (s.content ∷ []) (λ x. content_parts (content_view kept_place x)) at result }
+    ensures { Parses reader.now (Room room) (s.content ∷ [])
+        (λ x. content_parts (content_view kept_place x)) at result }
 {
     if let Some((bytes, end)) = reader.unread(at)? {
         return Ok((AnnexContent::Unread(bytes), end));
@@ -47,7 +48,8 @@ fn annex(reader: &Reader<'_>, at: usize, room: usize) -> Parsed<Annex>
 
 /// `{ annex }`
 pub fn annexes(reader: &Reader<'_>, at: usize, room: usize) -> Parsed<Vec<Annex>>
-    ensures { Parses reader.now (Room room) (s.annexes ∷ []) (λ x. flat_map annex_parts (map (annex_view kept_place) x.items)) at result }
+    ensures { Parses reader.now (Room room) (s.annexes ∷ [])
+        (λ x. flat_map annex_parts (map (annex_view kept_place) x.items)) at result }
 {
     let mut found = Vec::new(reader.alloc);
     let mut rest = at;

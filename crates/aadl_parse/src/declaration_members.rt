@@ -82,7 +82,8 @@ fn data_type(reader: &Reader<'_>, at: usize) -> Parsed<Option<Reference>>
 
 /// `id ":" ( "in" | "out" ) "data" "port" [ reference ] [ properties ] ";"`
 fn feature(reader: &Reader<'_>, at: usize, room: usize) -> Parsed<Feature>
-    ensures { Parses reader.now (Room room) (s.feature ∷ []) (λ x. feature_parts (feature_view kept_place x)) at result }
+    ensures { Parses reader.now (Room room) (s.feature ∷ [])
+        (λ x. feature_parts (feature_view kept_place x)) at result }
 {
     let (name, next) = identifier(reader, at)?;
     let colon = reader.expect(next, Mark::Colon)?;
@@ -104,7 +105,8 @@ fn feature(reader: &Reader<'_>, at: usize, room: usize) -> Parsed<Feature>
 /// `[ "features" ( "none" ";" | feature { feature } ) ]`
 pub fn features(reader: &Reader<'_>, at: usize, room: usize) -> Parsed<Vec<Feature>>
     ensures { Parses reader.now (Room room) (s.features ∷ [])
-        (λ x. section_parts feature_section (flat_map feature_parts (map (feature_view kept_place) x.items))) at result }
+        (λ x. section_parts feature_section (flat_map feature_parts (map (feature_view kept_place) x.items))) at
+        result }
 {
     section(reader, at, Mark::Features, |at| feature(reader, at, room))
 }
@@ -132,7 +134,8 @@ fn subcomponent(reader: &Reader<'_>, at: usize, room: usize) -> Parsed<Subcompon
 /// `[ "subcomponents" ( "none" ";" | subcomponent { subcomponent } ) ]`
 pub fn subcomponents(reader: &Reader<'_>, at: usize, room: usize) -> Parsed<Vec<Subcomponent>>
     ensures { Parses reader.now (Room room) (s.subcomponents ∷ [])
-        (λ x. section_parts subcomponent_section (flat_map subcomponent_parts (map (subcomponent_view kept_place) x.items))) at result }
+        (λ x. section_parts subcomponent_section
+        (flat_map subcomponent_parts (map (subcomponent_view kept_place) x.items))) at result }
 {
     section(
         reader,
@@ -153,7 +156,8 @@ fn connection_end(reader: &Reader<'_>, at: usize) -> Parsed<ConnectionEnd>
 
 /// `id ":" "port" end "->" end [ properties ] ";"`
 fn connection(reader: &Reader<'_>, at: usize, room: usize) -> Parsed<Connection>
-    ensures { Parses reader.now (Room room) (s.connection ∷ []) (λ x. connection_parts (connection_view kept_place x)) at result }
+    ensures { Parses reader.now (Room room) (s.connection ∷ [])
+        (λ x. connection_parts (connection_view kept_place x)) at result }
 {
     let (name, next) = identifier(reader, at)?;
     let colon = reader.expect(next, Mark::Colon)?;
@@ -175,7 +179,8 @@ fn connection(reader: &Reader<'_>, at: usize, room: usize) -> Parsed<Connection>
 /// `[ "connections" ( "none" ";" | connection { connection } ) ]`
 pub fn connections(reader: &Reader<'_>, at: usize, room: usize) -> Parsed<Vec<Connection>>
     ensures { Parses reader.now (Room room) (s.connections ∷ [])
-        (λ x. section_parts connection_section (flat_map connection_parts (map (connection_view kept_place) x.items))) at result }
+        (λ x. section_parts connection_section (flat_map connection_parts (map (connection_view kept_place) x.items)))
+        at result }
 {
     section(
         reader,

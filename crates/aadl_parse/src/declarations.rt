@@ -37,7 +37,8 @@ fn implementation_name(reader: &Reader<'_>, at: usize) -> Parsed<ImplementationN
 
 /// `"end" id ";"`
 fn type_end(reader: &Reader<'_>, at: usize) -> Parsed<Identifier>
-    ensures { Parses reader.now AnyRoom (s.type_end ∷ []) (λ x. ending_parts (identifier_parts (identifier_view kept_place x))) at result }
+    ensures { Parses reader.now AnyRoom (s.type_end ∷ [])
+        (λ x. ending_parts (identifier_parts (identifier_view kept_place x))) at result }
 {
     let keyword = reader.expect(at, Mark::End)?;
     let (name, next) = identifier(reader, keyword)?;
@@ -126,7 +127,8 @@ fn after_category(reader: &Reader<'_>, at: usize, room: usize) -> Parsed<Declara
 
 /// The declaration whose category stands at this place of the text.
 fn declared(at: usize, category: Category, rest: DeclarationRest) -> Declaration
-    ensures { declaration_parts (declaration_view kept_place result) ≡ token (mark (category_mark category)) (at ∷ []) ∷ rest_parts rest }
+    ensures { declaration_parts (declaration_view kept_place result) ≡ token (mark (category_mark category)) (at ∷ [])
+        ∷ rest_parts rest }
 {
     match rest {
         DeclarationRest::Type(

@@ -67,5 +67,6 @@ pub fn one_answer()
     ensures tree { (text : List ℕ) (t u : Tree ℕ) → IsTreeOf text t → IsTreeOf text u → t ≡ u }
     ensures fault { (text : List ℕ) (f g : TextFault) → f ≢ TextFault.Memory → g ≢ TextFault.Memory
         → IsFaultOfText text f → IsFaultOfText text g → f ≡ g }
-    ensures either { (text : List ℕ) (t : Tree ℕ) (f : TextFault) → f ≢ TextFault.Memory → IsTreeOf text t → ¬ IsFaultOfText text f }
+    ensures either { (text : List ℕ) (t : Tree ℕ) (f : TextFault) → f ≢ TextFault.Memory → IsTreeOf text t
+        → ¬ IsFaultOfText text f }
 {}

@@ -17,7 +17,8 @@ use aadl_tree::{Declaration, Mark, Name, With};
 
 /// `"end" name ";"`
 fn package_end(reader: &Reader<'_>, at: usize) -> Parsed<Name>
-    ensures { Parses reader.now AnyRoom (s.package_end ∷ []) (λ x. ending_parts (name_parts (name_view kept_place x))) at result }
+    ensures { Parses reader.now AnyRoom (s.package_end ∷ [])
+        (λ x. ending_parts (name_parts (name_view kept_place x))) at result }
 {
     let keyword = reader.expect(at, Mark::End)?;
     let (found, next) = name(reader, keyword)?;
@@ -36,7 +37,8 @@ fn more_names(reader: &Reader<'_>, at: usize) -> Parsed<Vec<Name>>
 
 /// `{ "with" name { "," name } ";" }`
 fn withs(reader: &Reader<'_>, at: usize) -> Parsed<Vec<With>>
-    ensures { Parses reader.now AnyRoom (s.withs ∷ []) (λ x. flat_map with_parts (map (with_view kept_place) x.items)) at result }
+    ensures { Parses reader.now AnyRoom (s.withs ∷ [])
+        (λ x. flat_map with_parts (map (with_view kept_place) x.items)) at result }
 {
     let mut found = Vec::new(reader.alloc);
     let mut rest = at;

@@ -109,7 +109,8 @@ pub fn print_declared<T: PrintItem>(
     items: &Option<Vec<T>>,
 ) -> Result<(), AllocError>
     ensures { OnOk result (printer.new
-        ≡ printed printer.old (parts_if (declared_parts word T.parts) (option_map (λ xs. map T.tree xs.items) items.now))) }
+        ≡ printed printer.old (parts_if (declared_parts word T.parts)
+        (option_map (λ xs. map T.tree xs.items) items.now))) }
 {
     if let Some(items) = items {
         printer.mark(word)?;

@@ -12,7 +12,8 @@ use std::alloc::{AllocError, Global};
 
 // The declarations, each behind those that it contains; nothing where one contains itself.
 fn order_of(alloc: Global, uses: &Uses<'_>) -> Result<Option<IndexSet<usize>>, AllocError>
-    ensures { IfOk result (λ found. IfSome found (λ order. IsOrder (containment (placed uses.now.names.tree.now)) order.keys)) }
+    ensures { IfOk result (λ found. IfSome found
+        (λ order. IsOrder (containment (placed uses.now.names.tree.now)) order.keys)) }
 {
     match first_recursive(alloc, uses)? {
         None => Ok(Some(uses.order(alloc)?)),

@@ -47,7 +47,8 @@ impl Model for Connections {
 
     ghost view = { λ c. c.wires };
 
-    ghost invariant = { λ c. (target : NumberedPort) → number_of c.firsts.entries target ≡ inner.first_into c.wires target };
+    ghost invariant = { λ c. (target : NumberedPort)
+        → number_of c.firsts.entries target ≡ inner.first_into c.wires target };
 }
 
 impl Connections {
@@ -109,7 +110,8 @@ fn firsts_of(
     alloc: Global,
     wires: &[ConnectionPorts],
 ) -> Result<IndexMap<NumberedPort, usize>, AllocError>
-    ensures { IfOk result (λ firsts. (target : NumberedPort) → number_of firsts.entries target ≡ inner.first_into wires.now target) }
+    ensures { IfOk result (λ firsts. (target : NumberedPort)
+        → number_of firsts.entries target ≡ inner.first_into wires.now target) }
 {
     let mut firsts = IndexMap::new(alloc);
     for (number, wire) in wires.iter().enumerate() {
@@ -125,7 +127,8 @@ fn add_first(
     number: usize,
 ) -> Result<(), AllocError>
     ensures { OnOk result ((other : NumberedPort)
-        → number_of firsts.new.entries other ≡ option_or (number_of firsts.old.entries other) (if is_port other target then Some number else None)) }
+        → number_of firsts.new.entries other ≡ option_or (number_of firsts.old.entries other)
+        (if is_port other target then Some number else None)) }
 {
     match target {
         None => Ok(()),
@@ -139,7 +142,8 @@ fn add_number(
     number: usize,
 ) -> Result<(), AllocError>
     ensures { OnOk result ((other : NumberedPort)
-        → number_of firsts.new.entries other ≡ option_or (number_of firsts.old.entries other) (if is_port other (Some target) then Some number else None)) }
+        → number_of firsts.new.entries other ≡ option_or (number_of firsts.old.entries other)
+        (if is_port other (Some target) then Some number else None)) }
 {
     if firsts.get(&target).is_none() {
         firsts.insert(target, number)?;

@@ -63,7 +63,8 @@ fn is_above(levels: &[usize], level: usize, target: Option<usize>) -> bool
 
 // Whether some subcomponent of a declaration names one of a greater level.
 fn rises_from(graph: &Containment, levels: &[usize], number: usize) -> bool
-    ensures { result ≡ list_any (spec.is_above levels.now (spec.level_in levels.now number)) (targets_in graph.now number) }
+    ensures { result ≡ list_any (spec.is_above levels.now (spec.level_in levels.now number))
+        (targets_in graph.now number) }
 {
     let level = level_of(levels, number);
     graph
@@ -75,7 +76,8 @@ fn rises_from(graph: &Containment, levels: &[usize], number: usize) -> bool
 // Whether some declaration contains one of a greater level.
 fn rises(graph: &Containment, levels: &[usize]) -> bool
     ensures { result ≡ false
-        → (n : ℕ) → n < length graph.now → list_any (spec.is_above levels.now (spec.level_in levels.now n)) (targets_in graph.now n) ≡ false }
+        → (n : ℕ) → n < length graph.now → list_any (spec.is_above levels.now (spec.level_in levels.now n))
+        (targets_in graph.now n) ≡ false }
 {
     for number in 0..graph.len() {
         if rises_from(graph, levels, number) {
@@ -103,7 +105,8 @@ fn add_suspects(
     any: bool,
     number: usize,
 ) -> Result<(), AllocError>
-    ensures { OnOk result (AreSuspected graph.now levels.now any number (length (targets_in graph.now number)) found.old.items found.new.items) }
+    ensures { OnOk result (AreSuspected graph.now levels.now any number (length (targets_in graph.now number))
+        found.old.items found.new.items) }
 {
     for sub in 0..graph.targets(number).len() {
         if is_suspect(levels, any, number, graph.below(number, sub)) {

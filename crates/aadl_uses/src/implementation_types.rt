@@ -17,7 +17,8 @@ pub fn types_of(
     names: &Names<'_>,
     declarations: &[Declaration],
 ) -> Result<ItemList<Option<usize>>, AllocError>
-    ensures { IfOk result (λ types. types ≡ map (type_in (placed names.now.tree.now)) (map (declaration_view kept_place) declarations.now)) }
+    ensures { IfOk result (λ types. types ≡ map (type_in (placed names.now.tree.now))
+        (map (declaration_view kept_place) declarations.now)) }
 {
     let mut types = ItemList::new(alloc);
     for declaration in declarations {
@@ -32,7 +33,8 @@ fn type_of(
     names: &Names<'_>,
     declaration: &Declaration,
 ) -> Result<Option<usize>, AllocError>
-    ensures { IfOk result (λ number. number ≡ type_in (placed names.now.tree.now) (declaration_view kept_place declaration.now)) }
+    ensures { IfOk result (λ number. number ≡ type_in (placed names.now.tree.now)
+        (declaration_view kept_place declaration.now)) }
 {
     match declaration {
         Declaration::Type(_) => Ok(None),

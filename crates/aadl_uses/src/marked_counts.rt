@@ -18,7 +18,8 @@ pub fn counts_below(
     limit: usize,
 ) -> Result<Vec<usize>, AllocError>
     requires { IsOrder graph.now order.now.keys }
-    ensures { IfOk result (λ counts. (n : ℕ) → n < length graph.now → Counted limit graph.now marks.now n (slice_index counts.items n)) }
+    ensures { IfOk result (λ counts. (n : ℕ) → n < length graph.now
+        → Counted limit graph.now marks.now n (slice_index counts.items n)) }
 {
     let mut counts = zeros(alloc, graph.len())?;
     for at in 0..order.len() {

@@ -24,7 +24,8 @@ pub struct PackageConnections<'t> {
     /// What the subcomponents of the package name.
     pub uses: Uses<'t>,
     connections: ItemList<Connections>,
-    ghost of_connections: { connections ≡ map (wires_in (placed uses.names.tree.now)) (placed uses.names.tree.now).declarations } by { Prim.hlevel props },
+    ghost of_connections: { connections ≡ map (wires_in (placed uses.names.tree.now))
+        (placed uses.names.tree.now).declarations } by { Prim.hlevel props },
 }
 
 impl Drop for PackageConnections<'_> {

@@ -95,7 +95,8 @@ fn paths_of(
     number: usize,
 ) -> Result<Vec<Vec<usize>>, AllocError>
     requires { AreKnown graph.now marks.now paths.now number }
-    ensures { IfOk result (λ row. AreListed (IsMarkedAt graph.now marks.now number) path_before (map (λ path. path.items) row.items)) }
+    ensures { IfOk result (λ row. AreListed (IsMarkedAt graph.now marks.now number) path_before
+        (map (λ path. path.items) row.items)) }
 {
     let mut row = own_path(alloc, marks, number)?;
     for (sub, target) in graph.targets(number).iter().enumerate() {
@@ -108,7 +109,8 @@ fn paths_of(
 
 // The empty path, where the declaration itself is marked.
 fn own_path(alloc: Global, marks: &[bool], number: usize) -> Result<Vec<Vec<usize>>, AllocError>
-    ensures { IfOk result (λ row. map (λ path. path.items) row.items ≡ own_paths (slice_index_or marks.now number false)) }
+    ensures { IfOk result (λ row. map (λ path. path.items) row.items
+        ≡ own_paths (slice_index_or marks.now number false)) }
 {
     let mut row = Vec::new(alloc);
     if let Some(true) = marks.get(number) {

@@ -24,7 +24,8 @@ pub fn thread_paths(
     requires order { IsOrder (containment (placed uses.now.names.tree.now)) order.now.keys }
     requires used { (n : ℕ) → Contains used.now.keys n ↔ IsInUse (placed uses.now.names.tree.now) root n }
     requires root { root < length (placed uses.now.names.tree.now).declarations }
-    ensures { IfOk result (λ paths. Lists (IsThreadAt (placed uses.now.names.tree.now) root) PathBefore (map reverse (paths_from paths root))) }
+    ensures { IfOk result (λ paths. Lists (IsThreadAt (placed uses.now.names.tree.now) root) PathBefore
+        (map reverse (paths_from paths root))) }
 {
     let marks = uses.thread_marks(alloc)?;
     paths_below(alloc, uses.containment(), marks.as_slice(), order, used)

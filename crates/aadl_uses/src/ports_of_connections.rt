@@ -22,7 +22,8 @@ pub fn wiring_of(
     declarations: &[Declaration],
 ) -> Result<ItemList<Connections>, AllocError>
     requires all { map (declaration_view kept_place) declarations.now ≡ (placed uses.now.names.tree.now).declarations }
-    ensures { IfOk result (λ wiring. wiring ≡ map (wires_in (placed uses.now.names.tree.now)) (map (declaration_view kept_place) declarations.now)) }
+    ensures { IfOk result (λ wiring. wiring ≡ map (wires_in (placed uses.now.names.tree.now))
+        (map (declaration_view kept_place) declarations.now)) }
 {
     let mut wiring = ItemList::new(alloc);
     for (number, declaration) in declarations.iter().enumerate() {
@@ -39,8 +40,10 @@ fn wires_of(
     number: usize,
     declaration: &Declaration,
 ) -> Result<ItemList<ConnectionPorts>, AllocError>
-    requires stands { slice_get (placed uses.now.names.tree.now).declarations number ≡ Some (declaration_view kept_place declaration.now) }
-    ensures { IfOk result (λ wires. wires ≡ wires_in (placed uses.now.names.tree.now) (declaration_view kept_place declaration.now)) }
+    requires stands { slice_get (placed uses.now.names.tree.now).declarations number
+        ≡ Some (declaration_view kept_place declaration.now) }
+    ensures { IfOk result (λ wires. wires ≡ wires_in (placed uses.now.names.tree.now)
+        (declaration_view kept_place declaration.now)) }
 {
     match declaration {
         Declaration::Type(_) => Ok(ItemList::new(alloc)),
@@ -57,8 +60,10 @@ fn wires_of_each(
     number: usize,
     connections: &[Connection],
 ) -> Result<ItemList<ConnectionPorts>, AllocError>
-    ensures { IfOk result (λ wires. (x : Implementation ℕ) → implementation_at (placed uses.now.names.tree.now) number ≡ Some x
-        → wires ≡ map (spec.ports_of_connection (placed uses.now.names.tree.now) x) (map (connection_view kept_place) connections.now)) }
+    ensures { IfOk result (λ wires. (x : Implementation ℕ)
+        → implementation_at (placed uses.now.names.tree.now) number ≡ Some x
+        → wires ≡ map (spec.ports_of_connection (placed uses.now.names.tree.now) x)
+        (map (connection_view kept_place) connections.now)) }
 {
     let mut wires = ItemList::new(alloc);
     for connection in connections {
@@ -74,8 +79,10 @@ fn ports_of_connection(
     number: usize,
     connection: &Connection,
 ) -> Result<ConnectionPorts, AllocError>
-    ensures { IfOk result (λ wire. (x : Implementation ℕ) → implementation_at (placed uses.now.names.tree.now) number ≡ Some x
-        → wire ≡ spec.ports_of_connection (placed uses.now.names.tree.now) x (connection_view kept_place connection.now)) }
+    ensures { IfOk result (λ wire. (x : Implementation ℕ)
+        → implementation_at (placed uses.now.names.tree.now) number ≡ Some x
+        → wire ≡ spec.ports_of_connection (placed uses.now.names.tree.now) x
+        (connection_view kept_place connection.now)) }
 {
     let source = site_of(alloc, uses, number, &connection.source)?;
     let target = site_of(alloc, uses, number, &connection.target)?;

@@ -22,7 +22,8 @@ pub fn site_of(
     number: usize,
     end: &ConnectionEnd,
 ) -> Result<Option<NumberedPort>, AllocError>
-    ensures { IfOk result (λ port. (x : Implementation ℕ) → implementation_at (placed uses.now.names.tree.now) number ≡ Some x
+    ensures { IfOk result (λ port. (x : Implementation ℕ)
+        → implementation_at (placed uses.now.names.tree.now) number ≡ Some x
         → port ≡ end_port (placed uses.now.names.tree.now) x (end_view kept_place end.now)) }
 {
     let Some(port) = &end.second else {
@@ -45,7 +46,8 @@ fn own_port(
     name: &Identifier,
 ) -> Result<Option<NumberedPort>, AllocError>
     ensures { IfOk result (λ port. port ≡ option_map Own
-        (port_named (ports_at (placed uses.now.names.tree.now) (implementation_at (placed uses.now.names.tree.now) number)) name.now.spelling)) }
+        (port_named (ports_at (placed uses.now.names.tree.now)
+        (implementation_at (placed uses.now.names.tree.now) number)) name.now.spelling)) }
 {
     let of_type = uses.type_number(number);
     match port_number(alloc, &uses.names, of_type, name.spelling.as_str())? {
@@ -65,7 +67,8 @@ fn inner_site(
     ensures { IfOk result (λ port. port ≡ option_map (Inner sub)
         (port_named
         (ports_at (placed uses.now.names.tree.now)
-        (option_and_then (implementation_at (placed uses.now.names.tree.now)) (below (placed uses.now.names.tree.now) number sub)))
+        (option_and_then (implementation_at (placed uses.now.names.tree.now))
+        (below (placed uses.now.names.tree.now) number sub)))
         name.now.spelling)) }
 {
     let of_type = uses.type_below(number, sub);

@@ -82,7 +82,8 @@ impl<'t> Uses<'t> {
 
     /// The numbers of the implementations that the subcomponents of a declaration name, in order.
     pub fn targets(&self, number: usize) -> &[Option<usize>]
-        ensures { result.now ≡ spec.targets_of (placed self.now.names.tree.now) (implementation_at (placed self.now.names.tree.now) number) }
+        ensures { result.now ≡ spec.targets_of (placed self.now.names.tree.now)
+            (implementation_at (placed self.now.names.tree.now) number) }
     {
         self.graph.targets(number)
     }
@@ -127,7 +128,8 @@ impl<'t> Uses<'t> {
     ) -> Result<bool, AllocError>
         requires order { IsOrder (spec.containment (placed self.now.names.tree.now)) order.now.keys }
         requires root { root < length (placed self.now.names.tree.now).declarations }
-        ensures { IfOk result (λ more. IsTrue more ↔ MoreThan COMPONENTS (IsThreadAt (placed self.now.names.tree.now) root) PathBefore) }
+        ensures { IfOk result (λ more. IsTrue more
+            ↔ MoreThan COMPONENTS (IsThreadAt (placed self.now.names.tree.now) root) PathBefore) }
     {
         let counts = self.thread_counts(alloc, order, COMPONENTS + 1)?;
         let count = count_at(counts.as_slice(), root);
@@ -174,7 +176,8 @@ impl<'t> Uses<'t> {
 
     /// The number of the type of what a subcomponent of a declaration names.
     pub fn type_below(&self, number: usize, sub: usize) -> Option<usize>
-        ensures { result ≡ option_and_then (type_number_at (placed self.now.names.tree.now)) (below (placed self.now.names.tree.now) number sub) }
+        ensures { result ≡ option_and_then (type_number_at (placed self.now.names.tree.now))
+            (below (placed self.now.names.tree.now) number sub) }
     {
         match self.below(number, sub) {
             Some(target) => self.type_number(target),
@@ -185,21 +188,24 @@ impl<'t> Uses<'t> {
     /// The numbers of the implementations that are in use below a root, its own among them.
     pub fn in_use(&self, alloc: Global, root: usize) -> Result<IndexSet<usize>, AllocError>
         requires { root < length (placed self.now.names.tree.now).declarations }
-        ensures { IfOk result (λ used. (n : ℕ) → Contains used.keys n ↔ IsInUse (placed self.now.names.tree.now) root n) }
+        ensures { IfOk result (λ used. (n : ℕ) → Contains used.keys n
+            ↔ IsInUse (placed self.now.names.tree.now) root n) }
     {
         reached(alloc, &self.graph, root)
     }
 
     /// The implementation of a number.
     pub fn implementation(&self, number: usize) -> Option<&'t Implementation>
-        ensures { option_map (implementation_view kept_place) (option_copied result) ≡ implementation_at (placed self.now.names.tree.now) number }
+        ensures { option_map (implementation_view kept_place) (option_copied result)
+            ≡ implementation_at (placed self.now.names.tree.now) number }
     {
         implementation_at(self.names.tree, number)
     }
 
     /// A subcomponent of a declaration.
     pub fn subcomponent(&self, number: usize, sub: usize) -> Option<&'t Subcomponent>
-        ensures { option_map (subcomponent_view kept_place) (option_copied result) ≡ sub_at (placed self.now.names.tree.now) number sub }
+        ensures { option_map (subcomponent_view kept_place) (option_copied result)
+            ≡ sub_at (placed self.now.names.tree.now) number sub }
     {
         subcomponent_at(self.names.tree, number, sub)
     }
@@ -227,7 +233,8 @@ fn is_thread_category(category: Category) -> bool
 
 // Which declarations are implementations of threads.
 fn marks_of(alloc: Global, declarations: &[Declaration]) -> Result<Vec<bool>, AllocError>
-    ensures { IfOk result (λ marks. marks.items ≡ map is_thread_declaration (map (declaration_view kept_place) declarations.now)) }
+    ensures { IfOk result (λ marks. marks.items
+        ≡ map is_thread_declaration (map (declaration_view kept_place) declarations.now)) }
 {
     let mut marks = Vec::new(alloc);
     for declaration in declarations {
@@ -252,7 +259,8 @@ fn containment_of(
     names: &Names<'_>,
     declarations: &[Declaration],
 ) -> Result<Containment, AllocError>
-    ensures { IfOk result (λ graph. graph ≡ map (targets_in (placed names.now.tree.now)) (map (declaration_view kept_place) declarations.now)) }
+    ensures { IfOk result (λ graph. graph ≡ map (targets_in (placed names.now.tree.now))
+        (map (declaration_view kept_place) declarations.now)) }
 {
     let mut graph = Containment::new(alloc);
     for declaration in declarations {
@@ -267,7 +275,8 @@ fn targets_of(
     names: &Names<'_>,
     declaration: &Declaration,
 ) -> Result<Vec<Option<usize>>, AllocError>
-    ensures { IfOk result (λ targets. targets.items ≡ targets_in (placed names.now.tree.now) (declaration_view kept_place declaration.now)) }
+    ensures { IfOk result (λ targets. targets.items
+        ≡ targets_in (placed names.now.tree.now) (declaration_view kept_place declaration.now)) }
 {
     match declaration {
         Declaration::Type(_) => Ok(Vec::new(alloc)),

@@ -83,8 +83,10 @@ pub fn threads_at(
     root: usize,
     paths: &[Vec<usize>],
 ) -> Result<ItemList<ThreadAt>, NoMemory>
-    requires { All (λ path. IsSome (ways.number_at_path (placed uses.now.names.tree.now) root (reverse path.items))) paths.now }
-    ensures { IfOk result (λ threads. threads ≡ map (λ path. spec.thread_at (placed uses.now.names.tree.now) root (reverse path.items)) paths.now) }
+    requires { All (λ path. IsSome (ways.number_at_path (placed uses.now.names.tree.now) root (reverse path.items)))
+        paths.now }
+    ensures { IfOk result (λ threads. threads
+        ≡ map (λ path. spec.thread_at (placed uses.now.names.tree.now) root (reverse path.items)) paths.now) }
 {
     let mut threads = ItemList::new(alloc);
     for path in paths {

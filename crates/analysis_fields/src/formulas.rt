@@ -312,7 +312,8 @@ fn one_part(
     levels: u32,
     parts: &[Value],
 ) -> Result<Form, ScenarioFault>
-    ensures { Shows formula_of (one_part (formula_in levels names.now (place_text place.entry)) (place_text place.entry) role (map view parts.now)) result }
+    ensures { Shows formula_of (one_part (formula_in levels names.now (place_text place.entry)) (place_text place.entry)
+        role (map view parts.now)) result }
 {
     let [part] = parts else {
         return Err(wrong_kind(alloc, place));
@@ -330,7 +331,8 @@ fn two_parts(
     levels: u32,
     parts: &[Value],
 ) -> Result<Form, ScenarioFault>
-    ensures { Shows formula_of (two_parts (formula_in levels names.now (place_text place.entry)) (place_text place.entry) role (map view parts.now)) result }
+    ensures { Shows formula_of (two_parts (formula_in levels names.now (place_text place.entry))
+        (place_text place.entry) role (map view parts.now)) result }
 {
     let [left, right] = parts else {
         return Err(wrong_kind(alloc, place));

@@ -49,7 +49,8 @@ fn add_member(
     value: &Value,
 ) -> Result<(), ScenarioFault>
     requires { length owners.old ≡ length names.now.components }
-    ensures { Makes owners.new (with_member names.now (place_text place.entry) number owners.old (view value.now)) result }
+    ensures { Makes owners.new (with_member names.now (place_text place.entry) number owners.old (view value.now))
+        result }
 {
     let path = text(alloc, place, value)?;
     let node = names.node(alloc, place, path)?.0 as usize;
@@ -70,7 +71,8 @@ fn add_members(
     values: &[Value],
 ) -> Result<(), ScenarioFault>
     requires { length owners.old ≡ length names.now.components }
-    ensures { Makes owners.new (with_members names.now (place_text place.entry) number owners.old (map view values.now)) result }
+    ensures { Makes owners.new (with_members names.now (place_text place.entry) number owners.old (map view values.now))
+        result }
 {
     for value in values {
         add_member(alloc, names, place, number, owners, value)?;
@@ -111,7 +113,8 @@ fn processor_parts<'v>(
     place: Place<'_>,
     value: &'v Value,
 ) -> Result<(&'v Value, &'v [Value]), ScenarioFault>
-    ensures { Shows (λ p. (view p.0.now, map view p.1.now)) (processor_parts (place_text place.entry) (view value.now)) result }
+    ensures { Shows (λ p. (view p.0.now, map view p.1.now)) (processor_parts (place_text place.entry) (view value.now))
+        result }
 {
     let members = entries(alloc, place, value)?;
     if members.len() != 2 {
@@ -141,7 +144,8 @@ fn read_processor(
     value: &Value,
 ) -> Result<Processor, ScenarioFault>
     requires { length owners.old ≡ length names.now.components }
-    ensures { Shows (λ p. (owners.new, p)) (processor_in names.now owners.old number (name.now, view value.now)) result }
+    ensures { Shows (λ p. (owners.new, p)) (processor_in names.now owners.old number (name.now, view value.now))
+        result }
 {
     let place = Place::Name("processors", name);
     if !is_word(name.as_bytes()) {
@@ -171,7 +175,8 @@ fn place_all(
     members: &Map<String, Value>,
 ) -> Result<ItemList<Processor>, ScenarioFault>
     requires { length owners.old ≡ length names.now.components }
-    ensures { Shows (λ processors. (owners.new, processors)) (through (with_processor names.now) (owners.old, []) (map entry_of members.now.entries)) result }
+    ensures { Shows (λ processors. (owners.new, processors))
+        (through (with_processor names.now) (owners.old, []) (map entry_of members.now.entries)) result }
 {
     let mut processors = ItemList::new(alloc);
     for (name, item) in members.iter() {

@@ -245,7 +245,8 @@ fn fault_of(
     parts: &FaultParts<'_>,
 ) -> Result<RoundFault, ScenarioFault>
     ensures { Answers (fault_of names.now replicas.now (place_text place.entry) parts.now.path.now parts.now.name.now
-        (view parts.now.replica.now) (view parts.now.target.now) (view parts.now.round.now) (map view parts.now.values.now)) result }
+        (view parts.now.replica.now) (view parts.now.target.now) (view parts.now.round.now)
+        (map view parts.now.values.now)) result }
 {
     let ends = ends_of(alloc, names, replicas, place, parts)?;
     fault_behind(alloc, names, replicas, place, ends, parts)
@@ -294,7 +295,8 @@ fn next_fault(
     value: &Value,
 ) -> Result<RoundFault, ScenarioFault>
     requires { places.old.keys ≡ map key_of faults.now }
-    ensures value { Shows (λ fault. faults.now ++ fault ∷ []) (with_fault names.now replicas.now faults.now (view value.now)) result }
+    ensures value { Shows (λ fault. faults.now ++ fault ∷ [])
+        (with_fault names.now replicas.now faults.now (view value.now)) result }
     ensures places { IfOk result (λ fault. places.new.keys ≡ map key_of (faults.now ++ fault ∷ [])) }
 {
     let place = Place::Index("faults", faults.len());

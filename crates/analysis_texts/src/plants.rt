@@ -81,7 +81,8 @@ fn add_fused_row(
     requires places { places.now ≡ tap_places product.old.design.taps }
     ensures further { OnOk result (IsAdvanced product.old values.now product.new) }
     ensures row { OnOk result
-        (text.new.items ≡ text.old.items ++ text_of (row_lines product.new.design (λ node. slice_get product.new.parts node) round)) }
+        (text.new.items ≡ text.old.items ++ text_of
+        (row_lines product.new.design (λ node. slice_get product.new.parts node) round)) }
 {
     product.advance(values)?;
     add_row(text, product.design(), places, round, &product.parts())

@@ -31,7 +31,8 @@ pub fn budget(
 ) -> Result<Budgeted, NoMemory>
     requires processors { All (IsProcessorOf design.now) processors.now }
     requires codes { length codes.now ≡ length design.now.components }
-    ensures text { IfOk result (λ b. b.text.items ≡ budget_text design.now codes.now (map processor_of processors.now)) }
+    ensures text { IfOk result (λ b. b.text.items
+        ≡ budget_text design.now codes.now (map processor_of processors.now)) }
     ensures over { IfOk result (λ b. b.over ≡ some_is_over design.now codes.now (map processor_of processors.now)) }
 {
     let mut text = Vec::new(alloc);
@@ -55,7 +56,8 @@ fn add_processor(
     requires processor { IsProcessorOf design.now processor.now }
     requires codes { length codes.now ≡ length design.now.components }
     ensures fits { IfOk result (λ fits. fits ≡ fits_on design.now codes.now (processor_of processor.now)) }
-    ensures text { OnOk result (text.new.items ≡ text.old.items ++ text_of (processor_lines design.now codes.now (processor_of processor.now))) }
+    ensures text { OnOk result (text.new.items ≡ text.old.items
+        ++ text_of (processor_lines design.now codes.now (processor_of processor.now))) }
 {
     let longest = design.gamma().alpha_max;
     let members = processor.components.as_slice();
@@ -82,7 +84,8 @@ fn add_sum(
     longest: Nanos,
     fits: bool,
 ) -> Result<(), NoMemory>
-    ensures { OnOk result (text.new.items ≡ text.old.items ++ sum_line processor.now.name sum longest fits ++ line_end) }
+    ensures { OnOk result (text.new.items ≡ text.old.items ++ sum_line processor.now.name sum longest fits
+        ++ line_end) }
 {
     let verdict = if fits {
         LineWord::Bytes(b"fits")
@@ -105,7 +108,8 @@ fn add_sum(
 
 // Adds a line for each step that a processor serves.
 fn add_slots(text: &mut Vec<u8>, design: &Design, lines: &[TimetableLine]) -> Result<(), NoMemory>
-    ensures { OnOk result (text.new.items ≡ text.old.items ++ text_of (map (slot_line design.now) (map line_value lines.now))) }
+    ensures { OnOk result (text.new.items ≡ text.old.items
+        ++ text_of (map (slot_line design.now) (map line_value lines.now))) }
 {
     for line in lines {
         add_slot(text, design, line)?;

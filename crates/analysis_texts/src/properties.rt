@@ -56,8 +56,10 @@ fn watch_rounds(
 ) -> Result<Watched, NoMemory>
     requires opening { product.old.configuration ≡ comp product.old.design env.now 0 }
     requires monitors { HasWatched monitors.old (formulas properties.now) [] }
-    ensures text { IfOk result (λ w. w.text.items ≡ watch_text product.old.design env.now rounds (named properties.now)) }
-    ensures violated { IfOk result (λ w. w.violated ≡ is_some_false product.old.design env.now rounds (formulas properties.now)) }
+    ensures text { IfOk result (λ w. w.text.items
+        ≡ watch_text product.old.design env.now rounds (named properties.now)) }
+    ensures violated { IfOk result (λ w. w.violated
+        ≡ is_some_false product.old.design env.now rounds (formulas properties.now)) }
 {
     let mut values = vec![in alloc; PortValue::Absent; env.lists.len()]?;
     let mut text = Vec::new(alloc);
@@ -91,7 +93,8 @@ fn go_on(
     round: u32,
 ) -> Result<(), NoMemory>
     ensures design { OnOk result (product.new.design ≡ product.old.design) }
-    ensures further { (env : Env) → values.now ≡ values_at env round → product.old.configuration ≡ comp product.old.design env round
+    ensures further { (env : Env) → values.now ≡ values_at env round
+        → product.old.configuration ≡ comp product.old.design env round
         → OnOk result (product.new.configuration ≡ comp product.old.design env (round + 1)) }
     ensures watches { (env : Env) (fs : List Formula) → values.now ≡ values_at env round
         → product.old.configuration ≡ comp product.old.design env round
@@ -140,7 +143,8 @@ fn add_end(
     violation: Option<FalseProperty>,
 ) -> Result<(), NoMemory>
     requires { IfSome violation (λ v. v.property < length properties.now) }
-    ensures { OnOk result (text.new.items ≡ text.old.items ++ last_line rounds (first_false_text (names_of (named properties.now)) violation) ++ line_end) }
+    ensures { OnOk result (text.new.items ≡ text.old.items
+        ++ last_line rounds (first_false_text (names_of (named properties.now)) violation) ++ line_end) }
 {
     let watch = LineWord::Bytes(b"watch");
     let of_rounds = LineWord::Bytes(b"rounds");

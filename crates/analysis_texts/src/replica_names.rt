@@ -36,7 +36,8 @@ pub fn replica_names(
     design: &Design,
     replicas: &[NodeNo],
 ) -> Result<Vec<ItemList<Text>>, NoMemory>
-    ensures { IfOk result (λ names. names.items ≡ all_names design.now.components (replicated_in design.now replicas.now)) }
+    ensures { IfOk result (λ names. names.items
+        ≡ all_names design.now.components (replicated_in design.now replicas.now)) }
 {
     let components = design.components();
     let replicated = replicated(alloc, components.len(), replicas)?;

@@ -71,7 +71,8 @@ fn voted(
     requires product { product.old ≡ voted_begun product.old.design (replicated_in product.old.design replicas.now) }
     requires faults { All (IsFaultOf product.old.design replicas.now) faults }
     ensures { IfOk result (λ text. text.items
-        ≡ voted_report product.old.design env.now (replicated_in product.old.design replicas.now) (faults_of faults) rounds) }
+        ≡ voted_report product.old.design env.now (replicated_in product.old.design replicas.now) (faults_of faults)
+        rounds) }
 {
     let names = replica_names(alloc, product.design(), replicas)?;
     let faults = by_round(alloc, faults, rounds)?;

@@ -75,7 +75,8 @@ fn give(
     found: &mut ItemList<Violation>,
 ) -> Result<Act, NoMemory>
     ensures { IfOk result (λ act. let x = expression_view kept_place value.now in let e = option_copied entry.entry in
-        ResolvesAction (given_to (expression_of scope.now x) e) (whole_types scope.now (kind_of e) x) act found.old found.new) }
+        ResolvesAction (given_to (expression_of scope.now x) e) (whole_types scope.now (kind_of e) x) act found.old
+        found.new) }
 {
     let value = resolve_whole(alloc, scope, kind_of(entry), value, found)?;
     Ok(given_to(alloc, value, entry))
@@ -115,7 +116,8 @@ fn resolve_some(
     found: &mut ItemList<Violation>,
 ) -> Result<Vec<Act>, NoMemory>
     requires { around ≤ NESTED_TURNS + 1 }
-    ensures { IfOk result (λ acts. let x = listed_block (option_map (λ b. actions_view kept_place b.value) actions.now) in
+    ensures { IfOk result (λ acts. let x = listed_block (option_map (λ b. actions_view kept_place b.value) actions.now)
+        in
         ResolvesActions (block_of scope.now x) (block_findings scope.now around x) acts.items found.old found.new) }
 {
     match actions {
@@ -211,8 +213,10 @@ fn resolve_branch(
     found: &mut ItemList<Violation>,
 ) -> Result<Branch, NoMemory>
     requires { around ≤ NESTED_TURNS + 1 }
-    ensures { IfOk result (λ branch. let e = expression_view kept_place test.now in let xs = actions_view kept_place actions.now in
-        ResolvesBranch (expression_of scope.now e) (actions_of scope.now xs) (branch_findings scope.now around e xs) branch found.old found.new) }
+    ensures { IfOk result (λ branch. let e = expression_view kept_place test.now in let xs = actions_view kept_place
+        actions.now in
+        ResolvesBranch (expression_of scope.now e) (actions_of scope.now xs) (branch_findings scope.now around e xs)
+        branch found.old found.new) }
 {
     let guard = resolve_whole(alloc, scope, Some(Kind::Boolean), test, found)?;
     let acts = resolve_actions(alloc, scope, around, actions, found)?;

@@ -56,7 +56,8 @@ pub fn resolve_annex(
     annex: &AnnexTree,
     found: &mut ItemList<Violation>,
 ) -> Result<BehaviourParts, NoMemory>
-    ensures parts { IfOk result (λ parts. parts ≡ behaviour_of values scope.now (annex_tree_view kept_place annex.now)) }
+    ensures parts { IfOk result (λ parts. parts
+        ≡ behaviour_of values scope.now (annex_tree_view kept_place annex.now)) }
     ensures found { OnOk result (found.new
         ≡ found.old ++ annex_findings values scope.now at (annex_tree_view kept_place annex.now)) }
 {

@@ -190,7 +190,8 @@ fn resolve_expression(
     found: &mut ItemList<Violation>,
 ) -> Result<Typed, NoMemory>
     ensures { IfOk result (λ typed. let x = expression_view kept_place expression.now in
-        Resolves (expression_of scope.now x) (expression_kind scope.now x) (expression_types scope.now x) typed found.old found.new) }
+        Resolves (expression_of scope.now x) (expression_kind scope.now x) (expression_types scope.now x) typed
+        found.old found.new) }
 {
     let first = resolve_relation(alloc, scope, &expression.first, found)?;
     if expression.rest.is_empty() {
@@ -218,7 +219,8 @@ fn resolve_relations(
     found: &mut ItemList<Violation>,
 ) -> Result<Vec<Operand>, NoMemory>
     ensures { IfOk result (λ operands. let xs = relations_view kept_place relations.now in
-        ResolvesOperands (relations_of scope.now xs) (relations_types scope.now xs) operands.items found.old found.new) }
+        ResolvesOperands (relations_of scope.now xs) (relations_types scope.now xs) operands.items found.old
+        found.new) }
 {
     let mut operands = Vec::new(alloc);
     for (operator, relation) in relations {
@@ -241,7 +243,8 @@ fn resolve_relation(
     found: &mut ItemList<Violation>,
 ) -> Result<Typed, NoMemory>
     ensures { IfOk result (λ typed. let x = relation_view kept_place relation.now in
-        Resolves (relation_of scope.now x) (relation_kind scope.now x) (relation_types scope.now x) typed found.old found.new) }
+        Resolves (relation_of scope.now x) (relation_kind scope.now x) (relation_types scope.now x) typed found.old
+        found.new) }
 {
     let left = resolve_sum(alloc, scope, &relation.left, found)?;
     match &relation.right {
@@ -386,7 +389,8 @@ fn resolve_factor(
     found: &mut ItemList<Violation>,
 ) -> Result<Typed, NoMemory>
     ensures { IfOk result (λ typed. let x = factor_view kept_place factor.now in
-        Resolves (factor_of scope.now x) (factor_kind scope.now x) (factor_types scope.now x) typed found.old found.new) }
+        Resolves (factor_of scope.now x) (factor_kind scope.now x) (factor_types scope.now x) typed found.old
+        found.new) }
 {
     match factor {
         Factor::Abs { at: _, operand } => {
@@ -419,7 +423,8 @@ fn resolve_primary(
     found: &mut ItemList<Violation>,
 ) -> Result<Typed, NoMemory>
     ensures { IfOk result (λ typed. let x = primary_view kept_place primary.now in
-        Resolves (primary_of scope.now x) (primary_kind scope.now x) (primary_types scope.now x) typed found.old found.new) }
+        Resolves (primary_of scope.now x) (primary_kind scope.now x) (primary_types scope.now x) typed found.old
+        found.new) }
 {
     match primary {
         Primary::Whole { at: _, value } => Ok(literal(*value)),
@@ -438,7 +443,8 @@ fn resolve_name(
     found: &mut ItemList<Violation>,
 ) -> Result<Typed, NoMemory>
     ensures { IfOk result (λ typed. let x = named (identifier_view kept_place name.now) fresh in
-        Resolves (primary_of scope.now x) (primary_kind scope.now x) (primary_types scope.now x) typed found.old found.new) }
+        Resolves (primary_of scope.now x) (primary_kind scope.now x) (primary_types scope.now x) typed found.old
+        found.new) }
 {
     let entry = scope.find(name.spelling.as_str());
     let kind = read_kind(entry, fresh);

@@ -77,7 +77,8 @@ pub fn departures_of(
     states: &[StateAt],
     transitions: &[aadl_tree::Transition],
 ) -> Result<ItemList<Departure>, NoMemory>
-    ensures { IfOk result (λ legs. legs ≡ map (departure_of states.now) (map (transition_view kept_place) transitions.now)) }
+    ensures { IfOk result (λ legs. legs ≡ map (departure_of states.now)
+        (map (transition_view kept_place) transitions.now)) }
 {
     let mut legs = ItemList::new(alloc);
     for transition in transitions {

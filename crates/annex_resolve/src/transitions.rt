@@ -64,7 +64,8 @@ fn resolve_transition(
     transition: &aadl_tree::Transition,
     found: &mut ItemList<Violation>,
 ) -> Result<Transition, NoMemory>
-    ensures edge { IfOk result (λ edge. edge ≡ edge_of scope.now states.now (transition_view kept_place transition.now)) }
+    ensures edge { IfOk result (λ edge. edge ≡ edge_of scope.now states.now
+        (transition_view kept_place transition.now)) }
     ensures found { OnOk result (found.new
         ≡ found.old ++ transition_findings scope.now (transition_view kept_place transition.now)) }
 {

@@ -18,7 +18,8 @@ use design_laws::packages::designs_of_texts_keep_their_rules;
 pub fn accepted_designs_keep_their_rules()
     ensures rules { (root bundle : List ℕ) (design : DesignParts) (scenario : List ℕ)
         → IsAccepted root bundle design scenario → IsDesign design }
-    ensures there { (root bundle text scenario : List ℕ) (tree : PackageTree ℕ) (parts : InstanceParts) → IsParsed bundle text scenario tree
+    ensures there { (root bundle text scenario : List ℕ) (tree : PackageTree ℕ) (parts : InstanceParts)
+        → IsParsed bundle text scenario tree
         → IsFlat tree root parts → AreViolations tree (shown_by tree parts) [] → MeansDesign root bundle }
 {
     designs_of_texts_keep_their_rules();

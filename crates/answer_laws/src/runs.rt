@@ -15,7 +15,8 @@ use scenario_laws::scenario_suitability::scenarios_suit;
 
 /// `run` answers 0, 6 or 7 exactly where the bundle means a scenario and no step code is too long.
 pub fn statuses_of_runs()
-    ensures { (root bundle : List ℕ) (trace : Bool) (status : ℕ) (text : List ℕ) → IsExecutionAnswer (execution.Run trace) root bundle status text
+    ensures { (root bundle : List ℕ) (trace : Bool) (status : ℕ) (text : List ℕ)
+        → IsExecutionAnswer (execution.Run trace) root bundle status text
         → IsRunStatus status ↔ (MeansScenario root bundle (command.Run root trace) × (HasLongCode root bundle → ⊥)) }
 {
     one_design();

@@ -12,11 +12,13 @@ ghost use Rattle.pals_top.specs.ProgramInput.{Reading};
 /// bundle may have, and else says that they are too many, at status 12. A call in which a read failed
 /// says so, at status 9.
 pub fn calls_answer_their_bytes()
-    ensures read { (command : Command) (seen : Reading) (left : List ℕ) (status : ℕ) (text : List ℕ) → reads_source command ≡ true
+    ensures read { (command : Command) (seen : Reading) (left : List ℕ) (status : ℕ) (text : List ℕ)
+        → reads_source command ≡ true
         → seen.before.left ≡ Some left
         → seen.before.faults < 2 ^ 64 - 1 → seen.after.faults ≡ seen.before.faults → length left ≤ BUNDLE_BYTES
         → IsAnswer (Some command) seen status text → IsCommandAnswer command left status text }
-    ensures too_long { (command : Command) (seen : Reading) (left : List ℕ) (status : ℕ) (text : List ℕ) → reads_source command ≡ true
+    ensures too_long { (command : Command) (seen : Reading) (left : List ℕ) (status : ℕ) (text : List ℕ)
+        → reads_source command ≡ true
         → seen.before.left ≡ Some left
         → seen.before.faults < 2 ^ 64 - 1 → seen.after.faults ≡ seen.before.faults → BUNDLE_BYTES < length left
         → IsAnswer (Some command) seen status text → (status ≡ 12) × (text ≡ too_long_line) }
@@ -28,9 +30,11 @@ pub fn calls_answer_their_bytes()
 /// The status of such a call is 9 exactly where a read failed, and 12 exactly where no read failed
 /// and more bytes were left than a bundle may have.
 pub fn statuses_of_calls()
-    ensures failed { (command : Command) (seen : Reading) (status : ℕ) (text : List ℕ) → reads_source command ≡ true → seen.before.faults < 2 ^ 64 - 1
+    ensures failed { (command : Command) (seen : Reading) (status : ℕ) (text : List ℕ) → reads_source command ≡ true
+        → seen.before.faults < 2 ^ 64 - 1
         → IsAnswer (Some command) seen status text → (status ≡ 9) ↔ (seen.after.faults ≡ seen.before.faults → ⊥) }
-    ensures too_long { (command : Command) (seen : Reading) (left : List ℕ) (status : ℕ) (text : List ℕ) → reads_source command ≡ true
+    ensures too_long { (command : Command) (seen : Reading) (left : List ℕ) (status : ℕ) (text : List ℕ)
+        → reads_source command ≡ true
         → seen.before.left ≡ Some left
         → seen.before.faults < 2 ^ 64 - 1 → IsAnswer (Some command) seen status text
         → (status ≡ 12) ↔ ((seen.after.faults ≡ seen.before.faults) × (BUNDLE_BYTES < length left)) }

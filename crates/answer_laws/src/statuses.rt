@@ -37,13 +37,17 @@ pub fn statuses_of_check()
 /// A command that needs a design and a scenario answers 0 or 1 exactly where the bundle means both, 3
 /// and 4 as `check` does, and 5 exactly where the bundle means a design and no scenario.
 pub fn statuses_of_analyses()
-    ensures done { (what : Analysis) (root bundle : List ℕ) (status : ℕ) (text : List ℕ) → IsAnalysisAnswer what root bundle status text
+    ensures done { (what : Analysis) (root bundle : List ℕ) (status : ℕ) (text : List ℕ)
+        → IsAnalysisAnswer what root bundle status text
         → (status < 2) ↔ MeansScenario root bundle (command_of what root) }
-    ensures text { (what : Analysis) (root bundle : List ℕ) (status : ℕ) (text : List ℕ) → IsAnalysisAnswer what root bundle status text
+    ensures text { (what : Analysis) (root bundle : List ℕ) (status : ℕ) (text : List ℕ)
+        → IsAnalysisAnswer what root bundle status text
         → (status ≡ 3) ↔ (HasTree bundle → ⊥) }
-    ensures design { (what : Analysis) (root bundle : List ℕ) (status : ℕ) (text : List ℕ) → IsAnalysisAnswer what root bundle status text
+    ensures design { (what : Analysis) (root bundle : List ℕ) (status : ℕ) (text : List ℕ)
+        → IsAnalysisAnswer what root bundle status text
         → (status ≡ 4) ↔ (HasTree bundle × (MeansDesign root bundle → ⊥)) }
-    ensures scenario { (what : Analysis) (root bundle : List ℕ) (status : ℕ) (text : List ℕ) → IsAnalysisAnswer what root bundle status text
+    ensures scenario { (what : Analysis) (root bundle : List ℕ) (status : ℕ) (text : List ℕ)
+        → IsAnalysisAnswer what root bundle status text
         → (status ≡ 5) ↔ (MeansDesign root bundle × (MeansScenario root bundle (command_of what root) → ⊥)) }
 {
     one_design();
@@ -54,21 +58,28 @@ pub fn statuses_of_analyses()
 /// where the bundle has no scenario for it, or what is made of the scenario has this status; and a
 /// command that is no run answers 0, 1 or 6 exactly where what is made of the scenario has this status.
 pub fn statuses_of_executions()
-    ensures text { (what : Execution) (root bundle : List ℕ) (status : ℕ) (text : List ℕ) → IsExecutionAnswer what root bundle status text
+    ensures text { (what : Execution) (root bundle : List ℕ) (status : ℕ) (text : List ℕ)
+        → IsExecutionAnswer what root bundle status text
         → (status ≡ 3) ↔ (HasTree bundle → ⊥) }
-    ensures design { (what : Execution) (root bundle : List ℕ) (status : ℕ) (text : List ℕ) → IsExecutionAnswer what root bundle status text
+    ensures design { (what : Execution) (root bundle : List ℕ) (status : ℕ) (text : List ℕ)
+        → IsExecutionAnswer what root bundle status text
         → (status ≡ 4) ↔ (HasTree bundle × (MeansDesign root bundle → ⊥)) }
-    ensures code { (what : Execution) (root bundle : List ℕ) (status : ℕ) (text : List ℕ) → IsExecutionAnswer what root bundle status text
+    ensures code { (what : Execution) (root bundle : List ℕ) (status : ℕ) (text : List ℕ)
+        → IsExecutionAnswer what root bundle status text
         → (status ≡ 13) ↔ HasLongCode root bundle }
-    ensures scenario { (what : Execution) (root bundle : List ℕ) (status : ℕ) (text : List ℕ) → IsExecutionAnswer what root bundle status text
+    ensures scenario { (what : Execution) (root bundle : List ℕ) (status : ℕ) (text : List ℕ)
+        → IsExecutionAnswer what root bundle status text
         → (status ≡ 5) ↔ (LacksScenario what root bundle ⊎ GivesStatus what root bundle 5) }
-    ensures done { (what : Execution) (root bundle : List ℕ) (status : ℕ) (text : List ℕ) → is_run (execution_command what root) ≡ false
+    ensures done { (what : Execution) (root bundle : List ℕ) (status : ℕ) (text : List ℕ)
+        → is_run (execution_command what root) ≡ false
         → IsExecutionAnswer what root bundle status text
         → (status ≡ 0) ↔ GivesStatus what root bundle 0 }
-    ensures not_so { (what : Execution) (root bundle : List ℕ) (status : ℕ) (text : List ℕ) → is_run (execution_command what root) ≡ false
+    ensures not_so { (what : Execution) (root bundle : List ℕ) (status : ℕ) (text : List ℕ)
+        → is_run (execution_command what root) ≡ false
         → IsExecutionAnswer what root bundle status text
         → (status ≡ 1) ↔ GivesStatus what root bundle 1 }
-    ensures stop { (what : Execution) (root bundle : List ℕ) (status : ℕ) (text : List ℕ) → is_run (execution_command what root) ≡ false
+    ensures stop { (what : Execution) (root bundle : List ℕ) (status : ℕ) (text : List ℕ)
+        → is_run (execution_command what root) ≡ false
         → IsExecutionAnswer what root bundle status text
         → (status ≡ 6) ↔ GivesStatus what root bundle 6 }
 {

@@ -103,7 +103,8 @@ fn begins_action(reader: &Reader<'_>, at: usize) -> bool
 /// A loop of its head and its body.
 fn turns(head: LoopHead, at: usize, body: Block) -> Loop
     ensures { loop_view kept_place result
-        ≡ loop at (identifier_view kept_place head.variable) (reference_view kept_place head.data_type) head.low head.high (block_view kept_place body) }
+        ≡ loop at (identifier_view kept_place head.variable) (reference_view kept_place head.data_type) head.low
+        head.high (block_view kept_place body) }
 {
     let LoopHead {
         variable,
@@ -181,7 +182,8 @@ fn repetition(reader: &Reader<'_>, at: usize, room: usize) -> Parsed<(LoopHead, 
 /// `"(" expression ")" actions { elsif } [ "else" actions ] "end" "if"`
 #[cycle(action)]
 fn choice(reader: &Reader<'_>, at: usize, room: usize) -> Parsed<Choice>
-    ensures { Parses reader.now (Room room) (s.test ∷ s.actions ∷ s.elsifs ∷ s.otherwise ∷ s.end_if ∷ []) (λ x. choice_parts x) at result }
+    ensures { Parses reader.now (Room room) (s.test ∷ s.actions ∷ s.elsifs ∷ s.otherwise ∷ s.end_if ∷ [])
+        (λ x. choice_parts x) at result }
 {
     let (test, next) = test(reader, at, room)?;
     let (actions, next) = actions(reader, next, room)?;
@@ -201,7 +203,8 @@ fn choice(reader: &Reader<'_>, at: usize, room: usize) -> Parsed<Choice>
 /// `{ "elsif" "(" expression ")" actions }`
 #[cycle(action)]
 fn elsifs(reader: &Reader<'_>, at: usize, room: usize) -> Parsed<Vec<Elsif>>
-    ensures { Parses reader.now (Room room) (s.elsifs ∷ []) (λ x. elsifs_parts (elsifs_view kept_place x.items)) at result }
+    ensures { Parses reader.now (Room room) (s.elsifs ∷ [])
+        (λ x. elsifs_parts (elsifs_view kept_place x.items)) at result }
 {
     let mut found = Vec::new(reader.alloc);
     let mut rest = at;
@@ -231,7 +234,8 @@ fn otherwise(reader: &Reader<'_>, at: usize, room: usize) -> Parsed<Option<Box<A
 /// `action { ";" action } [ ";" ]`
 #[cycle(action)]
 fn actions(reader: &Reader<'_>, at: usize, room: usize) -> Parsed<Actions>
-    ensures { Parses reader.now (Room room) (s.actions ∷ []) (λ x. actions_parts (actions_view kept_place x)) at result }
+    ensures { Parses reader.now (Room room) (s.actions ∷ [])
+        (λ x. actions_parts (actions_view kept_place x)) at result }
 {
     let (first, mut rest) = action(reader, at, room)?;
     let mut others = Vec::new(reader.alloc);

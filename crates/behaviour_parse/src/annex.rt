@@ -26,7 +26,8 @@ use aadl_tree::{
 
 /// `id { "," id } ":" reference [ properties ] ";"`
 fn variable(reader: &Reader<'_>, at: usize, room: usize) -> Parsed<VariableDeclaration>
-    ensures { Parses reader.now (Room room) (s.variable ∷ []) (λ x. variable_parts (variable_view kept_place x)) at result }
+    ensures { Parses reader.now (Room room) (s.variable ∷ [])
+        (λ x. variable_parts (variable_view kept_place x)) at result }
 {
     let (names, next) = identifiers(reader, at)?;
     let colon = reader.expect(next, Mark::Colon)?;
@@ -48,7 +49,8 @@ fn variables(
     room: usize,
 ) -> Parsed<Option<Vec<VariableDeclaration>>>
     ensures { Parses reader.now (Room room) (s.variables ∷ [])
-        (λ x. parts_if (declared_parts k.Variables variable_parts) (option_map (λ xs. map (variable_view kept_place) xs.items) x)) at result }
+        (λ x. parts_if (declared_parts k.Variables variable_parts)
+        (option_map (λ xs. map (variable_view kept_place) xs.items) x)) at result }
 {
     let Some(next) = reader.take(at, Mark::Variables) else {
         return Ok((None, at));
@@ -79,7 +81,8 @@ fn state(reader: &Reader<'_>, at: usize) -> Parsed<StateDeclaration>
 /// `[ "states" { state } ]`
 fn states(reader: &Reader<'_>, at: usize) -> Parsed<Option<Vec<StateDeclaration>>>
     ensures { Parses reader.now AnyRoom (s.states ∷ [])
-        (λ x. parts_if (declared_parts k.States state_parts) (option_map (λ xs. map (state_view kept_place) xs.items) x)) at result }
+        (λ x. parts_if (declared_parts k.States state_parts)
+        (option_map (λ xs. map (state_view kept_place) xs.items) x)) at result }
 {
     let Some(next) = reader.take(at, Mark::States) else {
         return Ok((None, at));
@@ -114,7 +117,8 @@ fn guard(reader: &Reader<'_>, at: usize, room: usize) -> Parsed<Option<Guard>>
 /// `"-[" [ guard ] "]->"`
 fn guarded(reader: &Reader<'_>, at: usize, room: usize) -> Parsed<Option<Guard>>
     ensures { Parses reader.now (Room room) (s.guarded ∷ [])
-        (λ x. plain k.GuardOpen ∷ (parts_if guard_parts (option_map (guard_view kept_place) x) ++ plain k.GuardClose ∷ [])) at result }
+        (λ x. plain k.GuardOpen ∷ (parts_if guard_parts (option_map (guard_view kept_place) x) ++ plain k.GuardClose
+        ∷ [])) at result }
 {
     let Some(next) = reader.take(at, Mark::GuardOpen) else {
         return Err(ParseFault::Syntax {
@@ -158,7 +162,8 @@ fn departure(
 ) -> Parsed<(Option<Identifier>, Option<Guard>)>
     ensures { Parses reader.now (Room room) (s.after_word ∷ [])
         (λ x. parts_if (behind k.Colon identifier_parts) (option_map (identifier_view kept_place) x.0)
-        ++ (plain k.GuardOpen ∷ (parts_if guard_parts (option_map (guard_view kept_place) x.1) ++ plain k.GuardClose ∷ []))) at result }
+        ++ (plain k.GuardOpen ∷ (parts_if guard_parts (option_map (guard_view kept_place) x.1) ++ plain k.GuardClose
+        ∷ []))) at result }
 {
     let Some(colon) = reader.take(at, Mark::Colon) else {
         let (guard, end) = guarded(reader, at, room)?;
@@ -171,8 +176,10 @@ fn departure(
 
 /// The label and the source of a transition: one word, or two with `:` between them.
 fn labelled(first: Identifier, second: Option<Identifier>) -> (Option<Identifier>, Identifier)
-    ensures { parts_if label_parts (option_map (identifier_view kept_place) result.0) ++ identifier_parts (identifier_view kept_place result.1)
-        ≡ identifier_parts (identifier_view kept_place first) ++ parts_if (behind k.Colon identifier_parts) (option_map (identifier_view kept_place) second) }
+    ensures { parts_if label_parts (option_map (identifier_view kept_place) result.0)
+        ++ identifier_parts (identifier_view kept_place result.1)
+        ≡ identifier_parts (identifier_view kept_place first)
+        ++ parts_if (behind k.Colon identifier_parts) (option_map (identifier_view kept_place) second) }
 {
     match second {
         Some(source) => (Some(first), source),
@@ -182,7 +189,8 @@ fn labelled(first: Identifier, second: Option<Identifier>) -> (Option<Identifier
 
 /// `[ id ":" ] id "-[" [ guard ] "]->" id [ block ] ";"`
 fn transition(reader: &Reader<'_>, at: usize, room: usize) -> Parsed<Transition>
-    ensures { Parses reader.now (Room room) (s.transition ∷ []) (λ x. transition_parts (transition_view kept_place x)) at result }
+    ensures { Parses reader.now (Room room) (s.transition ∷ [])
+        (λ x. transition_parts (transition_view kept_place x)) at result }
 {
     let (first, next) = identifier(reader, at)?;
     let ((second, guard), next) = departure(reader, next, room)?;
@@ -201,7 +209,8 @@ fn transition(reader: &Reader<'_>, at: usize, room: usize) -> Parsed<Transition>
 /// `[ "transitions" { transition } ]`
 fn transitions(reader: &Reader<'_>, at: usize, room: usize) -> Parsed<Option<Vec<Transition>>>
     ensures { Parses reader.now (Room room) (s.transitions ∷ [])
-        (λ x. parts_if (declared_parts k.Transitions transition_parts) (option_map (λ xs. map (transition_view kept_place) xs.items) x)) at result }
+        (λ x. parts_if (declared_parts k.Transitions transition_parts)
+        (option_map (λ xs. map (transition_view kept_place) xs.items) x)) at result }
 {
     let Some(next) = reader.take(at, Mark::Transitions) else {
         return Ok((None, at));
@@ -214,7 +223,8 @@ fn transitions(reader: &Reader<'_>, at: usize, room: usize) -> Parsed<Option<Vec
 /// The body of a behaviour annex, without the `{**` and the `**}` round it:
 /// `[ variables ] [ states ] [ transitions ]`.
 pub fn body(reader: &Reader<'_>, at: usize, room: usize) -> Parsed<AnnexTree>
-    ensures { Parses reader.now (Room room) annex_body (λ x. annex_tree_parts (annex_tree_view kept_place x)) at result }
+    ensures { Parses reader.now (Room room) annex_body
+        (λ x. annex_tree_parts (annex_tree_view kept_place x)) at result }
 {
     let (variables, next) = variables(reader, at, room)?;
     let (states, next) = states(reader, next)?;

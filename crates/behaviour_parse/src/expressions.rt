@@ -31,7 +31,8 @@ fn fresh(reader: &Reader<'_>, at: usize) -> Parsed<bool>
 /// `whole | "true" | "false" | id [ "'" "fresh" ] | "(" expression ")"`
 #[cycle(expression)]
 fn primary(reader: &Reader<'_>, at: usize, room: usize) -> Parsed<Primary>
-    ensures { Parses reader.now (Room room) (s.primary ∷ []) (λ x. primary_parts (primary_view kept_place x)) at result }
+    ensures { Parses reader.now (Room room) (s.primary ∷ [])
+        (λ x. primary_parts (primary_view kept_place x)) at result }
 {
     let place = reader.place(at);
     if let Some(next) = reader.take(at, Mark::ParenOpen) {
@@ -202,7 +203,8 @@ fn comparing(reader: &Reader<'_>, at: usize) -> Option<(RelationOperator, usize)
 /// `sum [ ( "=" | "!=" | "<" | "<=" | ">" | ">=" ) sum ]`
 #[cycle(expression)]
 fn relation(reader: &Reader<'_>, at: usize, room: usize) -> Parsed<Relation>
-    ensures { Parses reader.now (Room room) (s.relation ∷ []) (λ x. relation_parts (relation_view kept_place x)) at result }
+    ensures { Parses reader.now (Room room) (s.relation ∷ [])
+        (λ x. relation_parts (relation_view kept_place x)) at result }
 {
     let (left, next) = sum(reader, at, room)?;
     let Some((operator, behind)) = comparing(reader, next) else {
@@ -219,7 +221,8 @@ fn relation(reader: &Reader<'_>, at: usize, room: usize) -> Parsed<Relation>
 
 /// `"and" | "or" | "xor" | "and" "then" | "or" "else"`
 fn joining(reader: &Reader<'_>, at: usize) -> Option<(LogicOperator, usize)>
-    ensures { MatchOption result (MissAll (rows s.relations) (here reader.now at)) (λ x. Joins x.0 (here reader.now at) (here reader.now x.1)) }
+    ensures { MatchOption result (MissAll (rows s.relations) (here reader.now at))
+        (λ x. Joins x.0 (here reader.now at) (here reader.now x.1)) }
 {
     if let Some(next) = reader.take(at, Mark::And) {
         return match reader.take(next, Mark::Then) {
@@ -242,7 +245,8 @@ fn joining(reader: &Reader<'_>, at: usize) -> Option<(LogicOperator, usize)>
 /// `relation { ( "and" | "or" | "xor" | "and" "then" | "or" "else" ) relation }`
 #[cycle(expression)]
 pub fn expression(reader: &Reader<'_>, at: usize, room: usize) -> Parsed<Expression>
-    ensures { Parses reader.now (Room room) (s.expression ∷ []) (λ x. expression_parts (expression_view kept_place x)) at result }
+    ensures { Parses reader.now (Room room) (s.expression ∷ [])
+        (λ x. expression_parts (expression_view kept_place x)) at result }
 {
     let (first, mut rest) = relation(reader, at, room)?;
     let mut others = Vec::new(reader.alloc);

@@ -63,12 +63,16 @@ pub fn parse_annex(alloc: Global, text: &[u8], tokens: &[Token]) -> Result<Annex
 /// Tokens are a behaviour, or stop being the beginning of one at one place, or are nested too deep
 /// at one place: no two of these hold.
 pub fn one_answer()
-    ensures tree { (text : List ℕ) (tokens : List Token) (t u : Tree ℕ) → IsBehaviourOf text tokens t → IsBehaviourOf text tokens u → t ≡ u }
-    ensures stop { (text : List ℕ) (tokens : List Token) (a b : ℕ) → BehaviourStopsAt text tokens a → BehaviourStopsAt text tokens b → a ≡ b }
-    ensures nest { (text : List ℕ) (tokens : List Token) (a b : ℕ) → BehaviourNestsAt text tokens a → BehaviourNestsAt text tokens b → a ≡ b }
+    ensures tree { (text : List ℕ) (tokens : List Token) (t u : Tree ℕ) → IsBehaviourOf text tokens t
+        → IsBehaviourOf text tokens u → t ≡ u }
+    ensures stop { (text : List ℕ) (tokens : List Token) (a b : ℕ) → BehaviourStopsAt text tokens a
+        → BehaviourStopsAt text tokens b → a ≡ b }
+    ensures nest { (text : List ℕ) (tokens : List Token) (a b : ℕ) → BehaviourNestsAt text tokens a
+        → BehaviourNestsAt text tokens b → a ≡ b }
     ensures tree_or_stop { (text : List ℕ) (tokens : List Token) (t : Tree ℕ) (a : ℕ)
         → IsBehaviourOf text tokens t → ¬ BehaviourStopsAt text tokens a }
     ensures tree_or_nest { (text : List ℕ) (tokens : List Token) (t : Tree ℕ) (a : ℕ)
         → IsBehaviourOf text tokens t → ¬ BehaviourNestsAt text tokens a }
-    ensures stop_or_nest { (text : List ℕ) (tokens : List Token) (a b : ℕ) → BehaviourStopsAt text tokens a → ¬ BehaviourNestsAt text tokens b }
+    ensures stop_or_nest { (text : List ℕ) (tokens : List Token) (a b : ℕ) → BehaviourStopsAt text tokens a
+        → ¬ BehaviourNestsAt text tokens b }
 {}

@@ -19,7 +19,8 @@ pub fn run_all(
     outs: &mut [PortValue],
     inputs: StepInputs,
 ) -> Result<(), EarlyEnd>
-    ensures runs { Runs result (acts (actions_along actions.now)) inputs.entry (vars.old, outs.old) (vars.new, outs.new) }
+    ensures runs { Runs result (acts (actions_along actions.now)) inputs.entry (vars.old, outs.old)
+        (vars.new, outs.new) }
     ensures len { length vars.new.items ≡ length vars.old.items }
 {
     for action in actions {
@@ -72,7 +73,8 @@ fn run_first(
     outs: &mut [PortValue],
     inputs: StepInputs,
 ) -> Result<bool, EarlyEnd>
-    ensures runs { RunsFirst result (branches_along branches.now) inputs.entry (vars.old, outs.old) (vars.new, outs.new) }
+    ensures runs { RunsFirst result (branches_along branches.now) inputs.entry (vars.old, outs.old)
+        (vars.new, outs.new) }
     ensures len { length vars.new.items ≡ length vars.old.items }
 {
     for branch in branches {
@@ -94,7 +96,8 @@ fn run_turns(
     outs: &mut [PortValue],
     inputs: StepInputs,
 ) -> Result<(), EarlyEnd>
-    ensures runs { Runs result (act (For low high (actions_along body.now))) inputs.entry (vars.old, outs.old) (vars.new, outs.new) }
+    ensures runs { Runs result (act (For low high (actions_along body.now))) inputs.entry (vars.old, outs.old)
+        (vars.new, outs.new) }
     ensures len { length vars.new.items ≡ length vars.old.items }
 {
     for number in low..=high {
@@ -113,7 +116,8 @@ fn run_turn(
     outs: &mut [PortValue],
     inputs: StepInputs,
 ) -> Result<(), EarlyEnd>
-    ensures runs { Runs result (turn number (actions_along body.now)) inputs.entry (vars.old, outs.old) (vars.new, outs.new) }
+    ensures runs { Runs result (turn number (actions_along body.now)) inputs.entry (vars.old, outs.old)
+        (vars.new, outs.new) }
     ensures len { length vars.new.items ≡ length vars.old.items }
 {
     let depth = vars.len();

@@ -115,7 +115,8 @@ fn react_in(
 ) -> Result<(), EarlyEnd>
     requires { frame.old.halt ≡ None }
     ensures reacts { IsStepResult result (record { frame = frame.new; outs = outs.new })
-        (reacted behaviour.now frame.old.state (map is_present present.now) (record { frame = frame.old; outs = outs.old })) }
+        (reacted behaviour.now frame.old.state (map is_present present.now)
+        (record { frame = frame.old; outs = outs.old })) }
     ensures vars { length frame.new.vars ≡ length frame.old.vars }
     ensures held { frame.new.held ≡ frame.old.held }
 {

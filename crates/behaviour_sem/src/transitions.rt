@@ -61,7 +61,8 @@ fn follow(
     outs: &mut [PortValue],
     inputs: StepInputs,
 ) -> Result<(), EarlyEnd>
-    ensures leads { Leads result (along (Some transition.now)) inputs.entry (place.old, outs.old) (place.new, outs.new) }
+    ensures leads { Leads result (along (Some transition.now)) inputs.entry (place.old, outs.old)
+        (place.new, outs.new) }
     ensures len { length place.new.vars.items ≡ length place.old.vars.items }
 {
     run_all(&transition.acts, &mut place.vars, outs, inputs)?;
@@ -76,7 +77,8 @@ fn dispatch(
     outs: &mut [PortValue],
     inputs: StepInputs,
 ) -> Result<(), EarlyEnd>
-    ensures leads { Leads result (along (dispatch_from place.old.state transitions.now)) inputs.entry (place.old, outs.old) (place.new, outs.new) }
+    ensures leads { Leads result (along (dispatch_from place.old.state transitions.now)) inputs.entry
+        (place.old, outs.old) (place.new, outs.new) }
     ensures len { length place.new.vars.items ≡ length place.old.vars.items }
 {
     for transition in transitions {
@@ -112,7 +114,8 @@ fn settle(
     outs: &mut [PortValue],
     inputs: StepInputs,
 ) -> Result<(), EarlyEnd>
-    ensures leads { Leads result (settled (length behaviour.now.states) behaviour.now) inputs.entry (place.old, outs.old) (place.new, outs.new) }
+    ensures leads { Leads result (settled (length behaviour.now.states) behaviour.now) inputs.entry
+        (place.old, outs.old) (place.new, outs.new) }
     ensures len { length place.new.vars.items ≡ length place.old.vars.items }
 {
     for _ in 0..behaviour.states().len() {
@@ -132,7 +135,8 @@ pub fn react(
     outs: &mut [PortValue],
     inputs: StepInputs,
 ) -> Result<(), EarlyEnd>
-    ensures leads { Leads result (reacted behaviour.now place.old.state) inputs.entry (place.old, outs.old) (place.new, outs.new) }
+    ensures leads { Leads result (reacted behaviour.now place.old.state) inputs.entry (place.old, outs.old)
+        (place.new, outs.new) }
     ensures len { length place.new.vars.items ≡ length place.old.vars.items }
 {
     dispatch(behaviour.transitions(), place, outs, inputs)?;

@@ -124,7 +124,8 @@ fn add_numbered<'a>(
     name: LineWord<'a>,
 ) -> Result<(), NoMemory>
     ensures ok { OnOk result (out.new.items ≡ out.old.items
-        ++ spaced ([] ∷ [] ∷ word_text place.entry ∷ word_text operation.entry ∷ decimal number ∷ word_text name.entry ∷ []) ++ line_end) }
+        ++ spaced ([] ∷ [] ∷ word_text place.entry ∷ word_text operation.entry ∷ decimal number ∷ word_text name.entry
+        ∷ []) ++ line_end) }
     ensures err { OnErr result (out.new.items ≡ out.old.items) }
 {
     let indent = LineWord::Bytes(b"");

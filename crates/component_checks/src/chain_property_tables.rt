@@ -29,7 +29,8 @@ fn connections_of(
     alloc: Global,
     connections: &[Connection],
 ) -> Result<ItemList<ChainProperties>, NoMemory>
-    ensures { IfOk result (λ carried. carried ≡ map (λ c. spec.carried_by c.properties) (map (connection_view kept_place) connections.now)) }
+    ensures { IfOk result (λ carried. carried
+        ≡ map (λ c. spec.carried_by c.properties) (map (connection_view kept_place) connections.now)) }
 {
     let mut carried = ItemList::new(alloc);
     for connection in connections {
@@ -43,7 +44,8 @@ fn connections_in(
     alloc: Global,
     declaration: &Declaration,
 ) -> Result<ItemList<ChainProperties>, NoMemory>
-    ensures { IfOk result (λ carried. carried ≡ spec.connections_carried (declaration_view kept_place declaration.now)) }
+    ensures { IfOk result (λ carried. carried
+        ≡ spec.connections_carried (declaration_view kept_place declaration.now)) }
 {
     match declaration {
         Declaration::Type(_) => Ok(ItemList::new(alloc)),

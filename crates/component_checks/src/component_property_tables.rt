@@ -84,7 +84,8 @@ pub fn all_own(
     types: &[ComponentProperties],
 ) -> Result<ItemList<ComponentProperties>, NoMemory>
     requires { types.now ≡ map spec.type_timed (placed uses.now.names.tree.now).declarations }
-    ensures { IfOk result (λ own. own ≡ map (spec.own_timed (placed uses.now.names.tree.now)) (placed uses.now.names.tree.now).declarations) }
+    ensures { IfOk result (λ own. own ≡ map (spec.own_timed (placed uses.now.names.tree.now))
+        (placed uses.now.names.tree.now).declarations) }
 {
     let mut own = ItemList::new(alloc);
     for number in 0..uses.len() {
@@ -95,7 +96,8 @@ pub fn all_own(
 
 // What a subcomponent says, its implementation and that one's type.
 fn sub_of(uses: &Uses<'_>, own: &[ComponentProperties], at: SubAt) -> ComponentProperties
-    requires { own.now ≡ map (spec.own_timed (placed uses.now.names.tree.now)) (placed uses.now.names.tree.now).declarations }
+    requires { own.now ≡ map (spec.own_timed (placed uses.now.names.tree.now))
+        (placed uses.now.names.tree.now).declarations }
     ensures { result ≡ timed_by (lists_at (placed uses.now.names.tree.now) at) }
 {
     let Some(sub) = uses.subcomponent(at.declaration, at.sub) else {
@@ -112,7 +114,8 @@ fn subs_of(
     own: &[ComponentProperties],
     declaration: usize,
 ) -> Result<ItemList<ComponentProperties>, NoMemory>
-    requires { own.now ≡ map (spec.own_timed (placed uses.now.names.tree.now)) (placed uses.now.names.tree.now).declarations }
+    requires { own.now ≡ map (spec.own_timed (placed uses.now.names.tree.now))
+        (placed uses.now.names.tree.now).declarations }
     ensures { IfOk result (λ timed. timed ≡ map (spec.sub_timed (placed uses.now.names.tree.now))
         (subcomponents_of (implementation_at (placed uses.now.names.tree.now) declaration))) }
 {
@@ -129,8 +132,10 @@ pub fn all_of_subs(
     uses: &Uses<'_>,
     own: &[ComponentProperties],
 ) -> Result<ItemList<ItemList<ComponentProperties>>, NoMemory>
-    requires { own.now ≡ map (spec.own_timed (placed uses.now.names.tree.now)) (placed uses.now.names.tree.now).declarations }
-    ensures { IfOk result (λ subs. subs ≡ map (spec.subs_timed (placed uses.now.names.tree.now)) (placed uses.now.names.tree.now).declarations) }
+    requires { own.now ≡ map (spec.own_timed (placed uses.now.names.tree.now))
+        (placed uses.now.names.tree.now).declarations }
+    ensures { IfOk result (λ subs. subs ≡ map (spec.subs_timed (placed uses.now.names.tree.now))
+        (placed uses.now.names.tree.now).declarations) }
 {
     let mut subs = ItemList::new(alloc);
     for declaration in 0..uses.len() {

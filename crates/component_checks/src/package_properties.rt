@@ -33,7 +33,8 @@ pub struct Properties<'t> {
     /// The package with what is looked up of it.
     pub uses: &'t Uses<'t>,
     said: PackageProperties,
-    ghost of_own: { said.own ≡ map (spec.own_timed (placed uses.now.names.tree.now)) (placed uses.now.names.tree.now).declarations } by { Prim.hlevel props },
+    ghost of_own: { said.own ≡ map (spec.own_timed (placed uses.now.names.tree.now))
+        (placed uses.now.names.tree.now).declarations } by { Prim.hlevel props },
     ghost of_subs: { said.subs
         ≡ map (spec.subs_timed (placed uses.now.names.tree.now)) (placed uses.now.names.tree.now).declarations } by { Prim.hlevel props },
     ghost of_connections: { said.connections ≡ map connections_carried (placed uses.now.names.tree.now).declarations } by { Prim.hlevel props },
@@ -47,7 +48,8 @@ impl Drop for Properties<'_> {
 
 // What implementations say, and their types.
 fn own_in(alloc: Global, uses: &Uses<'_>) -> Result<ItemList<ComponentProperties>, NoMemory>
-    ensures { IfOk result (λ own. own ≡ map (spec.own_timed (placed uses.now.names.tree.now)) (placed uses.now.names.tree.now).declarations) }
+    ensures { IfOk result (λ own. own ≡ map (spec.own_timed (placed uses.now.names.tree.now))
+        (placed uses.now.names.tree.now).declarations) }
 {
     let types = all_of_types(alloc, uses.names.tree)?;
     all_own(alloc, uses, types.as_slice())
@@ -55,9 +57,12 @@ fn own_in(alloc: Global, uses: &Uses<'_>) -> Result<ItemList<ComponentProperties
 
 // What the lists of a package say.
 fn said_in(alloc: Global, uses: &Uses<'_>) -> Result<PackageProperties, NoMemory>
-    ensures own { IfOk result (λ said. said.own ≡ map (spec.own_timed (placed uses.now.names.tree.now)) (placed uses.now.names.tree.now).declarations) }
-    ensures subs { IfOk result (λ said. said.subs ≡ map (spec.subs_timed (placed uses.now.names.tree.now)) (placed uses.now.names.tree.now).declarations) }
-    ensures connections { IfOk result (λ said. said.connections ≡ map connections_carried (placed uses.now.names.tree.now).declarations) }
+    ensures own { IfOk result (λ said. said.own
+        ≡ map (spec.own_timed (placed uses.now.names.tree.now)) (placed uses.now.names.tree.now).declarations) }
+    ensures subs { IfOk result (λ said. said.subs
+        ≡ map (spec.subs_timed (placed uses.now.names.tree.now)) (placed uses.now.names.tree.now).declarations) }
+    ensures connections { IfOk result (λ said. said.connections
+        ≡ map connections_carried (placed uses.now.names.tree.now).declarations) }
 {
     let connections = all_of_connections(alloc, uses.names.tree)?;
     let own = own_in(alloc, uses)?;
@@ -106,7 +111,8 @@ impl<'t> Properties<'t> {
     /// What is said of a component by its own places alone: the subcomponent that it is, its
     /// implementation and its type.
     pub fn of_component(&self, subs: &[SubAt]) -> ComponentProperties
-        ensures { result ≡ timed_by (sub_lists (placed self.now.uses.now.names.tree.now) (innermost (placed self.now.uses.now.names.tree.now) subs.now)) }
+        ensures { result ≡ timed_by (sub_lists (placed self.now.uses.now.names.tree.now)
+            (innermost (placed self.now.uses.now.names.tree.now) subs.now)) }
     {
         match subs.last() {
             Some(sub) => self.of_sub(*sub),
@@ -117,7 +123,8 @@ impl<'t> Properties<'t> {
     /// What a connection says of the chains that it carries.
     pub fn of_connection(&self, declaration: usize, connection: usize) -> Option<ChainProperties>
         ensures { result ≡ option_map (λ c. carried_by c.properties)
-            (slice_get (connections_of (implementation_at (placed self.now.uses.now.names.tree.now) declaration)) connection) }
+            (slice_get (connections_of (implementation_at (placed self.now.uses.now.names.tree.now) declaration))
+            connection) }
     {
         carried_at(self.said.connections.as_slice(), declaration, connection)
     }

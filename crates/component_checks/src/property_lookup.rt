@@ -26,7 +26,8 @@ pub fn sub_of<'t>(tree: &'t PackageTree, sub: SubAt) -> Option<&'t Subcomponent>
 #[tactic(auto, using(aadl_tree::proofs::ValueViews::view_out_association))]
 fn gives(association: &Association, property: PropertyName) -> bool
     ensures { result
-        ≡ (counts (association_view kept_place association.now) && is_named (name_of property) (association_view kept_place association.now)) }
+        ≡ (counts (association_view kept_place association.now) && is_named (name_of property)
+        (association_view kept_place association.now)) }
 {
     association.applies_to.is_empty() && is_spelled(&association.name, property.name())
 }
@@ -51,7 +52,8 @@ fn type_property<'t>(
     property: PropertyName,
 ) -> Option<&'t Association>
     ensures { option_map (association_view kept_place) (option_copied result)
-        ≡ spec.first_in property (spec.type_lists (type_numbered (placed uses.now.names.tree.now) (type_number_at (placed uses.now.names.tree.now) number))) }
+        ≡ spec.first_in property (spec.type_lists
+        (type_numbered (placed uses.now.names.tree.now) (type_number_at (placed uses.now.names.tree.now) number))) }
 {
     match type_numbered(uses.names.tree, uses.type_number(number)) {
         Some(of_type) => property_in(of_type.properties.as_slice(), property),
@@ -79,7 +81,8 @@ pub fn root_property<'t>(
 
 /// The subcomponent that a component is.
 pub fn innermost<'t>(tree: &'t PackageTree, subs: &[SubAt]) -> Option<&'t Subcomponent>
-    ensures { option_map (subcomponent_view kept_place) (option_copied result) ≡ spec.innermost (placed tree.now) subs.now }
+    ensures { option_map (subcomponent_view kept_place) (option_copied result)
+        ≡ spec.innermost (placed tree.now) subs.now }
 {
     match subs.last() {
         Some(sub) => sub_of(tree, *sub),

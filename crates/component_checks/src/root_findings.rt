@@ -109,7 +109,8 @@ fn add_zero_skew(
     given: Option<&Association>,
     found: &mut ItemList<Violation>,
 ) -> Result<(), NoMemory>
-    ensures { OnOk result (found.new ≡ found.old ++ spec.zero_skew (option_map (association_view kept_place) (option_copied given.entry))) }
+    ensures { OnOk result (found.new ≡ found.old
+        ++ spec.zero_skew (option_map (association_view kept_place) (option_copied given.entry))) }
 {
     let Some(given) = given else {
         return Ok(());
@@ -142,7 +143,8 @@ fn add_reversed_range(
     given: Option<&Association>,
     found: &mut ItemList<Violation>,
 ) -> Result<(), NoMemory>
-    ensures { OnOk result (found.new ≡ found.old ++ spec.reversed_range property (option_map (association_view kept_place) (option_copied given.entry))) }
+    ensures { OnOk result (found.new ≡ found.old
+        ++ spec.reversed_range property (option_map (association_view kept_place) (option_copied given.entry))) }
 {
     let Some(given) = given else {
         return Ok(());
@@ -194,7 +196,8 @@ pub fn add_root_findings(
     found: &mut ItemList<Violation>,
 ) -> Result<(), NoMemory>
     requires { rate ≤ RATE }
-    ensures { OnOk result (found.new ≡ found.old ++ spec.root_findings (placed properties.now.uses.now.names.tree.now) root rate) }
+    ensures { OnOk result (found.new ≡ found.old
+        ++ spec.root_findings (placed properties.now.uses.now.names.tree.now) root rate) }
 {
     let uses = properties.uses;
     add_missing_findings(alloc, uses, root, found)?;

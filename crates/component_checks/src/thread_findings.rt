@@ -62,7 +62,8 @@ pub fn add_thread_findings(
     thread: &ThreadAt,
     found: &mut ItemList<Violation>,
 ) -> Result<(), NoMemory>
-    ensures { OnOk result (found.new ≡ found.old ++ spec.thread_findings (placed properties.now.uses.now.names.tree.now) root thread.now) }
+    ensures { OnOk result (found.new ≡ found.old
+        ++ spec.thread_findings (placed properties.now.uses.now.names.tree.now) root thread.now) }
 {
     let uses = properties.uses;
     let at = thread_place(uses.names.tree, thread);

@@ -187,7 +187,8 @@ fn add_big_as(
     property: PropertyName,
     found: &mut ItemList<Violation>,
 ) -> Result<(), NoMemory>
-    ensures { OnOk result (found.new ≡ found.old ++ spec.big_as (association_view kept_place association.now) property) }
+    ensures { OnOk result (found.new ≡ found.old
+        ++ spec.big_as (association_view kept_place association.now) property) }
 {
     let named = is_spelled(&association.name, property.name());
     if named && is_too_big(property, &association.value) {
@@ -207,7 +208,8 @@ fn add_association_big(
     association: &Association,
     found: &mut ItemList<Violation>,
 ) -> Result<(), NoMemory>
-    ensures { OnOk result (found.new ≡ found.old ++ spec.association_big holder (association_view kept_place association.now)) }
+    ensures { OnOk result (found.new ≡ found.old
+        ++ spec.association_big holder (association_view kept_place association.now)) }
 {
     for property in holder.recognised() {
         add_big_as(alloc, association, *property, found)?;
@@ -224,7 +226,8 @@ fn add_counted_big(
     association: &Association,
     found: &mut ItemList<Violation>,
 ) -> Result<(), NoMemory>
-    ensures { OnOk result (found.new ≡ found.old ++ spec.counted_big holder (association_view kept_place association.now)) }
+    ensures { OnOk result (found.new ≡ found.old
+        ++ spec.counted_big holder (association_view kept_place association.now)) }
 {
     if !association.applies_to.is_empty() {
         return Ok(());

@@ -49,7 +49,8 @@ pub fn add_port_findings(
     ports: &[Feature],
     found: &mut ItemList<Violation>,
 ) -> Result<(), NoMemory>
-    ensures { OnOk result (found.new ≡ found.old ++ flat_map spec.port_findings (map (feature_view kept_place) ports.now)) }
+    ensures { OnOk result (found.new ≡ found.old
+        ++ flat_map spec.port_findings (map (feature_view kept_place) ports.now)) }
 {
     for port in ports {
         let kind = kind_in(&port.data_type);
@@ -65,7 +66,8 @@ fn add_name_findings(
     names: &Identifiers,
     found: &mut ItemList<Violation>,
 ) -> Result<(), NoMemory>
-    ensures { OnOk result (found.new ≡ found.old ++ flat_map (spec.name_findings kind) (identifiers (identifiers_view kept_place names.now))) }
+    ensures { OnOk result (found.new ≡ found.old
+        ++ flat_map (spec.name_findings kind) (identifiers (identifiers_view kept_place names.now))) }
 {
     add_if(alloc, found, kind.is_none(), names.first.at, BAD_TYPE)?;
     for name in &names.rest {
@@ -124,7 +126,8 @@ fn add_first_findings(
     given: Option<&Association>,
     found: &mut ItemList<Violation>,
 ) -> Result<(), NoMemory>
-    ensures { OnOk result (found.new ≡ found.old ++ spec.first_findings kind (option_map (association_view kept_place) (option_copied given.entry))) }
+    ensures { OnOk result (found.new ≡ found.old
+        ++ spec.first_findings kind (option_map (association_view kept_place) (option_copied given.entry))) }
 {
     match given {
         Some(given) => expect(

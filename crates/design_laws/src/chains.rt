@@ -11,14 +11,18 @@ ghost use Rattle.design_laws.specs.proof.PortKinds.{port_kind};
 /// Where nothing is found in the declarations that are in use, all ports on a chain of connections have
 /// one type.
 pub fn chains_have_one_type()
-    ensures { (tree : PackageTree ℕ) (name : List ℕ) (parts : InstanceParts) (used : ℕ → Bool) → IsFlat tree name parts → IsUse tree parts.root used
-        → used_findings tree (shown_by tree parts) used ≡ [] → (chain : List ConnectionAt) (from to : Port) → Leads tree parts.root chain from to
+    ensures { (tree : PackageTree ℕ) (name : List ℕ) (parts : InstanceParts) (used : ℕ → Bool) → IsFlat tree name parts
+        → IsUse tree parts.root used
+        → used_findings tree (shown_by tree parts) used ≡ [] → (chain : List ConnectionAt) (from to : Port)
+        → Leads tree parts.root chain from to
         → port_kind tree parts.root from ≡ port_kind tree parts.root to }
 {}
 
 /// Chains that end at one port begin at one port.
 pub fn ports_have_one_start()
-    ensures { (tree : PackageTree ℕ) (name : List ℕ) (parts : InstanceParts) → IsFlat tree name parts → (first second : List ConnectionAt) (from other to : Port)
-        → IsStart tree parts.root from → IsStart tree parts.root other → Leads tree parts.root first from to → Leads tree parts.root second other to
+    ensures { (tree : PackageTree ℕ) (name : List ℕ) (parts : InstanceParts) → IsFlat tree name parts
+        → (first second : List ConnectionAt) (from other to : Port)
+        → IsStart tree parts.root from → IsStart tree parts.root other → Leads tree parts.root first from to
+        → Leads tree parts.root second other to
         → from ≡ other }
 {}

@@ -13,14 +13,16 @@ use crate::thread_behaviours::no_findings_make_a_thread_behave;
 /// An instance of a package whose names are words and differ, in which nothing is found, has a design,
 /// which keeps the rules of designs.
 pub fn accepted_instances_have_designs()
-    ensures { (tree : PackageTree ℕ) (s : ShownInstance) → AreNamed tree → IsShown tree s → NothingFound tree s → HasDesign tree s }
+    ensures { (tree : PackageTree ℕ) (s : ShownInstance) → AreNamed tree → IsShown tree s → NothingFound tree s
+        → HasDesign tree s }
 {
     no_findings_make_a_thread_behave();
 }
 
 /// An instance has one design at most.
 pub fn designs_are_one()
-    ensures { (tree : PackageTree ℕ) (s : ShownInstance) (a b : DesignParts) → IsDesignOf tree s a → IsDesignOf tree s b → a ≡ b }
+    ensures { (tree : PackageTree ℕ) (s : ShownInstance) (a b : DesignParts) → IsDesignOf tree s a → IsDesignOf tree s b
+        → a ≡ b }
 {}
 
 /// It is not so that an instance of a package whose names are words and differ, in which nothing is

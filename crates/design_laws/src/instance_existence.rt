@@ -20,5 +20,6 @@ pub fn first_faults_are_named()
 
 /// Of each instance there is a list of all that is wrong with it.
 pub fn each_instance_has_its_list()
-    ensures { (tree : PackageTree ℕ) (root : List ℕ) (parts : InstanceParts) → IsFlat tree root parts → HasList tree parts }
+    ensures { (tree : PackageTree ℕ) (root : List ℕ) (parts : InstanceParts) → IsFlat tree root parts
+        → HasList tree parts }
 {}

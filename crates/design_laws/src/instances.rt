@@ -17,7 +17,8 @@ pub fn no_violations_are_no_findings()
 /// Where nothing is found in an instance of a package whose names are words and differ, the behaviour
 /// of each of its threads keeps the rules of behaviours.
 pub fn behaviours_keep_their_rules()
-    ensures { (tree : PackageTree ℕ) (s : ShownInstance) → AreNamed tree → ∥ IsShown tree s ∥₁ → NothingFound tree s → All (HasRules tree) s.threads }
+    ensures { (tree : PackageTree ℕ) (s : ShownInstance) → AreNamed tree → ∥ IsShown tree s ∥₁ → NothingFound tree s
+        → All (HasRules tree) s.threads }
 {
     no_findings_make_a_thread_behave();
 }

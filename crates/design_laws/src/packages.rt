@@ -20,17 +20,20 @@ use crate::names::{names_differ, texts_name};
 
 /// A package has one instance at most.
 pub fn one_instance()
-    ensures { (tree : PackageTree ℕ) (root : List ℕ) (a b : InstanceParts) → IsFlat tree root a → IsFlat tree root b → a ≡ b }
+    ensures { (tree : PackageTree ℕ) (root : List ℕ) (a b : InstanceParts) → IsFlat tree root a → IsFlat tree root b
+        → a ≡ b }
 {}
 
 /// An instance has one list at most of all that is wrong with it.
 pub fn one_list()
-    ensures { (tree : PackageTree ℕ) (s : ShownInstance) (a b : List Violation) → AreViolations tree s a → AreViolations tree s b → a ≡ b }
+    ensures { (tree : PackageTree ℕ) (s : ShownInstance) (a b : List Violation) → AreViolations tree s a
+        → AreViolations tree s b → a ≡ b }
 {}
 
 /// A package has one design at most.
 pub fn one_design()
-    ensures { (tree : PackageTree ℕ) (root : List ℕ) (a b : DesignParts) → IsDesignIn tree root a → IsDesignIn tree root b → a ≡ b }
+    ensures { (tree : PackageTree ℕ) (root : List ℕ) (a b : DesignParts) → IsDesignIn tree root a
+        → IsDesignIn tree root b → a ≡ b }
 {
     designs_are_one();
 }
@@ -39,17 +42,22 @@ pub fn one_design()
 pub fn accepted_or_refused()
     ensures no_fault { (tree : PackageTree ℕ) (root : List ℕ) (design : DesignParts) (fault : PackageFault)
         → IsDesignIn tree root design → IsFault tree root fault → ⊥ }
-    ensures nothing_wrong { (tree : PackageTree ℕ) (root : List ℕ) (design : DesignParts) (parts : InstanceParts) (list : List Violation)
-        → IsDesignIn tree root design → IsFlat tree root parts → AreViolations tree (shown_by tree parts) list → list ≡ [] }
+    ensures nothing_wrong { (tree : PackageTree ℕ) (root : List ℕ) (design : DesignParts) (parts : InstanceParts)
+        (list : List Violation)
+        → IsDesignIn tree root design → IsFlat tree root parts → AreViolations tree (shown_by tree parts) list
+        → list ≡ [] }
 {}
 
 /// The design of a package that is read from a text keeps the rules of designs, and such a package
 /// has a design where it has an instance whose list of all that is wrong is empty. The design's
 /// period is at least the least one that the bound allows for the greatest rate of its components.
 pub fn designs_keep_their_rules()
-    ensures rules { (tree : source.PackageTree) (root : List ℕ) (design : DesignParts) → IsDesignIn (placed tree) root design → IsDesign design }
-    ensures there { (tree : source.PackageTree) (root : List ℕ) (parts : InstanceParts) → IsFlat (placed tree) root parts
-        → AreViolations (placed tree) (shown_by (placed tree) parts) [] → (design : DesignParts) × IsDesignIn (placed tree) root design }
+    ensures rules { (tree : source.PackageTree) (root : List ℕ) (design : DesignParts)
+        → IsDesignIn (placed tree) root design → IsDesign design }
+    ensures there { (tree : source.PackageTree) (root : List ℕ) (parts : InstanceParts)
+        → IsFlat (placed tree) root parts
+        → AreViolations (placed tree) (shown_by (placed tree) parts) []
+        → (design : DesignParts) × IsDesignIn (placed tree) root design }
     ensures bound { (tree : PackageTree ℕ) (root : List ℕ) (design : DesignParts) → IsDesignIn tree root design
         → least_period design.gamma (greatest_rate design.components) ≤ design.period }
 {
@@ -61,8 +69,10 @@ pub fn designs_keep_their_rules()
 /// The design of a tree that the grammar gives for some text keeps the rules of designs, and such a
 /// tree has a design where it has an instance whose list of all that is wrong is empty.
 pub fn designs_of_texts_keep_their_rules()
-    ensures rules { (tree : PackageTree ℕ) (root : List ℕ) (design : DesignParts) → IsGiven tree → IsDesignIn tree root design → IsDesign design }
-    ensures there { (tree : PackageTree ℕ) (root : List ℕ) (parts : InstanceParts) → IsGiven tree → IsFlat tree root parts
+    ensures rules { (tree : PackageTree ℕ) (root : List ℕ) (design : DesignParts) → IsGiven tree
+        → IsDesignIn tree root design → IsDesign design }
+    ensures there { (tree : PackageTree ℕ) (root : List ℕ) (parts : InstanceParts) → IsGiven tree
+        → IsFlat tree root parts
         → AreViolations tree (shown_by tree parts) [] → (design : DesignParts) × IsDesignIn tree root design }
 {
     names_differ();

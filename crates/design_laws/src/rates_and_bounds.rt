@@ -27,7 +27,8 @@ pub fn rates_that_count()
 
 /// Where nothing is found on the root's period, each message has time to arrive, so the period is not 0.
 pub fn no_findings_leave_time()
-    ensures { (at t : ℕ) (g : Gamma) (k : ℕ) → IsGamma g → bound_findings at (Some t) (Some g) k ≡ [] → (least_period g k ≤ t) × (1 ≤ t) }
+    ensures { (at t : ℕ) (g : Gamma) (k : ℕ) → IsGamma g → bound_findings at (Some t) (Some g) k ≡ []
+        → (least_period g k ≤ t) × (1 ≤ t) }
 {}
 
 /// Where nothing is found on the period of a component, it has a rate.

@@ -13,7 +13,8 @@ use crate::annex_behaviours::no_findings_make_a_behaviour;
 /// Where the names of a package are words, those of a thread's implementation differ, nothing is wrong
 /// with names, and nothing is found on the types of its ports and on its annex, it has a behaviour.
 pub fn no_findings_make_a_thread_behave()
-    ensures { (tree : PackageTree ℕ) (root n : ℕ) (x : Implementation ℕ) → HasWords tree → NamesDiffer tree x → package_faults tree root ≡ []
+    ensures { (tree : PackageTree ℕ) (root n : ℕ) (x : Implementation ℕ) → HasWords tree → NamesDiffer tree x
+        → package_faults tree root ≡ []
         → slice_get tree.declarations n ≡ Some (implementation x) → is_thread x.category ≡ true
         → flat_map port_findings (ports_of tree x) ≡ [] → implementation_findings tree x ≡ [] → Behaves tree x }
 {

@@ -11,13 +11,15 @@ ghost use Rattle.aadl_instance.specs.Faults.{IsFault};
 /// The package of a text has one first fault at most below a root, so an answer that names it is one
 /// text.
 pub fn one_fault()
-    ensures { (text : List ℕ) (tree : PackageTree ℕ) (root : List ℕ) (a b : PackageFault) → IsTreeOf text tree → IsFault tree root a
+    ensures { (text : List ℕ) (tree : PackageTree ℕ) (root : List ℕ) (a b : PackageFault) → IsTreeOf text tree
+        → IsFault tree root a
         → IsFault tree root b → a ≡ b }
 {}
 
 /// Of the findings in the names of a text's package, those of one kind at one place are equal. The
 /// root goes by its number.
 pub fn one_finding()
-    ensures { (text : List ℕ) (tree : PackageTree ℕ) (root : ℕ) (a b : PackageFault) → IsTreeOf text tree → Contains (package_faults tree root) a
+    ensures { (text : List ℕ) (tree : PackageTree ℕ) (root : ℕ) (a b : PackageFault) → IsTreeOf text tree
+        → Contains (package_faults tree root) a
         → Contains (package_faults tree root) b → place_of a ≡ place_of b → number_of a ≡ number_of b → a ≡ b }
 {}

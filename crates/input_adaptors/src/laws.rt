@@ -29,10 +29,12 @@ pub fn groups_are_equal()
 
 /// To a higher rate, a value stands in the places that its adaptor names, and the others are absent.
 pub fn values_stand_in_their_places()
-    ensures there { (adaptor : Adaptor) (p q i j : ℕ) (tuple : List PortValue) → p < q → IsTrue (is_allowed (Some adaptor) p q) →
+    ensures there { (adaptor : Adaptor) (p q i j : ℕ) (tuple : List PortValue) → p < q
+        → IsTrue (is_allowed (Some adaptor) p q) →
         length tuple ≡ p → i < p → j < q / p → TakesPlace adaptor (q / p) j →
         slice_get (adapt (Some adaptor) p q tuple) (i * (q / p) + j) ≡ slice_get tuple i }
-    ensures absent { (adaptor : Adaptor) (p q i j : ℕ) (tuple : List PortValue) → p < q → IsTrue (is_allowed (Some adaptor) p q) →
+    ensures absent { (adaptor : Adaptor) (p q i j : ℕ) (tuple : List PortValue) → p < q
+        → IsTrue (is_allowed (Some adaptor) p q) →
         length tuple ≡ p → i < p → j < q / p → ¬ TakesPlace adaptor (q / p) j →
         slice_get (adapt (Some adaptor) p q tuple) (i * (q / p) + j) ≡ Some Absent }
 {}

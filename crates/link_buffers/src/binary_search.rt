@@ -11,7 +11,8 @@ use circular_buffer::HeapCircularBuffer;
 pub fn partition_point<T, P: Fn(&T) -> bool>(ring: &HeapCircularBuffer<T>, pred: P) -> usize
     requires { P.IsAlwaysCallable pred }
     ensures bound { result ≤ length ring.now.items }
-    ensures parts { (p : T → Bool) → IsTest P.Fn pred p → IsPartitionedBy p ring.now.items → IsFirstToFail p ring.now.items result }
+    ensures parts { (p : T → Bool) → IsTest P.Fn pred p → IsPartitionedBy p ring.now.items
+        → IsFirstToFail p ring.now.items result }
 {
     let mut low = 0;
     let mut high = ring.len();

@@ -44,7 +44,10 @@ impl Model for DueQueue {
 
     ghost Value = { QueueState };
 
-    ghost view = { λ queue. record { entries = queue.entries.items; spare = queue.entries.capacity - length queue.entries.items } };
+    ghost view = { λ queue. record {
+      entries = queue.entries.items;
+      spare = queue.entries.capacity - length queue.entries.items;
+    } };
 
     ghost invariant = { λ queue. (length queue.entries.items ≤ queue.entries.capacity) × IsRising queue.entries.items };
 }

@@ -26,7 +26,10 @@ impl Model for Flight {
 
     ghost Value = { FlightState };
 
-    ghost view = { λ flight. record { copies = copies_of flight.ring.items; spare = flight.ring.capacity - length flight.ring.items } };
+    ghost view = { λ flight. record {
+      copies = copies_of flight.ring.items;
+      spare = flight.ring.capacity - length flight.ring.items;
+    } };
 
     ghost invariant = { λ flight. (length flight.ring.items ≤ flight.ring.capacity) × AreTopped flight.ring.items };
 }
@@ -59,7 +62,8 @@ impl Flight {
     /// Adds a copy as the newest. It takes no memory.
     pub fn flight_add(&mut self, round: u32, due: Option<Nanos>, tuple: Tuple)
         requires { 1 ≤ self.old.spare }
-        ensures { self.new ≡ flight_of (self.old.copies ++ record { round = round; due = due; tuple = tuple } ∷ []) (self.old.spare - 1) }
+        ensures { self.new ≡ flight_of (self.old.copies ++ record { round = round; due = due; tuple = tuple } ∷ [])
+            (self.old.spare - 1) }
     {
         let top = bound_with(&self.ring, round);
         let copy = FlightCopy { round, due, tuple };

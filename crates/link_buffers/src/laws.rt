@@ -12,13 +12,16 @@ ghost use Rattle.link_buffers.specs.proof.DueQueues.{is_entry, with_entry, witho
 pub fn oldest_copy_is_first()
     ensures some { (round : ℕ) (copies : List FlightCopy) (copy : FlightCopy)
         → oldest round copies ≡ Some copy → IsFirst (is_of round) copies copy (without_oldest round copies) }
-    ensures none { (round : ℕ) (copies : List FlightCopy) → oldest round copies ≡ None → All (λ copy. is_of round copy ≡ false) copies }
-    ensures left { (round : ℕ) (copies : List FlightCopy) → oldest round copies ≡ None → without_oldest round copies ≡ copies }
+    ensures none { (round : ℕ) (copies : List FlightCopy) → oldest round copies ≡ None
+        → All (λ copy. is_of round copy ≡ false) copies }
+    ensures left { (round : ℕ) (copies : List FlightCopy) → oldest round copies ≡ None
+        → without_oldest round copies ≡ copies }
 {}
 
 /// The least number of a list is in it, and none is less. Only an empty list has none.
 pub fn least_is_in_the_list()
-    ensures some { (numbers : List ℕ) (n : ℕ) → least numbers ≡ Some n → Contains numbers n × All (λ other. n ≤ other) numbers }
+    ensures some { (numbers : List ℕ) (n : ℕ) → least numbers ≡ Some n
+        → Contains numbers n × All (λ other. n ≤ other) numbers }
     ensures none { (numbers : List ℕ) → least numbers ≡ None → numbers ≡ [] }
 {}
 
@@ -28,5 +31,6 @@ pub fn entries_are_counted()
     ensures with { (entry other : DueEntry) (entries : List DueEntry)
         → count_by (is_entry other) (with_entry entry entries) ≡ count_by (is_entry other) (entry ∷ entries) }
     ensures without { (entry other : DueEntry) (entries : List DueEntry)
-        → Contains entries entry → count_by (is_entry other) (entry ∷ without_entry entry entries) ≡ count_by (is_entry other) entries }
+        → Contains entries entry → count_by (is_entry other) (entry ∷ without_entry entry entries)
+        ≡ count_by (is_entry other) entries }
 {}

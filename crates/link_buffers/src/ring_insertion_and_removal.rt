@@ -53,7 +53,8 @@ fn take_by_front<T>(ring: &mut HeapCircularBuffer<T>, ahead: usize) -> Option<T>
 fn take_by_back<T>(ring: &mut HeapCircularBuffer<T>, behind: usize) -> Option<T>
     requires { behind < length ring.old.items }
     ensures item { let place = length ring.old.items - 1 - behind in result ≡ slice_get ring.old.items place }
-    ensures others { let place = length ring.old.items - 1 - behind in ring.new ≡ buffer (remove ring.old.items place) ring.old.capacity }
+    ensures others { let place = length ring.old.items - 1 - behind in ring.new
+        ≡ buffer (remove ring.old.items place) ring.old.capacity }
 {
     let Some(mut held) = ring.pop_back() else {
         unreachable!();

@@ -46,7 +46,8 @@ fn accepted(
 ) -> Result<Design, NoMemory>
     requires names { properties.now.uses.now.names.tree.now ≡ instance.now.wires.uses.names.tree.now }
     requires none { AreViolations (placed instance.now.wires.uses.names.tree.now) (shown instance.now) [] }
-    ensures { IfOk result (λ design. IsDesignOf (placed instance.now.wires.uses.names.tree.now) (shown instance.now) design) }
+    ensures { IfOk result (λ design. IsDesignOf (placed instance.now.wires.uses.names.tree.now) (shown instance.now)
+        design) }
 {
     texts_name();
     no_violations_are_no_findings();
@@ -61,9 +62,12 @@ fn accepted(
 
 /// The design of an instance, or all that is wrong with it.
 pub fn check(alloc: Global, instance: &Instance<'_>) -> Result<Design, CheckFault>
-    ensures accepted { IfOk result (λ _. AreViolations (placed instance.now.wires.uses.names.tree.now) (shown instance.now) []) }
-    ensures design { IfOk result (λ design. IsDesignOf (placed instance.now.wires.uses.names.tree.now) (shown instance.now) design) }
-    ensures refused { IfErr result (λ fault. IsRefused (placed instance.now.wires.uses.names.tree.now) (shown instance.now) fault) }
+    ensures accepted { IfOk result (λ _. AreViolations (placed instance.now.wires.uses.names.tree.now)
+        (shown instance.now) []) }
+    ensures design { IfOk result (λ design. IsDesignOf (placed instance.now.wires.uses.names.tree.now)
+        (shown instance.now) design) }
+    ensures refused { IfErr result (λ fault. IsRefused (placed instance.now.wires.uses.names.tree.now)
+        (shown instance.now) fault) }
 {
     let properties = Properties::of(alloc, &instance.wires.uses)?;
     let found = violations(alloc, &properties, instance)?;

@@ -30,7 +30,8 @@ fn component(
     requires limits { IsWithinLimits (placed properties.now.uses.now.names.tree.now) thread.now }
     requires rules { spec.HasRules (placed properties.now.uses.now.names.tree.now) thread.now }
     requires kept { AreKept (placed properties.now.uses.now.names.tree.now) kept.old.entries }
-    ensures value { IfOk result (λ found. found ≡ spec.component_in (placed properties.now.uses.now.names.tree.now) root thread.now) }
+    ensures value { IfOk result (λ found. found
+        ≡ spec.component_in (placed properties.now.uses.now.names.tree.now) root thread.now) }
     ensures kept { OnOk result (AreKept (placed properties.now.uses.now.names.tree.now) kept.new.entries) }
 {
     let Some(rate) = thread_rate(properties, root, thread) else {
@@ -55,7 +56,8 @@ fn components(
 ) -> Result<Option<ItemList<Component>>, NoMemory>
     requires limits { All (IsWithinLimits (placed properties.now.uses.now.names.tree.now)) threads.now }
     requires rules { All (spec.HasRules (placed properties.now.uses.now.names.tree.now)) threads.now }
-    ensures { IfOk result (λ found. found ≡ spec.all_of (map (spec.component_in (placed properties.now.uses.now.names.tree.now) root) threads.now)) }
+    ensures { IfOk result (λ found. found ≡ spec.all_of
+        (map (spec.component_in (placed properties.now.uses.now.names.tree.now) root) threads.now)) }
 {
     let mut components = ItemList::new(alloc);
     let mut kept = IndexMap::new(alloc);
@@ -111,7 +113,8 @@ fn links(
     properties: &Properties<'_>,
     chains: &[Chain],
 ) -> Result<Option<ItemList<Link>>, NoMemory>
-    ensures { IfOk result (λ found. found ≡ spec.all_of (map (spec.link_in (placed properties.now.uses.now.names.tree.now)) chains.now)) }
+    ensures { IfOk result (λ found. found ≡ spec.all_of
+        (map (spec.link_in (placed properties.now.uses.now.names.tree.now)) chains.now)) }
 {
     let mut links = ItemList::new(alloc);
     for chain in chains {
@@ -151,7 +154,8 @@ fn feeds(
     properties: &Properties<'_>,
     chains: &[Chain],
 ) -> Result<Option<ItemList<Feed>>, NoMemory>
-    ensures { IfOk result (λ found. found ≡ spec.all_of (map (spec.feed_in (placed properties.now.uses.now.names.tree.now)) chains.now)) }
+    ensures { IfOk result (λ found. found ≡ spec.all_of
+        (map (spec.feed_in (placed properties.now.uses.now.names.tree.now)) chains.now)) }
 {
     let mut feeds = ItemList::new(alloc);
     for chain in chains {
@@ -207,7 +211,8 @@ pub fn design_parts(
 ) -> Result<Option<DesignParts>, NoMemory>
     requires names { properties.now.uses.now.names.tree.now ≡ instance.now.wires.uses.names.tree.now }
     requires rules { All (spec.HasRules (placed instance.now.wires.uses.names.tree.now)) instance.now.threads }
-    ensures { IfOk result (λ found. MatchOption found (HasNoDesign (placed instance.now.wires.uses.names.tree.now) (shown instance.now))
+    ensures { IfOk result (λ found. MatchOption found
+        (HasNoDesign (placed instance.now.wires.uses.names.tree.now) (shown instance.now))
         (λ design. spec.IsDesignOf (placed instance.now.wires.uses.names.tree.now) (shown instance.now) design)) }
 {
     let root = instance.root;

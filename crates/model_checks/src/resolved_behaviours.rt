@@ -68,7 +68,8 @@ fn resolve(
 ) -> Result<Option<Behaviour>, NoMemory>
     requires small { (x : Implementation ℕ) → implementation_at (placed uses.now.names.tree.now) number ≡ Some x
         → IsSmall (placed uses.now.names.tree.now) x }
-    requires rules { (b : BehaviourParts) → behaviour_at (placed uses.now.names.tree.now) number ≡ Some b → IsBehaviour b }
+    requires rules { (b : BehaviourParts) → behaviour_at (placed uses.now.names.tree.now) number ≡ Some b
+        → IsBehaviour b }
     requires kept { AreKept (placed uses.now.names.tree.now) kept.old.entries }
     ensures value { IfOk result (λ found. found ≡ behaviour_at (placed uses.now.names.tree.now) number) }
     ensures kept { OnOk result (AreKept (placed uses.now.names.tree.now) kept.new.entries) }

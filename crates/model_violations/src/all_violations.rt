@@ -29,7 +29,8 @@ fn rates_of(
     root: usize,
     threads: &[ThreadAt],
 ) -> Result<ItemList<Option<u32>>, NoMemory>
-    ensures { IfOk result (λ rates. rates ≡ map (threads_spec.thread_rate (placed properties.now.uses.now.names.tree.now) root) threads.now) }
+    ensures { IfOk result (λ rates. rates ≡ map
+        (threads_spec.thread_rate (placed properties.now.uses.now.names.tree.now) root) threads.now) }
 {
     let mut rates = ItemList::new(alloc);
     for thread in threads {
@@ -57,7 +58,8 @@ fn add_threads_findings(
 
 // Adds the connections that carry chains.
 fn add_carriers(carriers: &mut Carriers, chains: &[Chain]) -> Result<(), NoMemory>
-    ensures { OnOk result ((n i : ℕ) → carries carriers.new n i ≡ (carries carriers.old n i || carries (map spec.carrier_numbers chains.now) n i)) }
+    ensures { OnOk result ((n i : ℕ) → carries carriers.new n i
+        ≡ (carries carriers.old n i || carries (map spec.carrier_numbers chains.now) n i)) }
 {
     for chain in chains {
         carriers.add(chain.carrier)?;
@@ -67,7 +69,8 @@ fn add_carriers(carriers: &mut Carriers, chains: &[Chain]) -> Result<(), NoMemor
 
 // The connections that carry links, feeds and taps.
 fn carriers_of(alloc: Global, instance: &Instance<'_>) -> Result<Carriers, NoMemory>
-    ensures { IfOk result (λ carriers. (n i : ℕ) → carries carriers n i ≡ carries (spec.carriers_of (inner.shown instance.now)) n i) }
+    ensures { IfOk result (λ carriers. (n i : ℕ)
+        → carries carriers n i ≡ carries (spec.carriers_of (inner.shown instance.now)) n i) }
 {
     let mut carriers = Carriers::new(alloc);
     add_carriers(&mut carriers, instance.links.as_slice())?;
@@ -84,7 +87,8 @@ fn add_all_link_findings(
     found: &mut ItemList<Violation>,
 ) -> Result<(), NoMemory>
     requires { ArePositive rated.now.rates.now }
-    ensures { OnOk result (found.new ≡ found.old ++ flat_map (link_findings (tree_of rated.now) rated.now.threads.now rated.now.rates.now) links.now) }
+    ensures { OnOk result (found.new ≡ found.old
+        ++ flat_map (link_findings (tree_of rated.now) rated.now.threads.now rated.now.rates.now) links.now) }
 {
     for link in links {
         add_link_findings(alloc, rated, link, found)?;
@@ -100,7 +104,8 @@ fn add_feeds_findings(
     found: &mut ItemList<Violation>,
 ) -> Result<(), NoMemory>
     requires { ArePositive rated.now.rates.now }
-    ensures { OnOk result (found.new ≡ found.old ++ flat_map (feed_findings (tree_of rated.now) rated.now.threads.now rated.now.rates.now) feeds.now) }
+    ensures { OnOk result (found.new ≡ found.old
+        ++ flat_map (feed_findings (tree_of rated.now) rated.now.threads.now rated.now.rates.now) feeds.now) }
 {
     for feed in feeds {
         add_feed_findings(alloc, rated, feed, found)?;
@@ -115,7 +120,8 @@ fn add_taps_findings(
     taps: &[Chain],
     found: &mut ItemList<Violation>,
 ) -> Result<(), NoMemory>
-    ensures { OnOk result (found.new ≡ found.old ++ flat_map (tap_findings (tree_of rated.now) rated.now.threads.now) taps.now) }
+    ensures { OnOk result (found.new ≡ found.old
+        ++ flat_map (tap_findings (tree_of rated.now) rated.now.threads.now) taps.now) }
 {
     for tap in taps {
         add_tap_findings(alloc, rated, tap, found)?;
@@ -151,7 +157,8 @@ fn add_used_findings(
     instance: &Instance<'_>,
     found: &mut ItemList<Violation>,
 ) -> Result<(), NoMemory>
-    ensures { OnOk result (inner.AddUsed (placed instance.now.wires.uses.names.tree.now) (inner.shown instance.now) found.old found.new) }
+    ensures { OnOk result (inner.AddUsed (placed instance.now.wires.uses.names.tree.now) (inner.shown instance.now)
+        found.old found.new) }
 {
     let wires = &instance.wires;
     let root = instance.root;
@@ -176,7 +183,8 @@ fn findings_of(
     instance: &Instance<'_>,
 ) -> Result<ItemList<Violation>, NoMemory>
     requires { properties.now.uses.now.names.tree.now ≡ instance.now.wires.uses.names.tree.now }
-    ensures { IfOk result (λ list. inner.AreFindings (placed instance.now.wires.uses.names.tree.now) (inner.shown instance.now) list) }
+    ensures { IfOk result (λ list. inner.AreFindings (placed instance.now.wires.uses.names.tree.now)
+        (inner.shown instance.now) list) }
 {
     let mut found = ItemList::new(alloc);
     let root = instance.root;
@@ -198,7 +206,8 @@ pub fn violations(
     instance: &Instance<'_>,
 ) -> Result<ItemList<Violation>, NoMemory>
     requires { properties.now.uses.now.names.tree.now ≡ instance.now.wires.uses.names.tree.now }
-    ensures { IfOk result (λ list. spec.AreViolations (placed instance.now.wires.uses.names.tree.now) (inner.shown instance.now) list) }
+    ensures { IfOk result (λ list. spec.AreViolations (placed instance.now.wires.uses.names.tree.now)
+        (inner.shown instance.now) list) }
 {
     let found = findings_of(alloc, properties, instance)?;
     let list = in_order(found)?;

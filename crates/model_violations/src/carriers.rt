@@ -17,7 +17,8 @@ use std::marker::Model;
 
 /// The connection of two numbers: its declaration's, and its own there.
 pub fn connection_of<'t>(tree: &'t PackageTree, place: ConnectionAt) -> Option<&'t Connection>
-    ensures { option_map (connection_view kept_place) (option_copied result) ≡ spec.connection_of (placed tree.now) place }
+    ensures { option_map (connection_view kept_place) (option_copied result)
+        ≡ spec.connection_of (placed tree.now) place }
 {
     match implementation_at(tree, place.declaration) {
         Some(x) => x.connections.get(place.connection),
@@ -33,7 +34,8 @@ pub fn carrier_of<'t>(
 ) -> Option<(&'t Connection, ChainProperties)>
     ensures connection { option_map (λ carrier. connection_view kept_place carrier.0.now) result
         ≡ spec.connection_of (placed properties.now.uses.now.names.tree.now) place }
-    ensures carried { IfSome result (λ carrier. carrier.1 ≡ carried_by (connection_view kept_place carrier.0.now).properties) }
+    ensures carried { IfSome result (λ carrier. carrier.1
+        ≡ carried_by (connection_view kept_place carrier.0.now).properties) }
 {
     let uses = properties.uses;
     let connection = connection_of(uses.names.tree, place)?;
@@ -76,7 +78,8 @@ impl Carriers {
 
     /// Adds a connection.
     pub fn add(&mut self, place: ConnectionAt) -> Result<(), NoMemory>
-        ensures { OnOk result ((n i : ℕ) → carries self.new n i ≡ (carries self.old n i || (nat_eq n place.declaration && nat_eq i place.connection))) }
+        ensures { OnOk result ((n i : ℕ) → carries self.new n i
+            ≡ (carries self.old n i || (nat_eq n place.declaration && nat_eq i place.connection))) }
     {
         self.places.insert((place.declaration, place.connection))?;
         Ok(())

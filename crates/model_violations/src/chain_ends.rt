@@ -18,7 +18,8 @@ use std::alloc::Global;
 /// The number of the implementation of a thread.
 #[tactic(auto, using(crate::proofs::ConnectionEndTypes::target_below))]
 pub fn component_number(uses: &Uses<'_>, thread: &ThreadAt) -> Option<usize>
-    ensures { option_and_then (implementation_at (placed uses.now.names.tree.now)) result ≡ spec.component_of (placed uses.now.names.tree.now) thread.now }
+    ensures { option_and_then (implementation_at (placed uses.now.names.tree.now)) result
+        ≡ spec.component_of (placed uses.now.names.tree.now) thread.now }
 {
     match thread.subs.as_slice().last() {
         Some(sub) => uses.below(sub.declaration, sub.sub),
@@ -61,7 +62,8 @@ fn thread_port_name(
     thread: &ThreadAt,
     number: u32,
 ) -> Result<Text, NoMemory>
-    ensures { IfOk result (λ name. name ≡ spec.thread_port_name (placed uses.now.names.tree.now) (Some thread.now) number) }
+    ensures { IfOk result (λ name. name ≡ spec.thread_port_name (placed uses.now.names.tree.now) (Some thread.now)
+        number) }
 {
     let mut name = String::from_str(alloc, thread.path.as_str())?;
     name.push_str(".")?;

@@ -74,7 +74,8 @@ fn add_adaptor_findings(
     requires rates { ArePositive rated.now.rates.now }
     requires said { said ≡ carried_by (connection_view kept_place connection.now).properties }
     ensures { OnOk result (found.new ≡ found.old
-        ++ spec.adaptor_findings (tree_of rated.now) rated.now.threads.now rated.now.rates.now chain.now (connection_view kept_place connection.now)) }
+        ++ spec.adaptor_findings (tree_of rated.now) rated.now.threads.now rated.now.rates.now chain.now
+        (connection_view kept_place connection.now)) }
 {
     let source = end_rate(rated.rates, &chain.from);
     let target = end_rate(rated.rates, &chain.to);
@@ -103,7 +104,8 @@ fn add_timing_findings(
 ) -> Result<(), NoMemory>
     requires { said ≡ carried_by (connection_view kept_place connection.now).properties }
     ensures { OnOk result (found.new ≡ found.old
-        ++ spec.timing_findings (tree_of rated.now) rated.now.threads.now chain.now (connection_view kept_place connection.now)) }
+        ++ spec.timing_findings (tree_of rated.now) rated.now.threads.now chain.now
+        (connection_view kept_place connection.now)) }
 {
     if said.delayed {
         return Ok(());

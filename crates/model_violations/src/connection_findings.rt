@@ -103,7 +103,8 @@ fn add_ends_findings(
     ensures { OnOk result ((x : trees.Implementation ℕ)
         → IsConnection (placed wires.now.uses.names.tree.now) place.declaration place.connection x
         (connection_view kept_place connection.now)
-        → found.new ≡ found.old ++ spec.ends_findings (placed wires.now.uses.names.tree.now) x (connection_view kept_place connection.now)) }
+        → found.new ≡ found.old ++ spec.ends_findings (placed wires.now.uses.names.tree.now) x
+        (connection_view kept_place connection.now)) }
 {
     let wire = wire_at(wires, place);
     let source = kind_at(&wires.uses, place.declaration, wire.source);
@@ -143,7 +144,8 @@ fn add_adaptor_findings(
     found: &mut ItemList<Violation>,
 ) -> Result<(), NoMemory>
     requires { said ≡ carried_by (connection_view kept_place connection.now).properties }
-    ensures { OnOk result (found.new ≡ found.old ++ spec.adaptor_findings carried (connection_view kept_place connection.now)) }
+    ensures { OnOk result (found.new ≡ found.old
+        ++ spec.adaptor_findings carried (connection_view kept_place connection.now)) }
 {
     add_named(
         alloc,
@@ -188,9 +190,11 @@ pub fn add_connections_findings(
     x: &Implementation,
     found: &mut ItemList<Violation>,
 ) -> Result<(), NoMemory>
-    requires { slice_get (placed wires.now.uses.names.tree.now).declarations number ≡ Some (implementation (implementation_view kept_place x.now)) }
+    requires { slice_get (placed wires.now.uses.names.tree.now).declarations number
+        ≡ Some (implementation (implementation_view kept_place x.now)) }
     ensures { OnOk result (found.new ≡ found.old
-        ++ spec.connections_findings (placed wires.now.uses.names.tree.now) (carries carriers.now) number (implementation_view kept_place x.now)) }
+        ++ spec.connections_findings (placed wires.now.uses.names.tree.now) (carries carriers.now) number
+        (implementation_view kept_place x.now)) }
 {
     for (at, connection) in x.connections.iter().enumerate() {
         let place = ConnectionAt {

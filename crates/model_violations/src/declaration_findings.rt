@@ -54,7 +54,8 @@ fn add_type_findings(
     found: &mut ItemList<Violation>,
 ) -> Result<(), NoMemory>
     ensures { OnOk result (found.new ≡ found.old
-        ++ spec.type_findings (is_root_type (placed uses.now.names.tree.now) root number) (type_view kept_place x.now)) }
+        ++ spec.type_findings (is_root_type (placed uses.now.names.tree.now) root number)
+        (type_view kept_place x.now)) }
 {
     add_port_findings(alloc, x.features.as_slice(), found)?;
     let holder = PropertyHolder::Declaration(x.category, is_root_type(uses, root, number));
@@ -67,7 +68,8 @@ fn add_subs_findings(
     subs: &[Subcomponent],
     found: &mut ItemList<Violation>,
 ) -> Result<(), NoMemory>
-    ensures { OnOk result (found.new ≡ found.old ++ flat_map spec.sub_findings (map (subcomponent_view kept_place) subs.now)) }
+    ensures { OnOk result (found.new ≡ found.old
+        ++ flat_map spec.sub_findings (map (subcomponent_view kept_place) subs.now)) }
 {
     for sub in subs {
         let holder = PropertyHolder::Subcomponent(sub.category);
@@ -84,9 +86,12 @@ fn add_thread_findings(
     x: &Implementation,
     found: &mut ItemList<Violation>,
 ) -> Result<(), NoMemory>
-    requires number { implementation_at (placed uses.now.names.tree.now) number ≡ Some (implementation_view kept_place x.now) }
-    requires small { is_thread x.now.category ≡ true → IsSmall (placed uses.now.names.tree.now) (implementation_view kept_place x.now) }
-    ensures { OnOk result (found.new ≡ found.old ++ spec.thread_findings (placed uses.now.names.tree.now) (implementation_view kept_place x.now)) }
+    requires number { implementation_at (placed uses.now.names.tree.now) number
+        ≡ Some (implementation_view kept_place x.now) }
+    requires small { is_thread x.now.category ≡ true
+        → IsSmall (placed uses.now.names.tree.now) (implementation_view kept_place x.now) }
+    ensures { OnOk result (found.new ≡ found.old
+        ++ spec.thread_findings (placed uses.now.names.tree.now) (implementation_view kept_place x.now)) }
 {
     match x.category {
         Category::Thread => {

@@ -28,7 +28,8 @@ fn add_port(
     port: &Feature,
     ports: &mut ItemList<Declared>,
 ) -> Result<(), NoMemory>
-    ensures { OnOk result (ports.new ≡ ports.old ++ (if wanted then spec.port_of (feature_view kept_place port.now) ∷ [] else [])) }
+    ensures { OnOk result (ports.new ≡ ports.old
+        ++ (if wanted then spec.port_of (feature_view kept_place port.now) ∷ [] else [])) }
 {
     if wanted {
         ports.push(port_of(alloc, port)?)?;

@@ -109,7 +109,8 @@ fn add_variable(
     name: &Identifier,
     variables: &mut ItemList<Declared>,
 ) -> Result<(), NoMemory>
-    ensures { OnOk result (variables.new ≡ variables.old ++ spec.variable_of kind first (identifier_view kept_place name.now) ∷ []) }
+    ensures { OnOk result (variables.new ≡ variables.old
+        ++ spec.variable_of kind first (identifier_view kept_place name.now) ∷ []) }
 {
     variables.push(Declared {
         name: Text::from_str(alloc, name.spelling.as_str())?,
@@ -125,7 +126,8 @@ fn add_variables(
     declaration: &VariableDeclaration,
     variables: &mut ItemList<Declared>,
 ) -> Result<(), NoMemory>
-    ensures { OnOk result (variables.new ≡ variables.old ++ spec.variables_in (variable_view kept_place declaration.now)) }
+    ensures { OnOk result (variables.new ≡ variables.old
+        ++ spec.variables_in (variable_view kept_place declaration.now)) }
 {
     let kind = kind_named(&declaration.data_type);
     let first = first_of(declaration);

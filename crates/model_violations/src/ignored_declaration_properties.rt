@@ -21,7 +21,8 @@ fn add_variables(
     variables: &[VariableDeclaration],
     found: &mut ItemList<Text>,
 ) -> Result<(), NoMemory>
-    ensures { OnOk result (found.new ≡ found.old ++ flat_map spec.variable_ignored (map (variable_view kept_place) variables.now)) }
+    ensures { OnOk result (found.new ≡ found.old
+        ++ flat_map spec.variable_ignored (map (variable_view kept_place) variables.now)) }
 {
     for variable in variables {
         let list = variable.properties.as_slice();
@@ -45,7 +46,8 @@ fn add_annex(alloc: Global, annex: &Annex, found: &mut ItemList<Text>) -> Result
 
 // Adds the names of properties that mean nothing at the variables in annexes.
 fn add_annexes(alloc: Global, annexes: &[Annex], found: &mut ItemList<Text>) -> Result<(), NoMemory>
-    ensures { OnOk result (found.new ≡ found.old ++ flat_map spec.annex_ignored (map (annex_view kept_place) annexes.now)) }
+    ensures { OnOk result (found.new ≡ found.old
+        ++ flat_map spec.annex_ignored (map (annex_view kept_place) annexes.now)) }
 {
     for annex in annexes {
         add_annex(alloc, annex, found)?;
@@ -55,7 +57,8 @@ fn add_annexes(alloc: Global, annexes: &[Annex], found: &mut ItemList<Text>) -> 
 
 // Adds the names at ports.
 fn add_ports(alloc: Global, ports: &[Feature], found: &mut ItemList<Text>) -> Result<(), NoMemory>
-    ensures { OnOk result (found.new ≡ found.old ++ flat_map spec.port_ignored (map (feature_view kept_place) ports.now)) }
+    ensures { OnOk result (found.new ≡ found.old
+        ++ flat_map spec.port_ignored (map (feature_view kept_place) ports.now)) }
 {
     for port in ports {
         add_list(
@@ -74,7 +77,8 @@ fn add_subs(
     subs: &[Subcomponent],
     found: &mut ItemList<Text>,
 ) -> Result<(), NoMemory>
-    ensures { OnOk result (found.new ≡ found.old ++ flat_map spec.sub_ignored (map (subcomponent_view kept_place) subs.now)) }
+    ensures { OnOk result (found.new ≡ found.old
+        ++ flat_map spec.sub_ignored (map (subcomponent_view kept_place) subs.now)) }
 {
     for sub in subs {
         let holder = PropertyHolder::Subcomponent(sub.category);
@@ -89,7 +93,8 @@ fn add_connections(
     connections: &[Connection],
     found: &mut ItemList<Text>,
 ) -> Result<(), NoMemory>
-    ensures { OnOk result (found.new ≡ found.old ++ flat_map spec.connection_ignored (map (connection_view kept_place) connections.now)) }
+    ensures { OnOk result (found.new ≡ found.old
+        ++ flat_map spec.connection_ignored (map (connection_view kept_place) connections.now)) }
 {
     for connection in connections {
         let list = connection.properties.as_slice();
@@ -120,7 +125,8 @@ fn add_implementation(
     x: &Implementation,
     found: &mut ItemList<Text>,
 ) -> Result<(), NoMemory>
-    ensures { OnOk result (found.new ≡ found.old ++ spec.implementation_ignored of_root (implementation_view kept_place x.now)) }
+    ensures { OnOk result (found.new ≡ found.old
+        ++ spec.implementation_ignored of_root (implementation_view kept_place x.now)) }
 {
     add_subs(alloc, x.subcomponents.as_slice(), found)?;
     add_connections(alloc, x.connections.as_slice(), found)?;

@@ -18,7 +18,8 @@ use std::alloc::Global;
 
 // Whether a property of this name is recognised at a kind of place.
 fn is_recognised(holder: PropertyHolder, name: &Name) -> bool
-    ensures { result ≡ list_any (λ p. same_name (spelled_name (name_view kept_place name.now)) (name_of p)) (recognised holder) }
+    ensures { result ≡ list_any (λ p. same_name (spelled_name (name_view kept_place name.now)) (name_of p))
+        (recognised holder) }
 {
     holder
         .recognised()
@@ -42,7 +43,8 @@ fn add_association(
     association: &Association,
     found: &mut ItemList<Text>,
 ) -> Result<(), NoMemory>
-    ensures { OnOk result (found.new ≡ found.old ++ spec.association_ignored holder (association_view kept_place association.now)) }
+    ensures { OnOk result (found.new ≡ found.old
+        ++ spec.association_ignored holder (association_view kept_place association.now)) }
 {
     if is_ignored(holder, association) {
         found.push(spelled_name(alloc, &association.name)?)?;

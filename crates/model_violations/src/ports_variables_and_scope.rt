@@ -66,7 +66,11 @@ fn values_by(
 
 // What a declared name stands for.
 fn entry_of(alloc: Global, declared: &Declared, meaning: Meaning) -> Result<DeclaredName, NoMemory>
-    ensures { IfOk result (λ entry. entry ≡ record { name = declared.now.name; kind = declared.now.kind; meaning = meaning }) }
+    ensures { IfOk result (λ entry. entry ≡ record {
+      name = declared.now.name;
+      kind = declared.now.kind;
+      meaning = meaning;
+    }) }
 {
     Ok(DeclaredName {
         name: declared.name.try_clone(alloc)?,

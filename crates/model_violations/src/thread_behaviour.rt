@@ -25,7 +25,8 @@ use std::alloc::Global;
 
 // The behaviour of an annex, with the annex's place.
 fn behaviour_in(annex: &Annex) -> Option<(usize, &AnnexTree)>
-    ensures { option_map (λ b. (b.0, annex_tree_view kept_place b.1.now)) result ≡ behaviour_in (annex_view kept_place annex.now) }
+    ensures { option_map (λ b. (b.0, annex_tree_view kept_place b.1.now)) result
+        ≡ behaviour_in (annex_view kept_place annex.now) }
 {
     match &annex.content {
         AnnexContent::Behaviour(tree) => Some((annex.at, tree)),
@@ -35,7 +36,8 @@ fn behaviour_in(annex: &Annex) -> Option<(usize, &AnnexTree)>
 
 // The first behaviour among annexes.
 fn first_behaviour(annexes: &[Annex]) -> Option<(usize, &AnnexTree)>
-    ensures { option_map (λ b. (b.0, annex_tree_view kept_place b.1.now)) result ≡ slice_get (behaviours (map (annex_view kept_place) annexes.now)) 0 }
+    ensures { option_map (λ b. (b.0, annex_tree_view kept_place b.1.now)) result
+        ≡ slice_get (behaviours (map (annex_view kept_place) annexes.now)) 0 }
 {
     for annex in annexes {
         match behaviour_in(annex) {
@@ -54,13 +56,16 @@ fn values_and_scope_of(
     x: &Implementation,
     annex: &AnnexTree,
 ) -> Result<(DeclaredValues, Scope), NoMemory>
-    requires number { implementation_at (placed uses.now.names.tree.now) number ≡ Some (implementation_view kept_place x.now) }
+    requires number { implementation_at (placed uses.now.names.tree.now) number
+        ≡ Some (implementation_view kept_place x.now) }
     requires ports { length (ports_of (placed uses.now.names.tree.now) (implementation_view kept_place x.now)) ≤ PORTS }
     requires variables { length (variables_of (annex_tree_view kept_place annex.now)) ≤ VARIABLES }
     ensures values { IfOk result (λ setting. setting.0
-        ≡ values_of (placed uses.now.names.tree.now) (implementation_view kept_place x.now) (annex_tree_view kept_place annex.now)) }
+        ≡ values_of (placed uses.now.names.tree.now) (implementation_view kept_place x.now)
+        (annex_tree_view kept_place annex.now)) }
     ensures scope { IfOk result (λ setting. setting.1
-        ≡ scope_of (placed uses.now.names.tree.now) (implementation_view kept_place x.now) (annex_tree_view kept_place annex.now)) }
+        ≡ scope_of (placed uses.now.names.tree.now) (implementation_view kept_place x.now)
+        (annex_tree_view kept_place annex.now)) }
 {
     let ports = uses.ports(number);
     let ins = ins_in(alloc, ports)?;
@@ -84,9 +89,11 @@ fn resolve_numbered(
     x: &Implementation,
     found: &mut ItemList<Violation>,
 ) -> Result<Option<BehaviourParts>, NoMemory>
-    requires number { implementation_at (placed uses.now.names.tree.now) number ≡ Some (implementation_view kept_place x.now) }
+    requires number { implementation_at (placed uses.now.names.tree.now) number
+        ≡ Some (implementation_view kept_place x.now) }
     requires small { spec.IsSmall (placed uses.now.names.tree.now) (implementation_view kept_place x.now) }
-    ensures parts { IfOk result (λ parts. parts ≡ spec.behaviour_in (placed uses.now.names.tree.now) (implementation_view kept_place x.now)) }
+    ensures parts { IfOk result (λ parts. parts
+        ≡ spec.behaviour_in (placed uses.now.names.tree.now) (implementation_view kept_place x.now)) }
     ensures found { OnOk result (found.new ≡ found.old
         ++ spec.implementation_findings (placed uses.now.names.tree.now) (implementation_view kept_place x.now)) }
 {
@@ -112,8 +119,10 @@ pub fn resolve_implementation(
     requires { (x : trees.Implementation ℕ) → implementation_at (placed uses.now.names.tree.now) number ≡ Some x
         → spec.IsSmall (placed uses.now.names.tree.now) x }
     ensures parts { IfOk result (λ parts. parts
-        ≡ option_and_then (spec.behaviour_in (placed uses.now.names.tree.now)) (implementation_at (placed uses.now.names.tree.now) number)) }
-    ensures found { OnOk result ((x : trees.Implementation ℕ) → implementation_at (placed uses.now.names.tree.now) number ≡ Some x
+        ≡ option_and_then (spec.behaviour_in (placed uses.now.names.tree.now))
+        (implementation_at (placed uses.now.names.tree.now) number)) }
+    ensures found { OnOk result ((x : trees.Implementation ℕ)
+        → implementation_at (placed uses.now.names.tree.now) number ≡ Some x
         → found.new ≡ found.old ++ spec.implementation_findings (placed uses.now.names.tree.now) x) }
 {
     let Some(x) = uses.implementation(number) else {

@@ -56,7 +56,8 @@ pub fn types_used(
     uses: &Uses<'_>,
     used: &IndexSet<usize>,
 ) -> Result<IndexSet<usize>, NoMemory>
-    ensures { IfOk result (λ types. (n : ℕ) → has types.keys n ≡ type_used (placed uses.now.names.tree.now) (has used.now.keys) n) }
+    ensures { IfOk result (λ types. (n : ℕ) → has types.keys n
+        ≡ type_used (placed uses.now.names.tree.now) (has used.now.keys) n) }
 {
     let mut types = IndexSet::new(alloc);
     for number in 0..uses.len() {

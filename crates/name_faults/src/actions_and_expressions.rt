@@ -25,7 +25,8 @@ fn check_use(
     usage: Usage,
     name: &Identifier,
 ) -> Result<(), AllocError>
-    ensures { OnOk result (finder.new ≡ found finder.old (spec.uses (known_by scope.now) usage (identifier_view kept_place name.now))) }
+    ensures { OnOk result (finder.new ≡ found finder.old
+        (spec.uses (known_by scope.now) usage (identifier_view kept_place name.now))) }
 {
     match scope.role_of(name.spelling.as_str())? {
         Some(role) => {
@@ -42,7 +43,8 @@ fn check_again(
     scope: &BehaviourScope<'_>,
     variable: &Identifier,
 ) -> Result<(), AllocError>
-    ensures { OnOk result (finder.new ≡ found finder.old (spec.loop_again (known_by scope.now) (identifier_view kept_place variable.now))) }
+    ensures { OnOk result (finder.new ≡ found finder.old
+        (spec.loop_again (known_by scope.now) (identifier_view kept_place variable.now))) }
 {
     let name = variable.spelling.as_str();
     match scope.role_of(name)? {
@@ -57,7 +59,8 @@ fn check_primary(
     scope: &BehaviourScope<'_>,
     primary: &Primary,
 ) -> Result<(), AllocError>
-    ensures { OnOk result (finder.new ≡ found finder.old (spec.primary_uses (known_by scope.now) (primary_view kept_place primary.now))) }
+    ensures { OnOk result (finder.new ≡ found finder.old
+        (spec.primary_uses (known_by scope.now) (primary_view kept_place primary.now))) }
 {
     match primary {
         Primary::Whole { .. } => Ok(()),
@@ -76,7 +79,8 @@ fn check_factor(
     scope: &BehaviourScope<'_>,
     factor: &Factor,
 ) -> Result<(), AllocError>
-    ensures { OnOk result (finder.new ≡ found finder.old (spec.factor_uses (known_by scope.now) (factor_view kept_place factor.now))) }
+    ensures { OnOk result (finder.new ≡ found finder.old
+        (spec.factor_uses (known_by scope.now) (factor_view kept_place factor.now))) }
 {
     match factor {
         Factor::Abs { at: _, operand } => check_primary(finder, scope, operand),
@@ -91,7 +95,8 @@ fn check_term(
     scope: &BehaviourScope<'_>,
     term: &Term,
 ) -> Result<(), AllocError>
-    ensures { OnOk result (finder.new ≡ found finder.old (spec.term_uses (known_by scope.now) (term_view kept_place term.now))) }
+    ensures { OnOk result (finder.new ≡ found finder.old
+        (spec.term_uses (known_by scope.now) (term_view kept_place term.now))) }
 {
     check_factor(finder, scope, &term.first)?;
     for operand in &term.rest {
@@ -106,7 +111,8 @@ fn check_sum(
     scope: &BehaviourScope<'_>,
     sum: &Sum,
 ) -> Result<(), AllocError>
-    ensures { OnOk result (finder.new ≡ found finder.old (spec.sum_uses (known_by scope.now) (sum_view kept_place sum.now))) }
+    ensures { OnOk result (finder.new ≡ found finder.old
+        (spec.sum_uses (known_by scope.now) (sum_view kept_place sum.now))) }
 {
     check_term(finder, scope, &sum.first)?;
     for operand in &sum.rest {
@@ -121,7 +127,8 @@ fn check_relation(
     scope: &BehaviourScope<'_>,
     relation: &Relation,
 ) -> Result<(), AllocError>
-    ensures { OnOk result (finder.new ≡ found finder.old (spec.relation_uses (known_by scope.now) (relation_view kept_place relation.now))) }
+    ensures { OnOk result (finder.new ≡ found finder.old
+        (spec.relation_uses (known_by scope.now) (relation_view kept_place relation.now))) }
 {
     check_sum(finder, scope, &relation.left)?;
     match &relation.right {
@@ -137,7 +144,8 @@ pub fn check_expression(
     scope: &BehaviourScope<'_>,
     expression: &Expression,
 ) -> Result<(), AllocError>
-    ensures { OnOk result (finder.new ≡ found finder.old (spec.expression_uses (known_by scope.now) (expression_view kept_place expression.now))) }
+    ensures { OnOk result (finder.new ≡ found finder.old
+        (spec.expression_uses (known_by scope.now) (expression_view kept_place expression.now))) }
 {
     check_relation(finder, scope, &expression.first)?;
     for operand in &expression.rest {
@@ -152,7 +160,8 @@ fn check_action(
     scope: &BehaviourScope<'_>,
     action: &Action,
 ) -> Result<(), AllocError>
-    ensures { OnOk result (finder.new ≡ found finder.old (spec.action_uses (known_by scope.now) (action_view kept_place action.now))) }
+    ensures { OnOk result (finder.new ≡ found finder.old
+        (spec.action_uses (known_by scope.now) (action_view kept_place action.now))) }
 {
     match action {
         Action::Assign { target, value } => {
@@ -174,7 +183,8 @@ fn check_choice(
     scope: &BehaviourScope<'_>,
     choice: &Choice,
 ) -> Result<(), AllocError>
-    ensures { OnOk result (finder.new ≡ found finder.old (spec.action_uses (known_by scope.now) (choice_view kept_place choice.now))) }
+    ensures { OnOk result (finder.new ≡ found finder.old
+        (spec.action_uses (known_by scope.now) (choice_view kept_place choice.now))) }
 {
     check_expression(finder, scope, &choice.test)?;
     check_actions(finder, scope, &choice.actions)?;
@@ -194,7 +204,8 @@ fn check_loop(
     scope: &BehaviourScope<'_>,
     turns: &Loop,
 ) -> Result<(), AllocError>
-    ensures { OnOk result (finder.new ≡ found finder.old (spec.action_uses (known_by scope.now) (loop_view kept_place turns.now))) }
+    ensures { OnOk result (finder.new ≡ found finder.old
+        (spec.action_uses (known_by scope.now) (loop_view kept_place turns.now))) }
 {
     check_again(finder, scope, &turns.variable)?;
     let inner = scope.with_loop(&turns.variable)?;
@@ -207,7 +218,8 @@ fn check_actions(
     scope: &BehaviourScope<'_>,
     actions: &Actions,
 ) -> Result<(), AllocError>
-    ensures { OnOk result (finder.new ≡ found finder.old (spec.actions_uses (known_by scope.now) (actions_view kept_place actions.now))) }
+    ensures { OnOk result (finder.new ≡ found finder.old
+        (spec.actions_uses (known_by scope.now) (actions_view kept_place actions.now))) }
 {
     check_action(finder, scope, &actions.first)?;
     for action in &actions.rest {
@@ -223,7 +235,8 @@ pub fn check_block(
     scope: &BehaviourScope<'_>,
     block: &Block,
 ) -> Result<(), AllocError>
-    ensures { OnOk result (finder.new ≡ found finder.old (spec.block_uses (known_by scope.now) (block_view kept_place block.now))) }
+    ensures { OnOk result (finder.new ≡ found finder.old
+        (spec.block_uses (known_by scope.now) (block_view kept_place block.now))) }
 {
     match &block.actions {
         Some(actions) => check_actions(finder, scope, actions),

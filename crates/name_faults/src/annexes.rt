@@ -36,7 +36,8 @@ fn check_variable_list(
     finder: &mut FaultFinder,
     variables: &[VariableDeclaration],
 ) -> Result<(), AllocError>
-    ensures { OnOk result (finder.new ≡ found finder.old (flat_map spec.variable_faults (map (variable_view kept_place) variables.now))) }
+    ensures { OnOk result (finder.new ≡ found finder.old
+        (flat_map spec.variable_faults (map (variable_view kept_place) variables.now))) }
 {
     for variable in variables {
         check_variable(finder, variable)?;
@@ -52,7 +53,8 @@ fn check_annex_variables(finder: &mut FaultFinder, annex: &Annex) -> Result<(), 
 
 /// Finds what is wrong with the properties of variables in annexes.
 pub fn check_variables(finder: &mut FaultFinder, annexes: &[Annex]) -> Result<(), AllocError>
-    ensures { OnOk result (finder.new ≡ found finder.old (flat_map spec.variables_faults (map (annex_view kept_place) annexes.now))) }
+    ensures { OnOk result (finder.new ≡ found finder.old
+        (flat_map spec.variables_faults (map (annex_view kept_place) annexes.now))) }
 {
     for annex in annexes {
         check_annex_variables(finder, annex)?;

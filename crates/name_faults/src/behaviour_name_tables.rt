@@ -64,7 +64,8 @@ fn add_word<V: Copy>(
     value: V,
 ) -> Result<(), AllocError>
     ensures { OnOk result ((name : List ℕ)
-        → value_of table.new name ≡ option_or (value_of table.old name) (value_if value (same_name name (identifier_view kept_place word.now).spelling))) }
+        → value_of table.new name ≡ option_or (value_of table.old name)
+        (value_if value (same_name name (identifier_view kept_place word.now).spelling))) }
 {
     table.add(alloc, word.spelling.as_str(), value)
 }

@@ -53,7 +53,8 @@ impl<'t> BehaviourScope<'t> {
 
     /// The names in a loop of the variable.
     pub fn with_loop(&self, variable: &Identifier) -> Result<BehaviourScope<'t>, AllocError>
-        ensures { IfOk result (λ scope. known_by scope ≡ with_loop (known_by self.now) (identifier_view kept_place variable.now)) }
+        ensures { IfOk result (λ scope. known_by scope
+            ≡ with_loop (known_by self.now) (identifier_view kept_place variable.now)) }
     {
         let mut loops = self.loops.try_clone(self.alloc)?;
         loops.push(Text::from_str(self.alloc, variable.spelling.as_str())?)?;

@@ -8,7 +8,8 @@ use aadl_tree::{AnnexTree, StateDeclaration, Transition, VariableDeclaration};
 
 /// The declarations of variables.
 pub fn variables_in(behaviour: &AnnexTree) -> &[VariableDeclaration]
-    ensures { map (variable_view kept_place) result.now ≡ listed_in (annex_tree_view kept_place behaviour.now).variables }
+    ensures { map (variable_view kept_place) result.now
+        ≡ listed_in (annex_tree_view kept_place behaviour.now).variables }
 {
     match &behaviour.variables {
         Some(variables) => variables.as_slice(),
@@ -28,7 +29,8 @@ pub fn states_in(behaviour: &AnnexTree) -> &[StateDeclaration]
 
 /// The transitions.
 pub fn transitions_in(behaviour: &AnnexTree) -> &[Transition]
-    ensures { map (transition_view kept_place) result.now ≡ listed_in (annex_tree_view kept_place behaviour.now).transitions }
+    ensures { map (transition_view kept_place) result.now
+        ≡ listed_in (annex_tree_view kept_place behaviour.now).transitions }
 {
     match &behaviour.transitions {
         Some(transitions) => transitions.as_slice(),

@@ -74,7 +74,8 @@ fn check_source(
     at: usize,
     port: Option<(NumberedPort, Option<Direction>)>,
 ) -> Result<(), AllocError>
-    ensures { OnOk result (finder.new ≡ found finder.old (spec.end_faults spec.may_leave (end_view kept_place end.now) at port)) }
+    ensures { OnOk result (finder.new ≡ found finder.old
+        (spec.end_faults spec.may_leave (end_view kept_place end.now) at port)) }
 {
     match port {
         Some((site, direction)) => {
@@ -91,7 +92,8 @@ fn check_target(
     at: usize,
     port: Option<(NumberedPort, Option<Direction>)>,
 ) -> Result<(), AllocError>
-    ensures { OnOk result (finder.new ≡ found finder.old (spec.end_faults spec.may_enter (end_view kept_place end.now) at port)) }
+    ensures { OnOk result (finder.new ≡ found finder.old
+        (spec.end_faults spec.may_enter (end_view kept_place end.now) at port)) }
 {
     match port {
         Some((site, direction)) => {
@@ -127,7 +129,8 @@ fn check_connection(
     target: Option<(NumberedPort, Option<Direction>)>,
     connection: &Connection,
 ) -> Result<(), AllocError>
-    ensures { OnOk result (finder.new ≡ found finder.old (spec.joined_faults (connection_view kept_place connection.now) source target)) }
+    ensures { OnOk result (finder.new ≡ found finder.old
+        (spec.joined_faults (connection_view kept_place connection.now) source target)) }
 {
     let at = connection.name.at;
     check_source(finder, &connection.source, at, source)?;

@@ -47,7 +47,8 @@ fn check_implementation(
     requires all { AreAllNamesOf (placed wires.now.uses.names.tree.now) all.now }
     requires number { StandsAt (placed wires.now.uses.names.tree.now) number (implementation_view kept_place x.now) }
     ensures { OnOk result (finder.new ≡ found finder.old
-        (spec.implementation_faults (placed wires.now.uses.names.tree.now) of_root (implementation_view kept_place x.now))) }
+        (spec.implementation_faults (placed wires.now.uses.names.tree.now) of_root
+        (implementation_view kept_place x.now))) }
 {
     check_outside_behaviours(finder, wires, number, of_root, x)?;
     let of_type = wires.uses.type_number(number);
@@ -70,9 +71,11 @@ fn check_declaration(
     declaration: &Declaration,
 ) -> Result<(), AllocError>
     requires all { AreAllNamesOf (placed wires.now.uses.names.tree.now) all.now }
-    requires number { slice_get (placed wires.now.uses.names.tree.now).declarations number ≡ Some (declaration_view kept_place declaration.now) }
+    requires number { slice_get (placed wires.now.uses.names.tree.now).declarations number
+        ≡ Some (declaration_view kept_place declaration.now) }
     ensures { OnOk result (finder.new ≡ found finder.old
-        (spec.declaration_faults (placed wires.now.uses.names.tree.now) root (number, declaration_view kept_place declaration.now))) }
+        (spec.declaration_faults (placed wires.now.uses.names.tree.now) root
+        (number, declaration_view kept_place declaration.now))) }
 {
     match declaration {
         Declaration::Type(x) => check_type(finder, is_root_type(&wires.uses, root, number), x),
@@ -106,7 +109,8 @@ pub fn check_declarations(
     root: usize,
 ) -> Result<(), AllocError>
     requires { AreAllNamesOf (placed wires.now.uses.names.tree.now) all.now }
-    ensures { OnOk result (finder.new ≡ found finder.old (spec.wrong_names (placed wires.now.uses.names.tree.now) root)) }
+    ensures { OnOk result (finder.new ≡ found finder.old
+        (spec.wrong_names (placed wires.now.uses.names.tree.now) root)) }
 {
     check_end_name(finder, wires.uses.names.tree)?;
     for (number, declaration) in wires.uses.names.tree.declarations.iter().enumerate() {

@@ -33,7 +33,8 @@ fn check_earliest(
     port: NumberedPlace,
     entry: &SpelledName,
 ) -> Result<(), AllocError>
-    ensures { OnOk result (finder.new ≡ found finder.old (spec.port_again (port_entries (map (feature_view kept_place) ports.now)) (Some port) entry.now)) }
+    ensures { OnOk result (finder.new ≡ found finder.old
+        (spec.port_again (port_entries (map (feature_view kept_place) ports.now)) (Some port) entry.now)) }
 {
     if entry.at < port.at {
         check_port(finder, ports, port.number)
@@ -66,7 +67,8 @@ fn check_one(
     other: Option<NumberedPlace>,
     entry: &SpelledName,
 ) -> Result<(), AllocError>
-    ensures { OnOk result (finder.new ≡ found finder.old (spec.beside_one (port_entries (map (feature_view kept_place) ports.now)) port other entry.now)) }
+    ensures { OnOk result (finder.new ≡ found finder.old
+        (spec.beside_one (port_entries (map (feature_view kept_place) ports.now)) port other entry.now)) }
 {
     check_behind(finder, port, other, entry)?;
     match port {
@@ -84,7 +86,8 @@ pub fn check_port_duplicates(
     others: &[SpelledName],
 ) -> Result<(), AllocError>
     requires { AreNamesOf (map (feature_view kept_place) ports.now) names.now }
-    ensures { OnOk result (finder.new ≡ found finder.old (spec.beside (port_entries (map (feature_view kept_place) ports.now)) others.now)) }
+    ensures { OnOk result (finder.new ≡ found finder.old
+        (spec.beside (port_entries (map (feature_view kept_place) ports.now)) others.now)) }
 {
     let alloc = finder.alloc();
     finder.add(&names.again)?;

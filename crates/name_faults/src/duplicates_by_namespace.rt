@@ -36,7 +36,8 @@ fn check_in_behaviour(
     requires all { AreAllNamesOf (placed tree.now) all.now }
     requires of_type { of_type ≡ type_number (placed tree.now) (implementation_view kept_place x.now) }
     ensures { OnOk result (finder.new ≡ found finder.old
-        (spec.beside_in_behaviour (placed tree.now) (implementation_view kept_place x.now) (annex_tree_view kept_place behaviour.now))) }
+        (spec.beside_in_behaviour (placed tree.now) (implementation_view kept_place x.now)
+        (annex_tree_view kept_place behaviour.now))) }
 {
     let alloc = finder.alloc();
     let variables = variable_entries(alloc, behaviour)?;
@@ -52,7 +53,8 @@ fn check_in_behaviour(
 
 /// The first behaviour among annexes.
 pub fn first_behaviour(annexes: &[Annex]) -> Option<&AnnexTree>
-    ensures { option_map (λ b. annex_tree_view kept_place b.now) result ≡ first_behaviour (behaviours (map (annex_view kept_place) annexes.now)) }
+    ensures { option_map (λ b. annex_tree_view kept_place b.now) result
+        ≡ first_behaviour (behaviours (map (annex_view kept_place) annexes.now)) }
 {
     for annex in annexes {
         match &annex.content {
@@ -75,7 +77,8 @@ fn check_in_first(
     requires all { AreAllNamesOf (placed tree.now) all.now }
     requires of_type { of_type ≡ type_number (placed tree.now) (implementation_view kept_place x.now) }
     ensures { OnOk result (finder.new ≡ found finder.old
-        (spec.beside_in_first (placed tree.now) (implementation_view kept_place x.now) (behaviours (implementation_view kept_place x.now).annexes))) }
+        (spec.beside_in_first (placed tree.now) (implementation_view kept_place x.now)
+        (behaviours (implementation_view kept_place x.now).annexes))) }
 {
     let Some(behaviour) = first_behaviour(x.annexes.as_slice()) else {
         return Ok(());
@@ -119,8 +122,10 @@ fn check_in(
     declaration: &Declaration,
 ) -> Result<(), AllocError>
     requires all { AreAllNamesOf (placed uses.now.names.tree.now) all.now }
-    requires number { slice_get (placed uses.now.names.tree.now).declarations number ≡ Some (declaration_view kept_place declaration.now) }
-    ensures { OnOk result (finder.new ≡ found finder.old (spec.beside_in (placed uses.now.names.tree.now) (declaration_view kept_place declaration.now))) }
+    requires number { slice_get (placed uses.now.names.tree.now).declarations number
+        ≡ Some (declaration_view kept_place declaration.now) }
+    ensures { OnOk result (finder.new ≡ found finder.old
+        (spec.beside_in (placed uses.now.names.tree.now) (declaration_view kept_place declaration.now))) }
 {
     match declaration {
         Declaration::Type(_) => Ok(()),

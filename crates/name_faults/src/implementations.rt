@@ -39,7 +39,8 @@ fn check_heading(
     x: &Implementation,
 ) -> Result<(), AllocError>
     requires { of_type ≡ type_number (placed tree.now) (implementation_view kept_place x.now) }
-    ensures { OnOk result (finder.new ≡ found finder.old (spec.heading_faults (placed tree.now) (implementation_view kept_place x.now))) }
+    ensures { OnOk result (finder.new ≡ found finder.old
+        (spec.heading_faults (placed tree.now) (implementation_view kept_place x.now))) }
 {
     let alloc = finder.alloc();
     let name = spelled_implementation(alloc, &x.name)?;

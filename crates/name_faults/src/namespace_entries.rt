@@ -51,7 +51,8 @@ fn add_subcomponents(
     entries: &mut ItemList<SpelledName>,
     subs: &[Subcomponent],
 ) -> Result<(), AllocError>
-    ensures { OnOk result (entries.new ≡ entries.old ++ map (λ s. entry_of s.name) (map (subcomponent_view kept_place) subs.now)) }
+    ensures { OnOk result (entries.new ≡ entries.old
+        ++ map (λ s. entry_of s.name) (map (subcomponent_view kept_place) subs.now)) }
 {
     for sub in subs {
         add_word(alloc, entries, &sub.name)?;
@@ -64,7 +65,8 @@ fn add_connections(
     entries: &mut ItemList<SpelledName>,
     connections: &[Connection],
 ) -> Result<(), AllocError>
-    ensures { OnOk result (entries.new ≡ entries.old ++ map (λ c. entry_of c.name) (map (connection_view kept_place) connections.now)) }
+    ensures { OnOk result (entries.new ≡ entries.old
+        ++ map (λ c. entry_of c.name) (map (connection_view kept_place) connections.now)) }
 {
     for connection in connections {
         add_word(alloc, entries, &connection.name)?;
@@ -130,7 +132,8 @@ fn add_type(
     entries: &mut ItemList<SpelledName>,
     declaration: &Declaration,
 ) -> Result<(), AllocError>
-    ensures { OnOk result (entries.new ≡ entries.old ++ filter_map spec.type_entry (declaration_view kept_place declaration.now ∷ [])) }
+    ensures { OnOk result (entries.new ≡ entries.old
+        ++ filter_map spec.type_entry (declaration_view kept_place declaration.now ∷ [])) }
 {
     match declaration {
         Declaration::Type(x) => {
@@ -147,7 +150,8 @@ fn add_implementation(
     entries: &mut ItemList<SpelledName>,
     declaration: &Declaration,
 ) -> Result<(), AllocError>
-    ensures { OnOk result (entries.new ≡ entries.old ++ filter_map spec.implementation_entry (declaration_view kept_place declaration.now ∷ [])) }
+    ensures { OnOk result (entries.new ≡ entries.old
+        ++ filter_map spec.implementation_entry (declaration_view kept_place declaration.now ∷ [])) }
 {
     match declaration {
         Declaration::Type(_) => Ok(()),
@@ -165,7 +169,8 @@ fn add_words(
     entries: &mut ItemList<SpelledName>,
     words: &Identifiers,
 ) -> Result<(), AllocError>
-    ensures { OnOk result (entries.new ≡ entries.old ++ map entry_of (identifiers (identifiers_view kept_place words.now))) }
+    ensures { OnOk result (entries.new ≡ entries.old
+        ++ map entry_of (identifiers (identifiers_view kept_place words.now))) }
 {
     add_word(alloc, entries, &words.first)?;
     for word in &words.rest {

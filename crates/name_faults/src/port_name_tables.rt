@@ -73,7 +73,8 @@ fn role_in(direction: Direction) -> Role
 fn add_role(alloc: Global, roles: &mut NameTable<Role>, port: &Feature) -> Result<(), AllocError>
     ensures { OnOk result ((name : List ℕ) → value_of roles.new name
         ≡ option_or (value_of roles.old name)
-        (if same_name name (feature_view kept_place port.now).name.spelling then Some (role_in (feature_view kept_place port.now).direction) else None)) }
+        (if same_name name (feature_view kept_place port.now).name.spelling
+        then Some (role_in (feature_view kept_place port.now).direction) else None)) }
 {
     roles.add(alloc, port.name.spelling.as_str(), role_in(port.direction))
 }
@@ -112,7 +113,8 @@ fn port_names(alloc: Global, ports: &[Feature]) -> Result<PortNames, AllocError>
 
 // The ports of a declaration, if it is a type.
 fn ports_in(declaration: &Declaration) -> &[Feature]
-    ensures { map (feature_view kept_place) result.now ≡ features_of (type_in (Some (declaration_view kept_place declaration.now))) }
+    ensures { map (feature_view kept_place) result.now
+        ≡ features_of (type_in (Some (declaration_view kept_place declaration.now))) }
 {
     match declaration {
         Declaration::Type(x) => x.features.as_slice(),

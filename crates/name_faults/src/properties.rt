@@ -46,7 +46,8 @@ fn check_property(finder: &mut FaultFinder, holder: PropertyHolder, association:
 
 // Finds the values of other shapes in one list of properties.
 fn check_shapes(finder: &mut FaultFinder, holder: PropertyHolder, list: &[Association])
-    ensures { finder.new ≡ found finder.old (flat_map (spec.shape_fault holder) (spec.listed (associations_view kept_place list.now))) }
+    ensures { finder.new ≡ found finder.old (flat_map (spec.shape_fault holder)
+        (spec.listed (associations_view kept_place list.now))) }
 {
     for association in list {
         check_property(finder, holder, association);
@@ -70,7 +71,8 @@ fn add_property(
     entries: &mut ItemList<SpelledName>,
     association: &Association,
 ) -> Result<(), AllocError>
-    ensures { OnOk result (entries.new ≡ entries.old ++ property_entries (associate (association_view kept_place association.now) no_associations)) }
+    ensures { OnOk result (entries.new ≡ entries.old
+        ++ property_entries (associate (association_view kept_place association.now) no_associations)) }
 {
     if association.applies_to.is_empty() {
         entries.push(association_entry(alloc, association)?)?;
@@ -95,7 +97,8 @@ fn property_entries(
 // Finds the properties that are given twice in one list.
 #[tactic(auto, using(crate::proofs::SinglePropertyLists::none_twice))]
 fn check_repeated(finder: &mut FaultFinder, list: &[Association]) -> Result<(), AllocError>
-    ensures { OnOk result (finder.new ≡ found finder.old (twice (property_entries (associations_view kept_place list.now)))) }
+    ensures { OnOk result (finder.new ≡ found finder.old
+        (twice (property_entries (associations_view kept_place list.now)))) }
 {
     if list.len() < 2 {
         return Ok(());
@@ -111,7 +114,8 @@ pub fn check_properties(
     holder: PropertyHolder,
     list: &[Association],
 ) -> Result<(), AllocError>
-    ensures { OnOk result (finder.new ≡ found finder.old (spec.list_faults holder (associations_view kept_place list.now))) }
+    ensures { OnOk result (finder.new ≡ found finder.old
+        (spec.list_faults holder (associations_view kept_place list.now))) }
 {
     check_shapes(finder, holder, list);
     check_repeated(finder, list)

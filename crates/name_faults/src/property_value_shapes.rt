@@ -75,7 +75,8 @@ fn is_initial(bytes: &[u8]) -> bool
 
 // A text that is an initial value.
 fn is_initial_text(value: &Value) -> bool
-    ensures { result ≡ property_value_shapes.is_initial_text (property_value_shapes.text_of (value_view kept_place value.now)) }
+    ensures { result ≡ property_value_shapes.is_initial_text
+        (property_value_shapes.text_of (value_view kept_place value.now)) }
 {
     match value {
         Value::Text(bytes) => is_initial(unquoted(bytes.as_slice())),
@@ -85,7 +86,8 @@ fn is_initial_text(value: &Value) -> bool
 
 // One text that is an initial value.
 fn is_initial_only(values: &[Value]) -> bool
-    ensures { result ≡ property_value_shapes.is_initial_text (property_value_shapes.only_text (list (values_view kept_place values.now))) }
+    ensures { result ≡ property_value_shapes.is_initial_text
+        (property_value_shapes.only_text (list (values_view kept_place values.now))) }
 {
     match values {
         [only] => is_initial_text(only),

@@ -50,13 +50,15 @@ fn may_contain(outer: Category, inner: Category) -> bool
 
 // The implementation of a number, if there is one.
 fn implementation_of(tree: &PackageTree, number: Option<usize>) -> Option<&Implementation>
-    ensures { option_map (implementation_view kept_place) (option_copied result) ≡ option_and_then (implementation_at (placed tree.now)) number }
+    ensures { option_map (implementation_view kept_place) (option_copied result)
+        ≡ option_and_then (implementation_at (placed tree.now)) number }
 {
     implementation_at(tree, number?)
 }
 
 fn unknown_target(finder: &mut FaultFinder, reference: &Reference) -> Result<(), AllocError>
-    ensures { OnOk result (finder.new ≡ found finder.old (spec.unknown_reference (reference_view kept_place reference.now))) }
+    ensures { OnOk result (finder.new ≡ found finder.old
+        (spec.unknown_reference (reference_view kept_place reference.now))) }
 {
     let name = spelled_reference(finder.alloc(), reference)?;
     finder.unknown(name.as_str(), reference_at(reference))
@@ -69,7 +71,8 @@ fn check_declared(
     sub: &Subcomponent,
 ) -> Result<(), AllocError>
     ensures { OnOk result (finder.new ≡ found finder.old
-        (spec.target_faults (subcomponent_view kept_place sub.now) (option_map (implementation_view kept_place) (option_copied implementation.entry)))) }
+        (spec.target_faults (subcomponent_view kept_place sub.now)
+        (option_map (implementation_view kept_place) (option_copied implementation.entry)))) }
 {
     match implementation {
         Some(x) => {
@@ -132,7 +135,8 @@ pub fn check_subcomponents(
 ) -> Result<(), AllocError>
     requires { StandsAt (placed uses.now.names.tree.now) number (implementation_view kept_place x.now) }
     ensures { OnOk result (finder.new ≡ found finder.old
-        (flat_map (spec.subcomponent_faults (placed uses.now.names.tree.now) x.now.category) (implementation_view kept_place x.now).subcomponents)) }
+        (flat_map (spec.subcomponent_faults (placed uses.now.names.tree.now) x.now.category)
+        (implementation_view kept_place x.now).subcomponents)) }
 {
     let tree = uses.names.tree;
     for (place, sub) in x.subcomponents.iter().enumerate() {

@@ -22,7 +22,8 @@ fn check_state(
     states: &NameTable<()>,
     name: &Identifier,
 ) -> Result<(), AllocError>
-    ensures { OnOk result (finder.new ≡ found finder.old (spec.state_uses (is_state_by states.now) (identifier_view kept_place name.now))) }
+    ensures { OnOk result (finder.new ≡ found finder.old
+        (spec.state_uses (is_state_by states.now) (identifier_view kept_place name.now))) }
 {
     let word = name.spelling.as_str();
     match states.value(finder.alloc(), word)? {
@@ -37,7 +38,8 @@ fn check_guard(
     scope: &BehaviourScope<'_>,
     guard: &Option<Guard>,
 ) -> Result<(), AllocError>
-    ensures { OnOk result (finder.new ≡ found finder.old (spec.guard_uses (known_by scope.now) (option_map (guard_view kept_place) guard.now))) }
+    ensures { OnOk result (finder.new ≡ found finder.old
+        (spec.guard_uses (known_by scope.now) (option_map (guard_view kept_place) guard.now))) }
 {
     match guard {
         Some(Guard::When(expression)) => check_expression(finder, scope, expression),
@@ -53,7 +55,8 @@ fn check_effect(
     scope: &BehaviourScope<'_>,
     effect: &Option<Block>,
 ) -> Result<(), AllocError>
-    ensures { OnOk result (finder.new ≡ found finder.old (spec.effect_uses (known_by scope.now) (option_map (block_view kept_place) effect.now))) }
+    ensures { OnOk result (finder.new ≡ found finder.old
+        (spec.effect_uses (known_by scope.now) (option_map (block_view kept_place) effect.now))) }
 {
     match effect {
         Some(block) => check_block(finder, scope, block),
@@ -85,7 +88,8 @@ pub fn check_transitions(
     transitions: &[Transition],
 ) -> Result<(), AllocError>
     ensures { OnOk result (finder.new ≡ found finder.old
-        (flat_map (spec.transition_uses (is_state_by states.now) (known_by scope.now)) (map (transition_view kept_place) transitions.now))) }
+        (flat_map (spec.transition_uses (is_state_by states.now) (known_by scope.now))
+        (map (transition_view kept_place) transitions.now))) }
 {
     for transition in transitions {
         check_transition(finder, states, scope, transition)?;

@@ -23,7 +23,8 @@ fn check_port(finder: &mut FaultFinder, port: &Feature) -> Result<(), AllocError
 
 /// Finds what is wrong with the properties of ports.
 pub fn check_ports(finder: &mut FaultFinder, ports: &[Feature]) -> Result<(), AllocError>
-    ensures { OnOk result (finder.new ≡ found finder.old (flat_map spec.port_faults (map (feature_view kept_place) ports.now))) }
+    ensures { OnOk result (finder.new ≡ found finder.old
+        (flat_map spec.port_faults (map (feature_view kept_place) ports.now))) }
 {
     for port in ports {
         check_port(finder, port)?;

@@ -173,7 +173,8 @@ impl SharedRun {
     /// The reading, in nanoseconds, from which on a node does what it is doing, or what it does next.
     /// None where it is done.
     pub fn target(&self, node: NodeNo) -> Option<Nanos>
-        ensures { node.0 < length self.now.bus.run.design.components → result ≡ target_of self.now.bus.run self.now.bus.state node.0 }
+        ensures { node.0 < length self.now.bus.run.design.components
+            → result ≡ target_of self.now.bus.run self.now.bus.state node.0 }
     {
         if node.0 >= self.count() {
             return None;

@@ -120,7 +120,8 @@ impl Locked {
     /// Whether no node of the calling thread may go on any more.
     pub fn caller_is_over(&self) -> bool
         ensures { IsTrue result
-            → (node : ℕ) → IsOpen self.now.course node → (slot_at self.now.sleepers.threads node).of_caller ≡ true → IsDone self.now.course node }
+            → (node : ℕ) → IsOpen self.now.course node → (slot_at self.now.sleepers.threads node).of_caller ≡ true
+            → IsDone self.now.course node }
     {
         self.sleepers.caller_is_over(&self.course)
     }

@@ -47,7 +47,8 @@ impl Sleepers {
 
     /// The calling thread has a node.
     pub fn give_to_caller(&mut self, node: NodeNo)
-        ensures { self.new ≡ with_slot self.old node.0 (record { of_caller = true; sleeps = (slot_at self.old.threads node.0).sleeps }) }
+        ensures { self.new ≡ with_slot self.old node.0
+            (record { of_caller = true; sleeps = (slot_at self.old.threads node.0).sleeps }) }
     {
         let sleeps = self.slot(node).sleeps;
         self.put(
@@ -68,7 +69,8 @@ impl Sleepers {
 
     /// Whether the thread of a node sleeps on, which is noted.
     pub fn sleeps(&mut self, course: &SharedRun, node: NodeNo) -> bool
-        ensures noted { self.new ≡ with_slot self.old node.0 (record { of_caller = (slot_at self.old.threads node.0).of_caller; sleeps = result }) }
+        ensures noted { self.new ≡ with_slot self.old node.0
+            (record { of_caller = (slot_at self.old.threads node.0).of_caller; sleeps = result }) }
         ensures waits { IsTrue result → Waits course.now self.old.hour node.0 }
     {
         let sleeps = self.must_wait(course, node);
@@ -79,7 +81,8 @@ impl Sleepers {
 
     /// Whether no node of the calling thread may go on any more.
     pub fn caller_is_over(&self, course: &SharedRun) -> bool
-        ensures { IsTrue result → (node : ℕ) → IsOpen course.now node → (slot_at self.now.threads node).of_caller ≡ true → IsDone course.now node }
+        ensures { IsTrue result → (node : ℕ) → IsOpen course.now node → (slot_at self.now.threads node).of_caller ≡ true
+            → IsDone course.now node }
     {
         for number in 0..course.count() {
             if !self.is_over(course, NodeNo(number)) {
@@ -91,7 +94,8 @@ impl Sleepers {
 
     // Whether a node is not the calling thread's, or may not go on any more.
     fn is_over(&self, course: &SharedRun, node: NodeNo) -> bool
-        ensures { IsTrue result → IsOpen course.now node.0 → (slot_at self.now.threads node.0).of_caller ≡ true → IsDone course.now node.0 }
+        ensures { IsTrue result → IsOpen course.now node.0 → (slot_at self.now.threads node.0).of_caller ≡ true
+            → IsDone course.now node.0 }
     {
         !self.is_of_caller(node) || !course.is_open(node)
     }

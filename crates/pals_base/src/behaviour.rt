@@ -185,7 +185,12 @@ impl Model for Transition {
 
     ghost use Rattle.pals_base.specs.proof.TreeViews.{trigger_of, actions_along};
 
-    ghost view = { λ t. record { source = t.source; target = t.target; trigger = trigger_of t.guard; actions = actions_along t.acts.items } };
+    ghost view = { λ t. record {
+      source = t.source;
+      target = t.target;
+      trigger = trigger_of t.guard;
+      actions = actions_along t.acts.items;
+    } };
 }
 
 /// The parts of a behaviour: its ports, variables and states, the number of its initial state, and

@@ -144,7 +144,8 @@ impl<T> Index<usize> for ItemList<T> {
 impl<T> IndexMut<usize> for ItemList<T> {
     fn index_mut(&mut self, at: usize) -> &mut T
         requires { at < length self.old }
-        ensures* writes_back { sem 𝓛 (Lends (the_row T.row) T.row self.entry result (λ item. slice_set self.entry.now at item)) }
+        ensures* writes_back { sem 𝓛 (Lends (the_row T.row) T.row self.entry result
+            (λ item. slice_set self.entry.now at item)) }
         ensures value { result.now ≡ slice_index_or self.old at result.now }
     {
         &mut self.items[at]

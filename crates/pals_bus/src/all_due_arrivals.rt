@@ -50,7 +50,8 @@ impl BusFields {
         requires keeps { IsBusInvariant self.old }
         requires going { self.old.stop ≡ None }
         requires left { AreLeft (value_of self.old) node.0 reading due.now }
-        requires room { length self.old.journal.items + sum_by owed self.old.nodes + length due.now + 4 ≤ vec_capacity self.old.journal }
+        requires room { length self.old.journal.items + sum_by owed self.old.nodes + length due.now + 4 ≤ vec_capacity
+            self.old.journal }
         ensures keeps { IsBusInvariant self.new }
         ensures takes { TakesDue node.0 reading (value_of self.old) (value_of self.new) }
         ensures stop { result ≡ self.new.stop }

@@ -24,9 +24,11 @@ impl BusFields {
         requires link { link.0 < length (arc_value self.old.design).links }
         requires room { length self.old.journal.items + sum_by owed self.old.nodes + 2 ≤ vec_capacity self.old.journal }
         ensures keeps { IsBusInvariant self.new }
-        ensures some { IfSome result (λ arrived. Happens (value_of self.old) (Arrive link round reading) (value_of self.new)
+        ensures some { IfSome result (λ arrived. Happens (value_of self.old) (Arrive link round reading)
+            (value_of self.new)
             × (arrived ≡ arrival (run_of self.old) (state_of self.old) link round)) }
-        ensures none { IfNone result ((value_of self.new ≡ value_of self.old) × (is_in_flight round (flight_at (state_of self.old) link.0) ≡ false)) }
+        ensures none { IfNone result ((value_of self.new ≡ value_of self.old)
+            × (is_in_flight round (flight_at (state_of self.old) link.0) ≡ false)) }
         ensures owed { sum_by owed self.new.nodes ≡ sum_by owed self.old.nodes }
         ensures room { vec_capacity self.new.journal ≡ vec_capacity self.old.journal }
     {

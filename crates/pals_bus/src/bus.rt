@@ -71,7 +71,8 @@ impl Bus {
         requires most { rounds ≤ ROUNDS }
         requires delays { AreDelays (length (arc_value design).links) delays }
         requires codes { AreCodes (arc_value design) codes }
-        ensures { IfOk result (λ bus. bus ≡ opening_bus (record { design = arc_value design; env = env; rounds = rounds; delays = delays }) codes meeting) }
+        ensures { IfOk result (λ bus. bus ≡ opening_bus
+            (record { design = arc_value design; env = env; rounds = rounds; delays = delays }) codes meeting) }
     {
         let nodes = opening_nodes(alloc, &design, codes, rounds)?;
         let run = Run {

@@ -71,7 +71,8 @@ impl BusFields {
         ensures keeps { IsBusInvariant self.new }
         ensures others { self.new ≡ record self.old { journal = self.new.journal } }
         ensures items { self.new.journal.items ≡ self.old.journal.items }
-        ensures room { OnOk result (length self.new.journal.items + sum_by owed self.new.nodes + 4 ≤ vec_capacity self.new.journal) }
+        ensures room { OnOk result (length self.new.journal.items + sum_by owed self.new.nodes + 4 ≤ vec_capacity
+            self.new.journal) }
     {
         let most = 2 * self.nodes.len() + 4;
         self.journal.reserve(most)
@@ -86,7 +87,8 @@ impl BusFields {
         ensures keeps { IsBusInvariant self.new }
         ensures others { self.new ≡ record self.old { journal = self.new.journal } }
         ensures items { self.new.journal.items ≡ self.old.journal.items }
-        ensures room { OnOk result (length self.new.journal.items + sum_by owed self.new.nodes + count + 4 ≤ vec_capacity self.new.journal) }
+        ensures room { OnOk result (length self.new.journal.items + sum_by owed
+            self.new.nodes + count + 4 ≤ vec_capacity self.new.journal) }
     {
         let most = 2 * self.nodes.len() + 4 + count;
         self.journal.reserve(most)
@@ -97,11 +99,14 @@ impl BusFields {
         requires keeps { IsBusInvariant self.old }
         requires node { node.0 < length (arc_value self.old.design).components }
         ensures keeps { IsBusInvariant self.new }
-        ensures others { self.new ≡ record self.old { journal = self.new.journal; flights = self.new.flights; queues = self.new.queues } }
+        ensures others { self.new ≡ record self.old
+            { journal = self.new.journal; flights = self.new.flights; queues = self.new.queues } }
         ensures items { self.new.journal.items ≡ self.old.journal.items }
         ensures copies { copies_in self.new.flights ≡ copies_in self.old.flights }
-        ensures entries { OnOk result (length self.new.journal.items + sum_by owed self.new.nodes + 4 ≤ vec_capacity self.new.journal) }
-        ensures room { OnOk result (HasRoomFor node.0 (length (arc_value self.new.design).links) (arc_value self.new.design).links self.new.flights) }
+        ensures entries { OnOk result (length self.new.journal.items + sum_by owed self.new.nodes + 4 ≤ vec_capacity
+            self.new.journal) }
+        ensures room { OnOk result (HasRoomFor node.0 (length (arc_value self.new.design).links)
+            (arc_value self.new.design).links self.new.flights) }
         ensures queues { OnOk result (HasQueueRoomFor node.0 (arc_value self.new.design).links self.new.queues) }
     {
         let links = self.design.links();
@@ -117,12 +122,15 @@ impl BusFields {
         requires keeps { IsBusInvariant self.old }
         requires link { link.0 < length (arc_value self.old.design).links }
         ensures keeps { IsBusInvariant self.new }
-        ensures others { self.new ≡ record self.old { journal = self.new.journal; flights = self.new.flights; queues = self.new.queues } }
+        ensures others { self.new ≡ record self.old
+            { journal = self.new.journal; flights = self.new.flights; queues = self.new.queues } }
         ensures items { self.new.journal.items ≡ self.old.journal.items }
         ensures copies { copies_in self.new.flights ≡ copies_in self.old.flights }
-        ensures entries { OnOk result (length self.new.journal.items + sum_by owed self.new.nodes + 4 ≤ vec_capacity self.new.journal) }
+        ensures entries { OnOk result (length self.new.journal.items + sum_by owed self.new.nodes + 4 ≤ vec_capacity
+            self.new.journal) }
         ensures room { OnOk result (2 ≤ (slice_index_or self.new.flights link.0 no_flight).spare) }
-        ensures queue { OnOk result (PORTS + 1 ≤ (slice_index_or self.new.queues (link_at (arc_value self.new.design) link.0).target.0 no_queue).spare) }
+        ensures queue { OnOk result (PORTS + 1 ≤ (slice_index_or self.new.queues
+            (link_at (arc_value self.new.design) link.0).target.0 no_queue).spare) }
     {
         let target = self.design.links()[link.0 as usize].target;
         self.flights[link.0 as usize].reserve(2)?;

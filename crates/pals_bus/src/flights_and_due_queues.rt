@@ -68,11 +68,14 @@ impl BusFields {
         requires count { length self.old.flights ≡ length (arc_value self.old.design).links }
         requires nodes { length self.old.nodes ≡ length (arc_value self.old.design).components }
         requires node { node.0 < length (arc_value self.old.design).components }
-        requires outgoing { AreOutgoing (length (arc_value self.old.design).components) (arc_value self.old.design).links self.old.outgoing }
+        requires outgoing { AreOutgoing (length (arc_value self.old.design).components)
+            (arc_value self.old.design).links self.old.outgoing }
         requires delays { AreDelays (length (arc_value self.old.design).links) self.old.delays }
         requires reading { IfSome reading (λ at. at ≤ READING) }
-        requires room { HasRoomFor node.0 (length (arc_value self.old.design).links) (arc_value self.old.design).links self.old.flights }
-        requires queues { AreQueuesAmid node.0 0 (arc_value self.old.design).links self.old.nodes self.old.flights self.old.queues }
+        requires room { HasRoomFor node.0 (length (arc_value self.old.design).links) (arc_value self.old.design).links
+            self.old.flights }
+        requires queues { AreQueuesAmid node.0 0 (arc_value self.old.design).links self.old.nodes self.old.flights
+            self.old.queues }
         requires messages { length messages ≡ length (filter (is_from node.0) (arc_value self.old.design).links) }
         ensures sent { IsRoundSent self.old node.0 round reading messages self.new.flights }
         ensures queues { AreQueues (arc_value self.old.design).links self.old.nodes self.new.flights self.new.queues }
@@ -117,7 +120,8 @@ impl BusFields {
         requires target { target_of self.old link < length self.old.queues }
         requires room { 1 ≤ (flight_on self.old link).spare }
         requires queue { 1 ≤ (queue_to self.old link).spare }
-        ensures flights { self.new.flights ≡ slice_set self.old.flights link.0 (with_copy (flight_on self.old link) copy) }
+        ensures flights { self.new.flights ≡ slice_set self.old.flights link.0
+            (with_copy (flight_on self.old link) copy) }
         ensures queues { self.new.queues ≡ queues_with self.old link copy }
         ensures others { self.new ≡ record self.old { flights = self.new.flights; queues = self.new.queues } }
     {

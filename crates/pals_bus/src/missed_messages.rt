@@ -24,7 +24,8 @@ impl BusFields {
     pub fn missed_stop(&self, node: NodeNo, port: u32, reading: Option<Nanos>) -> Stop
         requires keeps { IsBusInvariant self.now }
         requires node { node.0 < length self.now.nodes }
-        ensures { result ≡ missed_stop (run_of self.now) (state_of self.now) node reading (link_into (arc_value self.now.design) node.0 port) }
+        ensures { result ≡ missed_stop (run_of self.now) (state_of self.now) node reading
+            (link_into (arc_value self.now.design) node.0 port) }
     {
         let round = self.round_in_hand(node);
         let link = link_into(self.design.links(), node, port);

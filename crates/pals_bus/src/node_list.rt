@@ -152,7 +152,8 @@ impl NodeList {
         requires node { node < length self.old }
         requires port { port < length (node_of self.old node).state.slots }
         ensures answer { result ≡ arrived (node_of self.old node).state port round }
-        ensures others { self.new ≡ slice_set self.old node (with_state (node_of self.old node) (received (node_of self.old node).state port round tuple)) }
+        ensures others { self.new ≡ slice_set self.old node
+            (with_state (node_of self.old node) (received (node_of self.old node).state port round tuple)) }
     {
         self.nodes[node].arrive(port, round, tuple)
     }

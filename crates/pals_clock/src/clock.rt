@@ -104,7 +104,8 @@ impl ListClock {
 // it.
 fn passed_over(readings: &[Nanos], target: Nanos) -> Option<usize>
     ensures { MatchOption result (All (λ reading. reading < target) readings.now)
-        (λ n. (n < length readings.now) × (target ≤ slice_index readings.now n) × (remaining_from readings.now target ≡ drop n readings.now)) }
+        (λ n. (n < length readings.now) × (target ≤ slice_index readings.now n)
+        × (remaining_from readings.now target ≡ drop n readings.now)) }
 {
     readings.iter().position(|&reading| target <= reading)
 }

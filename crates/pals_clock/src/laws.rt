@@ -8,9 +8,11 @@ ghost use Rattle.pals_clock.specs.ClockStates.{left_after};
 /// One that ends has no pick, for that target or any later one, and it ends for every greater target
 /// too.
 pub fn picks_go_step_by_step()
-    ensures pick { (left targets : List ℕ) (target reading : ℕ) → slice_get (remaining_from left target) 0 ≡ Some reading
+    ensures pick { (left targets : List ℕ) (target reading : ℕ)
+        → slice_get (remaining_from left target) 0 ≡ Some reading
         → picks left (target ∷ targets) ≡ reading ∷ picks (remaining_from left target) targets }
-    ensures ended { (left targets : List ℕ) (target : ℕ) → All (λ reading. reading < target) left → picks left (target ∷ targets) ≡ [] }
+    ensures ended { (left targets : List ℕ) (target : ℕ) → All (λ reading. reading < target) left
+        → picks left (target ∷ targets) ≡ [] }
     ensures stays_ended { (left : List ℕ) (target later : ℕ) → target ≤ later
         → All (λ reading. reading < target) left → All (λ reading. reading < later) left }
 {}
@@ -23,5 +25,6 @@ pub fn picks_go_on()
 
 /// What is left at a target of readings that don't fall is all of them that are at least the target.
 pub fn reached_is_what_is_not_below()
-    ensures { (left : List ℕ) (target : ℕ) → IsNonDecreasing left → remaining_from left target ≡ filter (λ reading. nat_le target reading) left }
+    ensures { (left : List ℕ) (target : ℕ) → IsNonDecreasing left
+        → remaining_from left target ≡ filter (λ reading. nat_le target reading) left }
 {}

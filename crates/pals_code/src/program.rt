@@ -45,8 +45,10 @@ pub fn code<S: Source, K: Sink>(alloc: Global, words: &[Text], source: &mut S, s
 
 // The answer, its whole text made.
 fn answer_to<S: Source>(alloc: Global, words: &[Text], source: &mut S) -> Result<Answer, NoMemory>
-    ensures ok { IfOk result (λ answer. IsAnswer (root_of words.now) (reading (S.shown source.old) (S.shown source.new)) (status_of answer) (text_of answer)) }
-    ensures err { OnErr result (IsSome (root_of words.now) × GivesWithin (S.shown source.old) (S.shown source.new) BUNDLE_BYTES) }
+    ensures ok { IfOk result (λ answer. IsAnswer (root_of words.now) (reading (S.shown source.old) (S.shown source.new))
+        (status_of answer) (text_of answer)) }
+    ensures err { OnErr result (IsSome (root_of words.now)
+        × GivesWithin (S.shown source.old) (S.shown source.new) BUNDLE_BYTES) }
 {
     match root_of(words) {
         Some(root) => answer_source(alloc, root, source),
@@ -76,7 +78,8 @@ fn is_plain(word: &Text) -> bool
 
 // The answer to the bytes of a source.
 fn answer_source<S: Source>(alloc: Global, root: &Text, source: &mut S) -> Result<Answer, NoMemory>
-    ensures ok { IfOk result (λ answer. IsSourceAnswer root.now (reading (S.shown source.old) (S.shown source.new)) (status_of answer) (text_of answer)) }
+    ensures ok { IfOk result (λ answer. IsSourceAnswer root.now (reading (S.shown source.old) (S.shown source.new))
+        (status_of answer) (text_of answer)) }
     ensures err { OnErr result (GivesWithin (S.shown source.old) (S.shown source.new) BUNDLE_BYTES) }
 {
     match read_all(alloc, source, BUNDLE_BYTES) {

@@ -25,7 +25,14 @@ impl Model for MemSink {
 
     ghost Value = { SinkState };
 
-    ghost view = { λ s. record { held = s.bytes.items; room = s.room; most = s.most; failing = s.failing.items; calls = s.calls; faults = s.faults } };
+    ghost view = { λ s. record {
+      held = s.bytes.items;
+      room = s.room;
+      most = s.most;
+      failing = s.failing.items;
+      calls = s.calls;
+      faults = s.faults;
+    } };
 
     ghost invariant = { λ s. (length s.bytes.items ≤ s.room) × (s.room ≤ vec_capacity s.bytes) × (0 < s.most) };
 }
@@ -45,7 +52,14 @@ impl MemSink {
         failing: Vec<u64>,
     ) -> Result<MemSink, AllocError>
         requires { 0 < most }
-        ensures { IfOk result (λ s. s ≡ record { held = []; room = room; most = most; failing = failing.items; calls = 0; faults = 0 }) }
+        ensures { IfOk result (λ s. s ≡ record {
+          held = [];
+          room = room;
+          most = most;
+          failing = failing.items;
+          calls = 0;
+          faults = 0;
+        }) }
     {
         let bytes = Vec::with_capacity(alloc, room)?;
         Ok(MemSink {
@@ -75,7 +89,8 @@ impl Sink for MemSink {
 
         // It fails exactly at the calls that it was told and where no room is left, and else takes
         // as much as it can.
-        ensures fails { IsErr result ↔ (Contains self.old.failing (one_more self.old.calls) ⊎ (self.old.room ≤ length self.old.held)) }
+        ensures fails { IsErr result ↔ (Contains self.old.failing (one_more self.old.calls)
+            ⊎ (self.old.room ≤ length self.old.held)) }
         ensures count { IfOk result (λ n. n ≡ count_taken self.old (length piece.now)) }
         ensures taken { IfOk result (λ n. self.new ≡ after_taking self.old piece.now n) }
         ensures failed { OnErr result (self.new ≡ after_failed_write self.old) }

@@ -104,7 +104,8 @@ impl Model for Done {
 
     ghost view = { λ d. job_value (arc_value d.plan) d.round d.step d.frame d.inputs };
 
-    ghost invariant = { λ d. IsResult (job_value (arc_value d.plan) d.round d.step d.frame d.inputs) (record { frame = d.result; outs = d.outs.items })
+    ghost invariant = { λ d. IsResult (job_value (arc_value d.plan) d.round d.step d.frame d.inputs)
+        (record { frame = d.result; outs = d.outs.items })
         × IsRoomOf (arc_value d.plan).code d.room };
 }
 
@@ -127,7 +128,8 @@ impl Job {
         requires frame { FitsCode (arc_value plan.now).code start.frame.now }
         requires inputs { length start.inputs.now ≡ (arc_value plan.now).code.ins }
         requires spare { HasMemory (arc_value plan.now).code spare }
-        ensures { IfOk result (λ job. job ≡ job_value (arc_value plan.now) start.entry.round start.entry.step start.entry.frame.now start.entry.inputs.now) }
+        ensures { IfOk result (λ job. job ≡ job_value (arc_value plan.now) start.entry.round start.entry.step
+            start.entry.frame.now start.entry.inputs.now) }
     {
         let plan = Arc::try_clone(plan)?;
         let memory = memory_for(alloc, &plan.code, start.frame, start.inputs, spare)?;
@@ -222,7 +224,8 @@ impl Job {
 impl Done {
     /// Whether this is the job of a step.
     pub(crate) fn is_of(&self, plan: &NodePlan, start: StepStart) -> bool
-        ensures { IsTrue result ↔ (self.now ≡ job_value plan.now start.entry.round start.entry.step start.entry.frame.now start.entry.inputs.now) }
+        ensures { IsTrue result ↔ (self.now ≡ job_value plan.now start.entry.round start.entry.step
+            start.entry.frame.now start.entry.inputs.now) }
     {
         self.plan.plan.node == plan.plan.node
             && self.round == start.round

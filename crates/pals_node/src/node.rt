@@ -277,7 +277,8 @@ impl Node {
 fn missing(plan: &Plan, count: u32, slots: &[Slot]) -> Option<u32>
     requires count { length slots.now ≡ length plan.now.inputs }
     requires few { length plan.now.inputs ≤ PORTS }
-    ensures { result ≡ (if nat_eq count 0 then None else position (λ p. lacks p.0 p.1) (zip plan.now.inputs slots.now)) }
+    ensures { result ≡ (if nat_eq count 0 then None
+        else position (λ p. lacks p.0 p.1) (zip plan.now.inputs slots.now)) }
 {
     if count == 0 {
         return None;

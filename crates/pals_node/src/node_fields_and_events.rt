@@ -129,7 +129,8 @@ impl NodeFields {
     pub fn start(&mut self, env: &[PortValue]) -> Result<Job, NoMemory>
         requires keeps { Keeps self.old }
         requires waits { self.old.phase ≡ Phase.Waiting }
-        ensures ok { OnOk result (value_of self.new ≡ with_state (value_of self.old) (started (arc_value self.old.plan).plan env.now (state_of self.old))) }
+        ensures ok { OnOk result (value_of self.new
+            ≡ with_state (value_of self.old) (started (arc_value self.old.plan).plan env.now (state_of self.old))) }
         ensures keeps { Keeps self.new }
         ensures job { IfOk result (λ job. job ≡ job_at (value_of self.new) 0) }
         ensures same { OnErr result (value_of self.new ≡ value_of self.old) }
@@ -152,7 +153,8 @@ impl NodeFields {
         requires frame { HasShape (arc_value self.now.plan).plan.behaviour self.now.frame }
         requires spare { HasMemory (arc_value self.now.plan).code spare }
         ensures room { IfOk result (λ made. IsBegun (arc_value self.now.plan).plan env.now self.now.slots made.0) }
-        ensures job { IfOk result (λ made. made.1 ≡ first_job_of (arc_value self.now.plan) self.now.count self.now.frame env.now self.now.slots) }
+        ensures job { IfOk result (λ made. made.1
+            ≡ first_job_of (arc_value self.now.plan) self.now.count self.now.frame env.now self.now.slots) }
     {
         let (vectors, job) = self.first_job(env, spare)?;
         let room = round_room(self.alloc, &self.plan.plan, vectors)?;
@@ -169,8 +171,10 @@ impl NodeFields {
         requires slots { length self.now.slots ≡ length (arc_value self.now.plan).plan.inputs }
         requires frame { HasShape (arc_value self.now.plan).plan.behaviour self.now.frame }
         requires spare { HasMemory (arc_value self.now.plan).code spare }
-        ensures vectors { IfOk result (λ found. found.0 ≡ vectors_of (arc_value self.now.plan).plan env.now self.now.slots) }
-        ensures job { IfOk result (λ found. found.1 ≡ first_job_of (arc_value self.now.plan) self.now.count self.now.frame env.now self.now.slots) }
+        ensures vectors { IfOk result (λ found. found.0
+            ≡ vectors_of (arc_value self.now.plan).plan env.now self.now.slots) }
+        ensures job { IfOk result (λ found. found.1
+            ≡ first_job_of (arc_value self.now.plan) self.now.count self.now.frame env.now self.now.slots) }
     {
         let plan = &self.plan;
         let vectors = round_vectors(self.alloc, &plan.plan, env, self.slots.as_slice())?;
@@ -241,7 +245,8 @@ impl NodeFields {
         requires ready { IsStepMade self.old step }
         ensures state { state_of self.new ≡ ended_at (arc_value self.old.plan).plan self.old step }
         ensures keeps { PhaseKeeps (arc_value self.old.plan).plan self.new self.new.phase }
-        ensures others { self.new ≡ record self.old { phase = self.new.phase; outs = self.new.outs; parts = self.new.parts; next_part = self.new.next_part } }
+        ensures others { self.new ≡ record self.old
+            { phase = self.new.phase; outs = self.new.outs; parts = self.new.parts; next_part = self.new.next_part } }
     {
         write_places(&mut self.outs, step as usize, self.row.as_slice());
         if step + 1 < self.plan.plan.rate {
@@ -262,7 +267,8 @@ impl NodeFields {
     pub fn send(&mut self) -> ItemList<Tuple>
         requires keeps { Keeps self.old }
         requires may { may_send (arc_value self.old.plan).plan (state_of self.old) ≡ true }
-        ensures value { value_of self.new ≡ with_state (value_of self.old) (sent_from self.old.rounds (state_of self.old)) }
+        ensures value { value_of self.new ≡ with_state (value_of self.old)
+            (sent_from self.old.rounds (state_of self.old)) }
         ensures messages { result ≡ messages_from (arc_value self.old.plan).plan (state_of self.old) }
         ensures keeps { Keeps self.new }
     {
@@ -299,8 +305,10 @@ struct RoundRoom {
 // Room for a round, with these vectors.
 fn round_room(alloc: Global, plan: &Plan, vectors: ItemList<Tuple>) -> Result<RoundRoom, NoMemory>
     ensures vectors { IfOk result (λ room. room.vectors ≡ vectors) }
-    ensures outs { IfOk result (λ room. room.outs ≡ replicate (length plan.now.behaviour.outs) (replicate plan.now.rate Absent)) }
-    ensures messages { IfOk result (λ room. room.messages ≡ replicate (length plan.now.out_links) (replicate plan.now.rate Absent)) }
+    ensures outs { IfOk result (λ room. room.outs
+        ≡ replicate (length plan.now.behaviour.outs) (replicate plan.now.rate Absent)) }
+    ensures messages { IfOk result (λ room. room.messages
+        ≡ replicate (length plan.now.out_links) (replicate plan.now.rate Absent)) }
     ensures part { IfOk result (λ room. room.part ≡ empty_part plan.now) }
 {
     let outs = absent_tuples(alloc, plan.behaviour.outs().len(), plan.rate)?;
@@ -359,7 +367,8 @@ fn leave_part(
     requires held { length frame.now.held ≡ length plan.now.behaviour.ins }
     requires outs { AreTuples (length plan.now.behaviour.outs) plan.now.rate outs.now }
     requires taps { All (λ port. port < length plan.now.behaviour.outs) plan.now.taps }
-    ensures { parts.new.items ≡ parts.old.items ++ part_left plan.now (record { frame = frame.now; outs = [] }) outs.now ∷ [] }
+    ensures { parts.new.items ≡ parts.old.items ++ part_left plan.now (record { frame = frame.now; outs = [] }) outs.now
+        ∷ [] }
 {
     match next.take() {
         None => unreachable!(),

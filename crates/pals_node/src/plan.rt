@@ -99,7 +99,8 @@ fn plan_for(
 // What each in port brings.
 fn inputs_of(alloc: Global, design: &Design, node: NodeNo) -> Result<ItemList<Input>, NoMemory>
     requires { node.0 < length design.now.components }
-    ensures { IfOk result (λ inputs. inputs ≡ map (input_of design.now) (sources_of design.now node.0 (component_at design.now node.0))) }
+    ensures { IfOk result (λ inputs. inputs ≡ map (input_of design.now)
+        (sources_of design.now node.0 (component_at design.now node.0))) }
 {
     let table = all_sources(alloc, design)?;
     let mut inputs = ItemList::new(alloc);

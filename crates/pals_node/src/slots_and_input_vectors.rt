@@ -60,7 +60,8 @@ fn vector_at(
 ) -> Result<Tuple, NoMemory>
     requires slots { length slots.now ≡ length plan.now.inputs }
     requires step { step < plan.now.rate }
-    ensures { IfOk result (λ vector. vector ≡ column step (map (λ p. brought plan.now.rate env.now p.0 p.1) (zip plan.now.inputs slots.now))) }
+    ensures { IfOk result (λ vector. vector ≡ column step
+        (map (λ p. brought plan.now.rate env.now p.0 p.1) (zip plan.now.inputs slots.now))) }
 {
     let mut vector = ItemList::new(alloc);
     for at in 0..slots.len() {

@@ -49,7 +49,8 @@ fn add_sound(
     rounds: u32,
     stop: Option<Stop>,
 ) -> Result<(), NoMemory>
-    ensures ok { OnOk result (out.new.items ≡ out.old.items ++ verdict_line design.now (Verdict.Sound rounds stop) ++ line_end) }
+    ensures ok { OnOk result (out.new.items ≡ out.old.items ++ verdict_line design.now (Verdict.Sound rounds stop)
+        ++ line_end) }
     ensures err { OnErr result (out.new.items ≡ out.old.items) }
 {
     let first = LineWord::Bytes(b"sound");

@@ -39,7 +39,8 @@ pub fn answer_analysis<C: ScenarioCommand + Drop>(
     root: Text,
     command: C,
 ) -> Result<Answer, NoMemory>
-    ensures { IfOk result (λ answer. IsAnalysisAnswer (C.analysis command) root bundle.now (status_of answer) (text_of answer)) }
+    ensures { IfOk result (λ answer. IsAnalysisAnswer (C.analysis command) root bundle.now (status_of answer)
+        (text_of answer)) }
 {
     pairs_can_be_fused();
     let accepted = match accept(alloc, bundle, &root) {

@@ -23,7 +23,8 @@ pub trait ExecutionCommand: CodedCommand {
         requires layout { AreLaidOut (behaviours coded.design) coded.codes }
         requires kept { IsScenarioOf coded.design coded.scenario }
         requires events { HasEvents (Self.execution self) coded.design coded.scenario }
-        ensures { IfOk result (λ answer. Makes (Self.execution self) coded.design coded.scenario (status_of answer) (text_of answer)) };
+        ensures { IfOk result (λ answer. Makes (Self.execution self) coded.design coded.scenario (status_of answer)
+            (text_of answer)) };
 }
 
 /// The answer to a bundle: what the command makes of the design, its codes and the scenario that it means.
@@ -33,7 +34,8 @@ pub fn answer_execution<C: ExecutionCommand + Drop>(
     root: Text,
     command: C,
 ) -> Result<Answer, NoMemory>
-    ensures { IfOk result (λ answer. IsExecutionAnswer (C.execution command) root bundle.now (status_of answer) (text_of answer)) }
+    ensures { IfOk result (λ answer. IsExecutionAnswer (C.execution command) root bundle.now (status_of answer)
+        (text_of answer)) }
 {
     match meaning_of(alloc, bundle, root, &command)? {
         BundleMeaning::Coded(coded) => command.answer(alloc, coded),

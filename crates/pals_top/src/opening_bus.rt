@@ -25,7 +25,8 @@ pub fn opened(
     requires codes { AreCodes design codes }
     requires rounds { (1 ≤ rounds) × (rounds ≤ ROUNDS) }
     requires delays { AreDelays (length design.links) delays }
-    ensures { IfOk result (λ bus. bus ≡ opening_bus (record { design = design; env = env; rounds = rounds; delays = delays }) codes meeting) }
+    ensures { IfOk result (λ bus. bus ≡ opening_bus
+        (record { design = design; env = env; rounds = rounds; delays = delays }) codes meeting) }
 {
     let design = Arc::new(alloc, design)?;
     Bus::new(alloc, design, codes, env, rounds, delays, meeting)

@@ -104,7 +104,8 @@ fn answer_command<S: Source>(
 ) -> Result<Answer, NoMemory>
     requires command_of_words { IsWithinRingLimits command }
     requires alone { is_run command ≡ false }
-    ensures ok { IfOk result (λ answer. IsFormAnswer command (reading (S.shown source.old) (S.shown source.new)) (status_of answer) (text_of answer)) }
+    ensures ok { IfOk result (λ answer. IsFormAnswer command (reading (S.shown source.old) (S.shown source.new))
+        (status_of answer) (text_of answer)) }
     ensures err { OnErr result (GivesWithin (S.shown source.old) (S.shown source.new) BUNDLE_BYTES) }
 {
     if let Command::Ring { nodes, rounds } = command {
@@ -122,7 +123,8 @@ fn answer_source<S: Source>(
     requires command_of_words { IsWithinRingLimits command }
     requires alone { is_run command ≡ false }
     requires reads { reads_source command ≡ true }
-    ensures ok { IfOk result (λ answer. IsSourceAnswer command (reading (S.shown source.old) (S.shown source.new)) (status_of answer) (text_of answer)) }
+    ensures ok { IfOk result (λ answer. IsSourceAnswer command (reading (S.shown source.old) (S.shown source.new))
+        (status_of answer) (text_of answer)) }
     ensures err { OnErr result (GivesWithin (S.shown source.old) (S.shown source.new) BUNDLE_BYTES) }
 {
     match read_all(alloc, source, BUNDLE_BYTES) {

@@ -77,7 +77,8 @@ fn run_nodes<R: Threads + Wait + Sync, W: Starter, G: Gate + Sync>(
 ) -> Result<Answer, NoMemory>
     requires codes { AreCodes coded.design coded.codes }
     requires kept { IsScenarioOf coded.design coded.scenario }
-    ensures { IfOk result (λ answer. IsRunAnswer coded.design coded.scenario trace (status_of answer) (text_of answer)) }
+    ensures { IfOk result (λ answer. IsRunAnswer coded.design coded.scenario trace (status_of answer)
+        (text_of answer)) }
 {
     let Coded {
         design,

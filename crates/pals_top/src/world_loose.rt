@@ -122,7 +122,8 @@ fn finished(alloc: Global, bus: &Bus, sent: &[u8]) -> Result<Answer, NoMemory>
 
 // The rounds that every node has finished, and the journal.
 fn stopped(alloc: Global, bus: &Bus) -> Result<Answer, NoMemory>
-    ensures { IfOk result (Says STOPPED (lines_text (common_lines bus.now) ++ lines_text (map (entry_line bus.now.run.design) bus.now.journal))) }
+    ensures { IfOk result (Says STOPPED (lines_text (common_lines bus.now)
+        ++ lines_text (map (entry_line bus.now.run.design) bus.now.journal))) }
 {
     let mut text = Vec::new(alloc);
     add_common_rows(alloc, &mut text, bus)?;

@@ -81,14 +81,21 @@ fn make_steps(
     controller_frame: &mut Frame,
 ) -> Result<(), NoMemory>
     requires rates { fused.plant.wired.component.now.rate ≡ fused.controller.wired.component.now.rate }
-    requires plant_sources { length fused.plant.wired.sources.now ≡ length fused.plant.wired.component.now.behaviour.ins }
-    requires controller_sources { length fused.controller.wired.sources.now ≡ length fused.controller.wired.component.now.behaviour.ins }
-    requires plant_room { stage_size plant_stage.old ≡ stage_size_of plant_stage.old.sent fused.plant.wired.component.now }
-    requires controller_room { stage_size controller_stage.old ≡ stage_size_of controller_stage.old.sent fused.controller.wired.component.now }
+    requires plant_sources { length fused.plant.wired.sources.now
+        ≡ length fused.plant.wired.component.now.behaviour.ins }
+    requires controller_sources { length fused.controller.wired.sources.now
+        ≡ length fused.controller.wired.component.now.behaviour.ins }
+    requires plant_room { stage_size plant_stage.old
+        ≡ stage_size_of plant_stage.old.sent fused.plant.wired.component.now }
+    requires controller_room { stage_size controller_stage.old
+        ≡ stage_size_of controller_stage.old.sent fused.controller.wired.component.now }
     requires plant_size { frame_size plant_frame.old ≡ frame_size_of fused.plant.wired.component.now }
     requires controller_size { frame_size controller_frame.old ≡ frame_size_of fused.controller.wired.component.now }
-    ensures made { let pair = fused.entry in OnOk result (AreMade round.entry (member_of_pair pair.plant) (member_of_pair pair.controller) pair.plant.wired.component.now.rate
-        (work plant_frame.old plant_stage.new.rows plant_frame.new) (work controller_frame.old controller_stage.new.rows controller_frame.new)) }
+    ensures made { let pair = fused.entry in OnOk result
+        (AreMade round.entry (member_of_pair pair.plant) (member_of_pair pair.controller)
+        pair.plant.wired.component.now.rate
+        (work plant_frame.old plant_stage.new.rows plant_frame.new)
+        (work controller_frame.old controller_stage.new.rows controller_frame.new)) }
     ensures plant_stage { stage_size plant_stage.new ≡ stage_size plant_stage.old }
     ensures controller_stage { stage_size controller_stage.new ≡ stage_size controller_stage.old }
     ensures plant_frame { frame_size plant_frame.new ≡ frame_size plant_frame.old }

@@ -81,7 +81,8 @@ fn run_one(
     requires parts { map part_size parts.now ≡ part_sizes round.design.now }
     requires stages { map stage_size stages.old.items ≡ stage_sizes round.design.now }
     requires next { map part_size next.old ≡ part_sizes round.design.now }
-    ensures run { OnOk result (IsRunAlone round.entry (frames_of parts.now) node next.old next.new stages.old.items stages.new.items) }
+    ensures run { OnOk result (IsRunAlone round.entry (frames_of parts.now) node next.old next.new stages.old.items
+        stages.new.items) }
     ensures parts { map part_size next.new ≡ map part_size next.old }
     ensures stages { map stage_size stages.new.items ≡ map stage_size stages.old.items }
 {
@@ -105,7 +106,8 @@ fn run_pair(
     requires stages { map stage_size stages.old.items ≡ stage_sizes round.design.now }
     requires next { map part_size next.old ≡ part_sizes round.design.now }
     ensures run { OnOk result (IsRun round.entry (frames_of parts.now) next.new stages.new.items pair.now) }
-    ensures others { OnOk result (StayBeside pair.now.plant.0 pair.now.controller.0 next.old next.new stages.old.items stages.new.items) }
+    ensures others { OnOk result (StayBeside pair.now.plant.0 pair.now.controller.0 next.old next.new stages.old.items
+        stages.new.items) }
     ensures parts { map part_size next.new ≡ map part_size next.old }
     ensures stages { map stage_size stages.new.items ≡ map stage_size stages.old.items }
 {

@@ -38,7 +38,8 @@ pub fn timetable(
     requires members { AreMembers design.now (numbers members.now) }
     requires codes { length codes.now ≡ length design.now.components }
     requires nanos { (1 ≤ nanos) × (nanos ≤ HOUR) }
-    ensures ok { IfOk result (λ lines. AreLines lines.items (timetable design.now codes.now nanos (numbers members.now))) }
+    ensures ok { IfOk result (λ lines. AreLines lines.items
+        (timetable design.now codes.now nanos (numbers members.now))) }
     ensures fits { OnOk result (fits design.now.gamma (total nanos codes.now (numbers members.now)) ≡ true) }
     ensures end { IfErr result (λ end. IsEnd design.now codes.now nanos (numbers members.now) end) }
     ensures in_time { OnOk result (RespondInTime design.now codes.now nanos (numbers members.now)) }

@@ -10,13 +10,15 @@ ghost use Rattle.bus_machine.specs.Replay.{Replays, entries};
 
 /// A journal tells where a run stands: two replays of one journal lead to one state.
 pub fn one_replay()
-    ensures { (run : Run) (journal : List JournalEntry) (s t : BusState) → Replays run journal s → Replays run journal t → s ≡ t }
+    ensures { (run : Run) (journal : List JournalEntry) (s t : BusState) → Replays run journal s → Replays run journal t
+        → s ≡ t }
 {}
 
 /// The entries of an event tell what it does: from one state, whether a run comes to it or not, two
 /// steps with the same entries lead to one state.
 pub fn one_step()
-    ensures { (run : Run) (s t u : BusState) (e f : BusEvent) → IsStep run s e t → IsStep run s f u → entries run s e ≡ entries run s f → t ≡ u }
+    ensures { (run : Run) (s t u : BusState) (e f : BusEvent) → IsStep run s e t → IsStep run s f u
+        → entries run s e ≡ entries run s f → t ≡ u }
 {}
 
 /// A stop is the last entry of a journal, and the run stands at that stop; where a run stands at a
@@ -24,6 +26,7 @@ pub fn one_step()
 pub fn a_stop_is_last()
     ensures nothing_behind { (run : Run) (front back : List JournalEntry) (why : Stop) (s : BusState)
         → Replays run (front ++ entry.Stopped why ∷ back) s → (back ≡ []) × (s.stop ≡ Some why) }
-    ensures told { (run : Run) (journal : List JournalEntry) (why : Stop) (s : BusState) → Replays run journal s → s.stop ≡ Some why
+    ensures told { (run : Run) (journal : List JournalEntry) (why : Stop) (s : BusState) → Replays run journal s
+        → s.stop ≡ Some why
         → (front : List JournalEntry) × (journal ≡ front ++ entry.Stopped why ∷ []) }
 {}

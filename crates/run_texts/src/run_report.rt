@@ -53,7 +53,8 @@ pub fn tell_run(alloc: Global, end: &RunEnd, trace: bool) -> Result<RunReport, N
 
 // The rows of the rounds that all nodes have finished, and where a trace is wanted the journal.
 fn traced_text(alloc: Global, bus: &Bus, trace: bool) -> Result<Vec<u8>, NoMemory>
-    ensures { IfOk result (λ text. text.items ≡ text_of (common_lines bus.now) ++ (if trace then journal_lines bus.now else [])) }
+    ensures { IfOk result (λ text. text.items ≡ text_of (common_lines bus.now)
+        ++ (if trace then journal_lines bus.now else [])) }
 {
     let mut text = Vec::new(alloc);
     add_common_rows(alloc, &mut text, bus)?;

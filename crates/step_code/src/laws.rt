@@ -19,7 +19,10 @@ pub fn counter_counts()
     ensures weight { weight_of counter ≡ 9 }
     ensures instructions_made { instructions_made counter at_four (Present (pos 2) ∷ []) ≡ 9 }
     ensures step { exec counter at_four (Present (pos 2) ∷ [])
-        ≡ Leaves (record { frame = record at_four { vars = pos 7 ∷ []; held = pos 2 ∷ [] }; outs = Present (pos 7) ∷ [] }) }
+        ≡ Leaves (record {
+          frame = record at_four { vars = pos 7 ∷ []; held = pos 2 ∷ [] };
+          outs = Present (pos 7) ∷ [];
+        }) }
 {}
 
 /// A path weighs what its instructions weigh: each as often as the loops round it turn.
@@ -37,7 +40,8 @@ pub fn verified_code_ends()
 
 /// A step makes at most as many instructions as the code weighs.
 pub fn step_is_within_weight()
-    ensures { (c : CodeParts) (frame : Frame) (inputs : List PortValue) → instructions_made c frame inputs ≤ weight_of c }
+    ensures { (c : CodeParts) (frame : Frame) (inputs : List PortValue)
+        → instructions_made c frame inputs ≤ weight_of c }
 {}
 
 /// No path from an entry of verified code weighs more than the code, and one weighs as much.

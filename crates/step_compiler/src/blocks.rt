@@ -78,7 +78,8 @@ pub fn entries(
     behaviour: &Behaviour,
     starts: &[u32],
 ) -> Result<ItemList<Option<u32>>, NoMemory>
-    ensures { IfOk result (λ entries. entries ≡ map (entry_of behaviour.now (in_list starts.now)) (states_of behaviour.now)) }
+    ensures { IfOk result (λ entries. entries
+        ≡ map (entry_of behaviour.now (in_list starts.now)) (states_of behaviour.now)) }
 {
     let mut entries = ItemList::new(alloc);
     for state in 0..behaviour.states().len() {
@@ -137,7 +138,8 @@ fn push_block(
     starts: &[u32],
     state: usize,
 ) -> Result<(), NoMemory>
-    ensures { OnOk result (Adds code.old code.new (leaving_code behaviour.now (in_list starts.now) state behaviour.now.transitions)) }
+    ensures { OnOk result (Adds code.old code.new
+        (leaving_code behaviour.now (in_list starts.now) state behaviour.now.transitions)) }
 {
     for transition in behaviour.transitions() {
         push_if_leaving(code, behaviour, starts, state, transition)?;
@@ -153,7 +155,8 @@ fn push_if_leaving(
     state: usize,
     transition: &Transition,
 ) -> Result<(), NoMemory>
-    ensures { OnOk result (Adds code.old code.new (leaving_code behaviour.now (in_list starts.now) state (transition.now ∷ []))) }
+    ensures { OnOk result (Adds code.old code.new
+        (leaving_code behaviour.now (in_list starts.now) state (transition.now ∷ []))) }
 {
     if transition.source as usize == state {
         push_transition(code, behaviour, starts, transition)

@@ -81,7 +81,8 @@ pub fn advance(
     requires inputs { length inputs.present.now ≡ length inputs.held.now }
     requires room { length stack.old.numbers < stack.old.size }
     requires small { place < INSTRUCTIONS }
-    ensures met { Met result stack.new.numbers slots.new outs.new (done_by instr place stack.old.numbers slots.old outs.old inputs.entry) }
+    ensures met { Met result stack.new.numbers slots.new outs.new
+        (done_by instr place stack.old.numbers slots.old outs.old inputs.entry) }
     ensures size { stack.new.size ≡ stack.old.size }
 {
     match instr {

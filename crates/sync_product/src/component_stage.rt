@@ -127,7 +127,8 @@ impl Stage {
         requires step { step < length self.old.rows }
         requires row { length (slice_index_or self.old.rows step []) ≡ length behaviour.now.outs }
         ensures frame { OnOk result (frame.new ≡ (fire behaviour.now frame.old self.old.inputs).frame) }
-        ensures row { OnOk result (self.new.rows ≡ slice_set self.old.rows step (fire behaviour.now frame.old self.old.inputs).outs) }
+        ensures row { OnOk result (self.new.rows
+            ≡ slice_set self.old.rows step (fire behaviour.now frame.old self.old.inputs).outs) }
         ensures frame_size { frame_size frame.new ≡ frame_size frame.old }
         ensures stage_size { stage_size self.new ≡ stage_size self.old }
     {

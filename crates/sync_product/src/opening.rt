@@ -28,7 +28,8 @@ pub fn stages(alloc: Global, design: &Design) -> Result<Vec<Stage>, NoMemory>
 
 /// An absent message on each link.
 pub fn opening_messages(alloc: Global, design: &Design) -> Result<ItemList<Tuple>, NoMemory>
-    ensures { IfOk result (λ messages. messages ≡ map (λ link. replicate (rate_of design.now link.source.0) Absent) design.now.links) }
+    ensures { IfOk result (λ messages. messages
+        ≡ map (λ link. replicate (rate_of design.now link.source.0) Absent) design.now.links) }
 {
     let mut messages = ItemList::new(alloc);
     for link in design.links() {

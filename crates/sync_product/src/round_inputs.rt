@@ -23,7 +23,8 @@ pub struct RoundInputs<'a> {
 pub fn write_inputs(inputs: &mut Tuple, round: RoundInputs, wired: WiredComponent, step: usize)
     requires count { length inputs.old ≡ length wired.sources.now }
     requires step { step < wired.component.now.rate }
-    ensures inputs { inputs.new ≡ column step (map (brought round.entry wired.entry.component.now.rate) wired.entry.sources.now) }
+    ensures inputs { inputs.new ≡ column step
+        (map (brought round.entry wired.entry.component.now.rate) wired.entry.sources.now) }
     ensures len { length inputs.new ≡ length inputs.old }
 {
     let rate = wired.component.rate;

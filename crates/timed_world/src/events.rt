@@ -23,7 +23,8 @@ impl World {
         ensures fine { OnOk result (fault_of self.old.bus.run (world_of self.old) event.now ≡ None) }
         ensures moves { OnOk result (Moves self.old event.now self.new) }
         ensures same { OnErr result (self.new ≡ self.old) }
-        ensures fault { IfErr result (λ why. (why ≡ fault.Memory) ⊎ (fault_of self.old.bus.run (world_of self.old) event.now ≡ Some why)) }
+        ensures fault { IfErr result (λ why. (why ≡ fault.Memory)
+            ⊎ (fault_of self.old.bus.run (world_of self.old) event.now ≡ Some why)) }
     {
         if let Some(why) = self.fault(event) {
             return Err(why);

@@ -10,7 +10,8 @@ use std::alloc::Global;
 
 /// The least delay that the bounds allow, on each link.
 pub fn least_delays(alloc: Global, design: &Design) -> Result<Delays, NoMemory>
-    ensures value { IfOk result (λ delays. delays ≡ record { lists = map (λ _. design.now.gamma.mu_min ∷ []) design.now.links }) }
+    ensures value { IfOk result (λ delays. delays
+        ≡ record { lists = map (λ _. design.now.gamma.mu_min ∷ []) design.now.links }) }
     ensures fits { IfOk result (AreDelays (length design.now.links)) }
     ensures rules { IsDesign design.now }
 {

@@ -65,7 +65,8 @@ impl World {
 
     // The first node whose last allowed time is past.
     fn late_node(&self, time: Nanos) -> Option<EventFault>
-        ensures { result ≡ first_of (map (node_past self.now.bus.run (world_of self.now) time) (upwards 0 (length self.now.bus.run.design.components))) }
+        ensures { result ≡ first_of (map (node_past self.now.bus.run (world_of self.now) time)
+            (upwards 0 (length self.now.bus.run.design.components))) }
     {
         for index in 0..self.component_count() {
             let node = NodeNo(index as u32);
@@ -87,7 +88,8 @@ impl World {
 
     // The first message whose last allowed time is past, link by link.
     fn late_message(&self, time: Nanos) -> Option<EventFault>
-        ensures { result ≡ first_of (map (link_past self.now.bus.run (world_of self.now) time) (upwards 0 (length self.now.bus.run.design.links))) }
+        ensures { result ≡ first_of (map (link_past self.now.bus.run (world_of self.now) time)
+            (upwards 0 (length self.now.bus.run.design.links))) }
     {
         for index in 0..self.link_count() {
             let link = LinkNo(index as u32);

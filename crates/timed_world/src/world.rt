@@ -45,9 +45,23 @@ impl Model for World {
 
     ghost coded = { world_code };
 
-    ghost view = { λ w. record { bus = w.bus; time = w.time; readings = w.readings; since = w.since; ready = w.ready; sent_at = w.sent_at } };
+    ghost view = { λ w. record {
+      bus = w.bus;
+      time = w.time;
+      readings = w.readings;
+      since = w.since;
+      ready = w.ready;
+      sent_at = w.sent_at;
+    } };
 
-    ghost invariant = { λ w. KeepsWorld (record { bus = w.bus; time = w.time; readings = w.readings; since = w.since; ready = w.ready; sent_at = w.sent_at }) };
+    ghost invariant = { λ w. KeepsWorld (record {
+      bus = w.bus;
+      time = w.time;
+      readings = w.readings;
+      since = w.since;
+      ready = w.ready;
+      sent_at = w.sent_at;
+    }) };
 }
 
 impl World {

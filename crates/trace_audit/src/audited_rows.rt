@@ -54,7 +54,8 @@ impl<'a> AuditedRows<'a> {
     pub fn is_line(&mut self, index: usize, line: &[u8]) -> Result<bool, NoMemory>
         requires at { IsAtLine self.old.product.design self.old.env.now self.old index }
         requires few { index < 2 ^ 32 }
-        ensures same { IfOk result (λ same. same ≡ bytes_eq line.now (line_at self.old.product.design self.old.env.now index)) }
+        ensures same { IfOk result (λ same. same
+            ≡ bytes_eq line.now (line_at self.old.product.design self.old.env.now index)) }
         ensures next { OnOk result (IsAtLine self.old.product.design self.old.env.now self.new (index + 1)) }
     {
         self.reach(index)?;
@@ -65,7 +66,8 @@ impl<'a> AuditedRows<'a> {
     fn reach(&mut self, index: usize) -> Result<(), NoMemory>
         requires at { IsAtLine self.old.product.design self.old.env.now self.old index }
         requires few { index < 2 ^ 32 }
-        ensures rows { OnOk result (AreRows self.old.product.design self.old.env.now self.new (index / row_size self.old.product.design + 1)) }
+        ensures rows { OnOk result (AreRows self.old.product.design self.old.env.now self.new
+            (index / row_size self.old.product.design + 1)) }
         ensures left { OnOk result (HasLeft self.new.row (left_at self.old.product.design self.old.env.now index)) }
         ensures rules { IsDesign self.old.product.design }
     {
@@ -81,7 +83,8 @@ impl<'a> AuditedRows<'a> {
     fn make_row(&mut self, round: u32) -> Result<(), NoMemory>
         requires { AreRows self.old.product.design self.old.env.now self.old round }
         ensures rows { OnOk result (AreRows self.old.product.design self.old.env.now self.new (round + 1)) }
-        ensures row { OnOk result (HasLeft self.new.row (composed_lines self.old.product.design self.old.env.now round)) }
+        ensures row { OnOk result (HasLeft self.new.row
+            (composed_lines self.old.product.design self.old.env.now round)) }
     {
         self.env.write_values(round, &mut self.values);
         self.product.advance(self.values.as_slice())?;

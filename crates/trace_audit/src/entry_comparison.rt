@@ -25,7 +25,8 @@ fn is_same(entry: &JournalEntry, other: &JournalEntry) -> bool
 
 /// Whether an entry is the last one of a journal.
 pub fn is_last(journal: &[JournalEntry], entry: &JournalEntry) -> bool
-    ensures { (before : List JournalEntry) (last : JournalEntry) → journal.now ≡ before ++ last ∷ [] → IsTrue result ↔ (last ≡ entry.now) }
+    ensures { (before : List JournalEntry) (last : JournalEntry) → journal.now ≡ before ++ last ∷ [] → IsTrue result
+        ↔ (last ≡ entry.now) }
 {
     match journal {
         [.., last] => is_same(last, entry),

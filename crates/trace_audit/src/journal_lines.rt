@@ -118,7 +118,8 @@ fn cause_in(word: &str) -> Option<Cause>
 // A name and a round, whatever is read behind them.
 fn named<'a>(words: &mut Words<'a>) -> Option<(&'a str, u32)>
     ensures { (go : List ℕ → ℕ → List (List ℕ) → Option lines.LineForm) →
-        lines.named (words_in words.old.rest) go ≡ option_and_then (λ p. go p.0.now p.1 (words_in words.new.rest)) result }
+        lines.named (words_in words.old.rest) go
+        ≡ option_and_then (λ p. go p.0.now p.1 (words_in words.new.rest)) result }
 {
     let name = words.next()?;
     let round = round_in(words.next()?.as_bytes())?;
@@ -128,7 +129,8 @@ fn named<'a>(words: &mut Words<'a>) -> Option<(&'a str, u32)>
 // A reading, whatever is read behind it.
 fn reading(words: &mut Words<'_>) -> Option<Option<Nanos>>
     ensures { (go : Option ℕ → List (List ℕ) → Option lines.LineForm) →
-        lines.read (words_in words.old.rest) go ≡ option_and_then (λ reading. go reading (words_in words.new.rest)) result }
+        lines.read (words_in words.old.rest) go
+        ≡ option_and_then (λ reading. go reading (words_in words.new.rest)) result }
 {
     reading_in(words.next()?.as_bytes())
 }

@@ -79,7 +79,8 @@ fn start(
 ) -> Result<Option<TraceRule>, NoMemory>
     requires ready { IsReady bus.old readings.now }
     requires entry { IsEntryIn bus.old.run.design (entry.Start node round (Some reading)) }
-    ensures rule { IfOk result (λ rule. rule ≡ broken bus.old.run bus.old.state readings.now (entry.Start node round (Some reading))) }
+    ensures rule { IfOk result (λ rule. rule ≡ broken bus.old.run bus.old.state readings.now
+        (entry.Start node round (Some reading))) }
     ensures next { result ≡ Ok None → IsReplayed bus.old (entry.Start node round (Some reading)) bus.new }
 {
     if round != bus.count(node) {
@@ -104,8 +105,10 @@ fn miss(
 ) -> Result<Option<TraceRule>, NoMemory>
     requires ready { IsReady bus.old readings.now }
     requires entry { IsEntryIn bus.old.run.design (entry.Stopped (stop.Missed link round (Some reading) cause)) }
-    ensures rule { IfOk result (λ rule. rule ≡ broken bus.old.run bus.old.state readings.now (entry.Stopped (stop.Missed link round (Some reading) cause))) }
-    ensures next { result ≡ Ok None → IsReplayed bus.old (entry.Stopped (stop.Missed link round (Some reading) cause)) bus.new }
+    ensures rule { IfOk result (λ rule. rule ≡ broken bus.old.run bus.old.state readings.now
+        (entry.Stopped (stop.Missed link round (Some reading) cause))) }
+    ensures next { result ≡ Ok None → IsReplayed bus.old (entry.Stopped (stop.Missed link round (Some reading) cause))
+        bus.new }
 {
     let node = target(bus.design(), link);
     if round + 1 != bus.count(node) {
@@ -130,7 +133,8 @@ fn stray_stop(
 ) -> Option<TraceRule>
     requires ready { IsReady bus.now readings.now }
     requires link { link.0 < length bus.now.run.design.links }
-    ensures { result ≡ broken bus.now.run bus.now.state readings.now (entry.Stopped (stop.Early link _round (Some reading))) }
+    ensures { result ≡ broken bus.now.run bus.now.state readings.now
+        (entry.Stopped (stop.Early link _round (Some reading))) }
 {
     if falls(readings, target(bus.design(), link), reading) {
         Some(TraceRule::Reading)

@@ -63,7 +63,8 @@ pub fn step(
 ) -> Result<Option<TraceRule>, NoMemory>
     requires ready { IsReady bus.old readings.now }
     requires entry { IsEntryIn bus.old.run.design (entry.Step node round step (Some reading)) }
-    ensures rule { IfOk result (λ rule. rule ≡ broken bus.old.run bus.old.state readings.now (entry.Step node round step (Some reading))) }
+    ensures rule { IfOk result (λ rule. rule ≡ broken bus.old.run bus.old.state readings.now
+        (entry.Step node round step (Some reading))) }
     ensures next { result ≡ Ok None → IsReplayed bus.old (entry.Step node round step (Some reading)) bus.new }
 {
     if round != in_hand(bus, node) {
@@ -140,7 +141,8 @@ pub fn arrive(
 ) -> Result<Option<TraceRule>, NoMemory>
     requires ready { IsReady bus.old readings.now }
     requires entry { IsEntryIn bus.old.run.design (entry.Arrive link round (Some reading) outcome) }
-    ensures rule { IfOk result (λ rule. rule ≡ broken bus.old.run bus.old.state readings.now (entry.Arrive link round (Some reading) outcome)) }
+    ensures rule { IfOk result (λ rule. rule ≡ broken bus.old.run bus.old.state readings.now
+        (entry.Arrive link round (Some reading) outcome)) }
     ensures next { result ≡ Ok None → IsReplayed bus.old (entry.Arrive link round (Some reading) outcome) bus.new }
 {
     let falls = falls(readings, target(bus.design(), link), reading);

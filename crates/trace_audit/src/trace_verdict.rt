@@ -41,7 +41,12 @@ pub fn audit(
     requires delays { AreDelays (length (arc_value design).links) delays }
     requires codes { AreCodes (arc_value design) codes }
     requires few { length trace.now < 2 ^ 32 }
-    ensures { IfOk result (λ v. v ≡ verdict (record { design = arc_value design; env = env; rounds = rounds; delays = delays }) trace.now) }
+    ensures { IfOk result (λ v. v ≡ verdict (record {
+      design = arc_value design;
+      env = env;
+      rounds = rounds;
+      delays = delays;
+    }) trace.now) }
 {
     match read_report(alloc, &design, &env, trace)? {
         ReportEnd::Whole(size) => {
@@ -66,7 +71,8 @@ fn open(
     requires delays { AreDelays (length (arc_value design.now).links) delays }
     requires codes { AreCodes (arc_value design.now) codes }
     ensures kept { IfOk result IsReplay }
-    ensures run { IfOk result (λ r. r.bus.run ≡ record { design = arc_value design.now; env = env; rounds = rounds; delays = delays }) }
+    ensures run { IfOk result (λ r. r.bus.run
+        ≡ record { design = arc_value design.now; env = env; rounds = rounds; delays = delays }) }
     ensures value { IfOk result (λ r. audit_in r ≡ opening_audit r.bus.run) }
 {
     let again = Arc::try_clone(design)?;
@@ -86,7 +92,8 @@ fn audit_behind(
     requires design { design.now ≡ replay.old.bus.run.design }
     requires few { length trace.now < 2 ^ 32 }
     requires within { size ≤ length trace.now }
-    ensures { IfOk result (λ v. v ≡ journal_verdict replay.old.bus.run (size / row_size design.now) size (audit_in replay.old) (drop size trace.now)) }
+    ensures { IfOk result (λ v. v ≡ journal_verdict replay.old.bus.run (size / row_size design.now) size
+        (audit_in replay.old) (drop size trace.now)) }
 {
     let names = DesignNames::new(alloc, design)?;
     audit_journal(replay, &names, trace, size, size / row_size(design))
@@ -105,7 +112,8 @@ fn audit_journal(
     requires few { length trace.now < 2 ^ 32 }
     requires start { start ≤ length trace.now }
     requires rows { rows ≤ start }
-    ensures { IfOk result (λ v. v ≡ journal_verdict replay.old.bus.run rows start (audit_in replay.old) (drop start trace.now)) }
+    ensures { IfOk result (λ v. v ≡ journal_verdict replay.old.bus.run rows start (audit_in replay.old)
+        (drop start trace.now)) }
 {
     for index in start..trace.len() {
         let told = told(names, trace[index].as_str());
@@ -120,7 +128,8 @@ fn audit_journal(
 fn end_verdict(replay: &Replay, length: usize, rows: usize) -> Verdict
     requires length { length < 2 ^ 32 }
     requires rows { rows < 2 ^ 32 }
-    ensures { result ≡ wrong_or length (end_broken replay.now.bus.run rows (audit_in replay.now)) (Sound rows replay.now.bus.state.stop) }
+    ensures { result ≡ wrong_or length (end_broken replay.now.bus.run rows (audit_in replay.now))
+        (Sound rows replay.now.bus.state.stop) }
 {
     match end_rule(replay, rows) {
         Some(rule) => wrong(length, rule),

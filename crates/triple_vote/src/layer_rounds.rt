@@ -47,7 +47,8 @@ pub fn run_all(
     requires stages { map stage_size stages.old.items ≡ stage_sizes round.design.now }
     requires next { map part_size next.old ≡ frame_sizes round.design.now }
     ensures run { let made = round.entry in OnOk result
-        (AreRun made.design.now made.values.now made.messages.now there.now (frames_of parts.now) next.new stages.new.items) }
+        (AreRun made.design.now made.values.now made.messages.now there.now (frames_of parts.now) next.new
+        stages.new.items) }
     ensures next { map part_size next.new ≡ map part_size next.old }
     ensures stages { map stage_size stages.new.items ≡ map stage_size stages.old.items }
 {

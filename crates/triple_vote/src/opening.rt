@@ -25,7 +25,8 @@ pub fn opening_frames(alloc: Global, design: &Design) -> Result<ItemList<Part>, 
 
 /// An absent tuple for each root out port.
 pub fn opening_shown(alloc: Global, design: &Design) -> Result<ItemList<Tuple>, NoMemory>
-    ensures { IfOk result (λ shown. shown ≡ map (λ tap. replicate (rate_of design.now tap.source.0) Absent) design.now.taps) }
+    ensures { IfOk result (λ shown. shown ≡ map
+        (λ tap. replicate (rate_of design.now tap.source.0) Absent) design.now.taps) }
 {
     let mut shown = ItemList::new(alloc);
     for tap in design.taps() {

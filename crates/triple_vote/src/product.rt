@@ -163,7 +163,8 @@ impl VoteProduct {
     /// before the first.
     pub fn received(&self, link: LinkNo, replica: u32) -> &Tuple
         requires low { 1 ≤ replica }
-        requires high { (to : Link) → slice_get self.now.design.links link.0 ≡ Some to → replica ≤ copies_of self.now.replicated to.target.0 }
+        requires high { (to : Link) → slice_get self.now.design.links link.0 ≡ Some to
+            → replica ≤ copies_of self.now.replicated to.target.0 }
         requires link { link.0 < length self.now.design.links }
         ensures { result.now ≡ received_at self.now.voted link.0 (replica - 1) }
     {

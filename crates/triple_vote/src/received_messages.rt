@@ -19,7 +19,8 @@ use pals_model::Design;
 // What a replica sends to a reader: the tuple of the first fault at their place, where the table of first
 // faults has one, and else its own.
 fn sent_to<'a>(table: FaultTable<'a>, place: usize, own: &'a [PortValue]) -> &'a [PortValue]
-    ensures { result.now ≡ fault_or (fault_at table.entry.faults.now (slice_index_or table.entry.places.now place Option.None)) own.entry.now }
+    ensures { result.now ≡ fault_or (fault_at table.entry.faults.now
+        (slice_index_or table.entry.places.now place Option.None)) own.entry.now }
 {
     let Some(Some(number)) = table.places.get(place) else {
         return own;
@@ -86,7 +87,8 @@ pub fn receive_all(
     requires faults { All (IsFault design.now) table.faults.now }
     requires places { AreFirst table.faults.now (length design.now.links) table.places.now }
     requires received_messages { lengths received_messages.old ≡ message_sizes design.now }
-    ensures received { AreReceived design.now replicated.now table.entry.faults.now layers.now at received_messages.new }
+    ensures received { AreReceived design.now replicated.now table.entry.faults.now layers.now at
+        received_messages.new }
     ensures sizes { lengths received_messages.new ≡ message_sizes design.now }
 {
     let there = layers[at].there.as_slice();

@@ -67,7 +67,8 @@ impl Layer {
         requires room { HasRoom round.design.now self.old }
         requires sources { sources.now ≡ all_sources round.design.now }
         requires stages { map stage_size stages.old.items ≡ stage_sizes round.design.now }
-        ensures made { let made = round.entry in OnOk result (IsMade made.design.now made.values.now made.messages.now self.new) }
+        ensures made { let made = round.entry in OnOk result
+            (IsMade made.design.now made.values.now made.messages.now self.new) }
         ensures stays { StaysPut self.old self.new }
         ensures room { HasRoom round.entry.design.now self.new }
         ensures stages { map stage_size stages.new.items ≡ map stage_size stages.old.items }

@@ -89,7 +89,8 @@ pub fn receive_each(
     requires faults { All (IsFault design.now) table.faults.now }
     requires places { AreFirst table.faults.now (length design.now.links) table.places.now }
     requires received_messages { HasReceivedSizes design.now received_messages.old.items }
-    ensures received { AllReceived design.now replicated.now table.entry.faults.now layers.now received_messages.new.items }
+    ensures received { AllReceived design.now replicated.now table.entry.faults.now layers.now
+        received_messages.new.items }
     ensures received_messages { HasReceivedSizes design.now received_messages.new.items }
 {
     for at in 0..received_messages.len() {

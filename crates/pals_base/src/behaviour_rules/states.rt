@@ -109,7 +109,8 @@ fn settled_next(
     parts: &BehaviourParts,
     marks: &[bool],
 ) -> Result<Vec<bool>, NoMemory>
-    ensures { IfOk result (λ next. next.items ≡ map (settles_next parts.now marks.now) (upwards 0 (length parts.now.states))) }
+    ensures { IfOk result (λ next. next.items
+        ≡ map (settles_next parts.now marks.now) (upwards 0 (length parts.now.states))) }
 {
     let mut next = Vec::new(alloc);
     for state in 0..parts.states.len() {
@@ -122,7 +123,8 @@ fn settled_next(
 /// transitions as there are states.
 #[tactic(auto, using(crate::proofs::CycleSearchMarks::settles_more))]
 pub fn settled_states(alloc: Global, parts: &BehaviourParts) -> Result<Vec<bool>, NoMemory>
-    ensures { IfOk result (λ marks. marks.items ≡ map (settles (length parts.now.states) parts.now) (upwards 0 (length parts.now.states))) }
+    ensures { IfOk result (λ marks. marks.items
+        ≡ map (settles (length parts.now.states) parts.now) (upwards 0 (length parts.now.states))) }
 {
     let mut marks = complete_states(alloc, parts)?;
     for _round in 0..parts.states.len() {

@@ -47,5 +47,6 @@ pub fn arithmetic_traps()
 /// A chain goes from the left: 9 - 4 - 3 is 2.
 pub fn operators_associate_left()
     ensures { (frame : Frame) (fresh : List Bool)
-        → eval (Chain (Literal (pos 9)) (Then Sub (Literal (pos 4)) (Then Sub (Literal (pos 3)) NoMore))) frame fresh ≡ Ok (pos 2) }
+        → eval (Chain (Literal (pos 9)) (Then Sub (Literal (pos 4)) (Then Sub (Literal (pos 3)) NoMore))) frame fresh
+        ≡ Ok (pos 2) }
 {}

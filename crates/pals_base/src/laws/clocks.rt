@@ -6,8 +6,10 @@ ghost use Rattle.pals_base.specs.ClockPicks.{picks};
 /// The picks never fall where the readings do not, each pick is at least its target, and the
 /// first targets have the first picks.
 pub fn picks_follow_targets()
-    ensures never_fall { (readings targets : List ℕ) → IsNonDecreasing readings → IsNonDecreasing (picks readings targets) }
+    ensures never_fall { (readings targets : List ℕ) → IsNonDecreasing readings
+        → IsNonDecreasing (picks readings targets) }
     ensures at_least { (readings targets : List ℕ) (at : ℕ)
         → at < length (picks readings targets) → slice_index targets at ≤ slice_index (picks readings targets) at }
-    ensures first { (readings targets : List ℕ) (count : ℕ) → take count (picks readings targets) ≡ picks readings (take count targets) }
+    ensures first { (readings targets : List ℕ) (count : ℕ)
+        → take count (picks readings targets) ≡ picks readings (take count targets) }
 {}

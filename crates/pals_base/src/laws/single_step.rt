@@ -11,7 +11,8 @@ ghost use Rattle.pals_base.specs.BehaviourRules.{IsBehaviour, IsWay};
 /// frame of that shape, so again in a complete state, and gives each out port a place.
 pub fn each_step_ends()
     ensures start { (b : BehaviourParts) → IsBehaviour b → HasShape b (initial b) }
-    ensures step { (b : BehaviourParts) (frame : Frame) (inputs : List PortValue) → IsBehaviour b → HasShape b frame → HasShape b (fire b frame inputs).frame }
+    ensures step { (b : BehaviourParts) (frame : Frame) (inputs : List PortValue) → IsBehaviour b → HasShape b frame
+        → HasShape b (fire b frame inputs).frame }
     ensures outs { (b : BehaviourParts) (frame : Frame) (inputs : List PortValue)
         → IsBehaviour b → HasShape b frame → length (fire b frame inputs).outs ≡ length b.outs }
 {}

@@ -24,9 +24,11 @@ pub fn steps_one_after_another()
 pub fn halted_frame_stays()
     ensures step { (b : BehaviourParts) (frame : Frame) (trap : Trap) (inputs : List PortValue) → frame.halt ≡ Some trap
         → fire b frame inputs ≡ record { frame = record frame { held = holding frame.held inputs }; outs = silence b } }
-    ensures frame { (b : BehaviourParts) (frame : Frame) (trap : Trap) (vectors : List (List PortValue)) → frame.halt ≡ Some trap
+    ensures frame { (b : BehaviourParts) (frame : Frame) (trap : Trap) (vectors : List (List PortValue))
+        → frame.halt ≡ Some trap
         → frame_after b frame vectors ≡ record frame { held = fold holding frame.held vectors } }
-    ensures outputs { (b : BehaviourParts) (frame : Frame) (trap : Trap) (vectors : List (List PortValue)) → frame.halt ≡ Some trap
+    ensures outputs { (b : BehaviourParts) (frame : Frame) (trap : Trap) (vectors : List (List PortValue))
+        → frame.halt ≡ Some trap
         → outputs b frame vectors ≡ replicate (length vectors) (silence b) }
 {}
 
@@ -36,6 +38,7 @@ pub fn halted_frame_stays()
 pub fn round_fills_place_by_place()
     ensures none { (ports k : ℕ) → so_far ports k [] ≡ replicate ports (replicate k Absent) }
     ensures next { (k : ℕ) (outs : List (List PortValue)) (values : List PortValue) → length outs < k
-        → so_far (length values) k (outs ++ values ∷ []) ≡ with_places (length outs) values (so_far (length values) k outs) }
+        → so_far (length values) k (outs ++ values ∷ [])
+        ≡ with_places (length outs) values (so_far (length values) k outs) }
     ensures all { (ports : ℕ) (outs : List (List PortValue)) → so_far ports (length outs) outs ≡ columns ports outs }
 {}

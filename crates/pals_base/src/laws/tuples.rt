@@ -13,6 +13,8 @@ pub fn cut_keeps_length()
 /// There are as many columns as are asked for, in order, and each has a place for each list.
 pub fn columns_follow_lists()
     ensures count { (count : ℕ) (lists : List (List PortValue)) → length (columns count lists) ≡ count }
-    ensures place { (count : ℕ) (lists : List (List PortValue)) (at : ℕ) → at < count → slice_get (columns count lists) at ≡ Some (column at lists) }
-    ensures each { (count : ℕ) (lists : List (List PortValue)) → All (λ column. length column ≡ length lists) (columns count lists) }
+    ensures place { (count : ℕ) (lists : List (List PortValue)) (at : ℕ) → at < count
+        → slice_get (columns count lists) at ≡ Some (column at lists) }
+    ensures each { (count : ℕ) (lists : List (List PortValue))
+        → All (λ column. length column ≡ length lists) (columns count lists) }
 {}
