@@ -1,6 +1,5 @@
 pub mod FirstFaultSoFar
 pub mod NameTables
-pub mod AtMostOneEntry
 pub mod MemberNumbers
 pub mod UnequalWordLists
 pub mod EarliestDeclarations

@@ -5,7 +5,7 @@ use Rattle.aadl_names.specs.proof.EarliestDeclarations.{again_by}
 use Rattle.aadl_names.specs.DuplicateNames.{again}
 use Rattle.aadl_names.proofs.FirstFaultSoFar.{next_found}
 use Rattle.aadl_names.proofs.EarliestDeclarations.{again-earliest}
-use Rattle.aadl_names.proofs.duplicate_names.check_twice.Goals as goal
+use Rattle.aadl_names.proofs.duplicate_names.look_up_all.Goals as goal
 
 pub loop-entry-preserved : goal.loop-entry-preserved
 loop-entry-preserved c =

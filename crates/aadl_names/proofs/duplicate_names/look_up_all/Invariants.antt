@@ -2,7 +2,7 @@ use Rattle.std.proofs.Common.{◌≡◌, drop}
 use Rattle.std.specs.List.{flat_map}
 use Rattle.aadl_names.specs.proof.FirstFaultSoFar.{found}
 use Rattle.aadl_names.specs.DuplicateNames.{again}
-use Rattle.aadl_names.proofs.duplicate_names.check_twice.Given as goal
+use Rattle.aadl_names.proofs.duplicate_names.look_up_all.Given as goal
 
 -- what is left is still to be looked at
 abbrev pub invariant-loop-entry : goal.invariant-loop-entry
