@@ -2,9 +2,10 @@
 use Rattle.std.proofs.Common.{◌≡◌, ◌∙◌, ℕ, ◌<◌, Bool, true, false, ◌&&◌, List, [], ◌∷◌, ◌++◌, length, refl, sym, ap}
 use Rattle.std.proofs.Common.{map, arith}
 use Rattle.aadl_tree.specs.Names.{same_name}
-use Rattle.std.specs.Prelude.{nat_eq}
+use Rattle.std.specs.Prelude.{nat_eq, flat_map}
 use Rattle.std.specs.Char.{to_ascii_lowercase}
 use Rattle.std.specs.Str.{str_to_ascii_lowercase}
+use Rattle.std.proofs.lemmas.List.{append-nil}
 use Rattle.std.proofs.lemmas.Slice.Eq.{bytes_eq-Decides}
 use Rattle.std.proofs.Math.Bool.{and-false}
 use Rattle.list_lemmas.proofs.Booleans.{and_assoc_left}
@@ -46,3 +47,9 @@ pub cut_elsewhere : (word front more rest text : List ℕ) → text ≡ front ++
 cut_elsewhere word front more rest text is long other =
     ap (same_name (word ++ more)) is ∙ parted word front more rest long
     ∙ ap (λ b. b && same_name more rest) (differ word front (same_name word front) refl other)
+
+-- a name of one word
+pub one_word : {X Y : Type 0} (words : Y → List ℕ) (view : X → Y) (front : List ℕ) (rest : List X) → length rest ≡ 0
+    → front ++ flat_map words (map view rest) ≡ front
+one_word words view front [] none = append-nil front
+one_word words view front (x ∷ rest) none = absurd (omega (arith, none))

@@ -32,10 +32,20 @@ fn behind_scope<'a>(text: &'a [u8], word: &Identifier) -> Option<&'a [u8]>
     behind(rest, word.spelling.as_bytes())
 }
 
+// Whether a word is this one.
+fn is_identifier(word: &Identifier, text: &str) -> bool
+    ensures { result ≡ same_name word.now.spelling text.now }
+{
+    word.spelling.as_str().eq_ignore_ascii_case(text)
+}
+
 /// Whether a name is this one.
 pub fn is_spelled(name: &Name, text: &str) -> bool
     ensures { result ≡ same_name (spelled_name (name_view kept_place name.now)) text.now }
 {
+    if name.rest.is_empty() {
+        return is_identifier(&name.first, text);
+    }
     let Some(mut rest) = behind(text.as_bytes(), name.first.spelling.as_bytes()) else {
         return false;
     };
