@@ -254,7 +254,7 @@ fn associations(reader: &Reader<'_>, at: usize, room: usize) -> Parsed<Vec<Assoc
     ensures { Parses reader.now (Room room) (s.associations ∷ [])
         (λ x. associations_parts (associations_view kept_place x.items)) at result }
 {
-    let mut found = Vec::new(reader.alloc);
+    let mut found = Vec::with_capacity(reader.alloc, 1)?;
     let mut rest = at;
     while reader.is_word(rest) {
         let (next, behind) = association(reader, rest, room)?;

@@ -377,12 +377,12 @@ pub associations-returns-in_err-next : goal.associations-returns-in_err-next
 unfolding move depth
 associations-returns-in_err-next t c = record {
   runs =
-      λ outer below h. exits _ _ _ _ _ _ _ c.from_residual.ensures.1
+      λ outer below h. exits _ _ _ _ _ _ _ c.from_residual-in_err-next.ensures.1
       (along _ _ _ (c.loop-found.invariant.runs outer below (omega arith)
       ∙ enters_as outer c.args.reader.now.end s.associations s.association (s.associations ∷ []) (below) refl refl
       (starts_at (rw c.loop-found-test.true at c.is_word.ensures)) refl)
       (c.in_err-next.ensures.runs outer (s.associations ∷ below) (omega arith)));
-  reads = no_reads _ _ _ c.from_residual.ensures.1;
+  reads = no_reads _ _ _ c.from_residual-in_err-next.ensures.1;
 }
 
 pub associations-loop-found-preserved : goal.associations-loop-found-preserved
