@@ -1,6 +1,6 @@
 //! What is wrong with the connections of an implementation, whatever they carry.
 ghost use Rattle.std.specs.Prelude.{◌≡◌, ◌||◌, ◌++◌, ℕ, OnOk, Some, option_map, slice_get};
-ghost use Rattle.std.specs.Option.{option_and_then};
+ghost use Rattle.std.specs.Option.{is_some, option_and_then};
 ghost use Rattle.aadl_tree.specs.proof.PlaceMaps.{kept_place};
 ghost use Rattle.aadl_tree.specs.Declarations as trees;
 ghost use Rattle.aadl_tree.specs.Declarations.{implementation};
@@ -9,8 +9,7 @@ ghost use Rattle.aadl_tree.specs.proof.PackageViews.{placed};
 ghost use Rattle.aadl_tree.specs.proof.DeclarationViews.{connection_view, implementation_view};
 ghost use Rattle.aadl_names.specs.NameResolution.{features_of, implementation_at, type_numbered};
 ghost use Rattle.aadl_uses.specs.PortsOfConnections.{ports_of_connection};
-ghost use Rattle.component_checks.specs.proof.ChainProperties.{carried_by};
-ghost use Rattle.model_violations.specs.ConnectionsAndCarriers.{carries};
+ghost use Rattle.model_violations.specs.ConnectionsAndCarriers.{adaptor_text, carries, is_delayed};
 ghost use Rattle.model_violations.specs.ConnectionFindings as spec;
 ghost use Rattle.model_violations.specs.proof.NumberedConnections.{IsConnection};
 
@@ -113,21 +112,35 @@ fn add_ends_findings(
     Ok(())
 }
 
+// Whether a connection is delayed.
+fn is_delayed(connection: &Connection) -> bool
+    ensures { result ≡ is_delayed (connection_view kept_place connection.now) }
+{
+    ChainProperties::of(connection.properties.as_slice()).delayed
+}
+
+// Whether a connection has an adaptor.
+#[tactic(auto, using(crate::proofs::MappedOptions::has_mapped))]
+fn has_adaptor(connection: &Connection) -> bool
+    ensures { result ≡ is_some (adaptor_text (connection_view kept_place connection.now)) }
+{
+    ChainProperties::of(connection.properties.as_slice())
+        .adaptor
+        .is_some()
+}
+
 // Adds the finding that a connection with an end at an own port is delayed.
 fn add_delay_findings(
     alloc: Global,
     connection: &Connection,
-    said: ChainProperties,
     found: &mut ItemList<Violation>,
 ) -> Result<(), NoMemory>
-    requires { said ≡ carried_by (connection_view kept_place connection.now).properties }
     ensures { OnOk result (found.new ≡ found.old ++ spec.delay_findings (connection_view kept_place connection.now)) }
 {
-    let own = joins_own(connection);
     add_named(
         alloc,
         found,
-        own && said.delayed,
+        joins_own(connection) && is_delayed(connection),
         connection.name.at,
         DELAYED_ROOT,
         connection.name.spelling.as_str(),
@@ -135,22 +148,19 @@ fn add_delay_findings(
 }
 
 // Adds the finding that a connection which carries no chain has an adaptor.
-#[tactic(auto, using(crate::proofs::MappedOptions::has_mapped))]
 fn add_adaptor_findings(
     alloc: Global,
     carried: bool,
     connection: &Connection,
-    said: ChainProperties,
     found: &mut ItemList<Violation>,
 ) -> Result<(), NoMemory>
-    requires { said ≡ carried_by (connection_view kept_place connection.now).properties }
     ensures { OnOk result (found.new ≡ found.old
         ++ spec.adaptor_findings carried (connection_view kept_place connection.now)) }
 {
     add_named(
         alloc,
         found,
-        !carried && said.adaptor.is_some(),
+        !carried && has_adaptor(connection),
         connection.name.at,
         STRAY_ADAPTOR,
         connection.name.spelling.as_str(),
@@ -174,9 +184,8 @@ fn add_connection_findings(
         (place.connection, connection_view kept_place connection.now)) }
 {
     add_ends_findings(alloc, wires, place, connection, found)?;
-    let said = ChainProperties::of(connection.properties.as_slice());
-    add_delay_findings(alloc, connection, said, found)?;
-    add_adaptor_findings(alloc, carriers.has(place), connection, said, found)?;
+    add_delay_findings(alloc, connection, found)?;
+    add_adaptor_findings(alloc, carriers.has(place), connection, found)?;
     Ok(())
 }
 
