@@ -8,3 +8,4 @@ pub mod ReachabilityTableCells
 pub mod TransitionTables
 pub mod MappedLists
 pub mod AnnexFindings
+pub mod EqualSpellings

@@ -8,11 +8,13 @@ ghost use Rattle.annex_resolve.specs.ExpressionTypesAndFindings.{is_base_types, 
 use aadl_tree::{Identifier, Reference};
 use pals_base::Kind;
 
-// Whether an identifier is a word, with capitals or small letters.
+// Whether an identifier is a word, with capitals or small letters. Most are spelled like it.
+#[tactic(auto, using(crate::proofs::EqualSpellings::same_spelling))]
 fn is_spelled(identifier: &Identifier, word: &str) -> bool
     ensures { result ≡ same_name identifier.now.spelling word.now }
 {
-    identifier.spelling.as_str().eq_ignore_ascii_case(word)
+    let spelling = identifier.spelling.as_str();
+    spelling == word || spelling.eq_ignore_ascii_case(word)
 }
 
 // Whether these are the names before a base type.
