@@ -87,7 +87,7 @@ arrive_rises run front link round reading Early read =
       (again_rises run front node reading (entry.Arrive link round reading Early) refl, tt),
     )
 
-event_rises : (run : Run) (front : List JournalEntry) (s : BusState) (e : BusEvent) → IsInTime run front s e
+pub event_rises : (run : Run) (front : List JournalEntry) (s : BusState) (e : BusEvent) → IsInTime run front s e
     → LinesRise run front (entries run s e)
 event_rises run front s (Start node reading) in_time =
     (start_rises run front s node reading _ (missing_link run s node.0) in_time.read refl, tt)
@@ -99,7 +99,7 @@ event_rises run front s (Arrive link round reading) in_time =
 event_rises run front s (Drop link round) in_time = absurd in_time
 event_rises run front s (Repeat link round) in_time = absurd in_time
 
-rises : (run : Run) (journal : List JournalEntry) (s : BusState) → History run journal s → LinesRise run [] journal
+pub rises : (run : Run) (journal : List JournalEntry) (s : BusState) → History run journal s → LinesRise run [] journal
 rises run journal s opens = tt
 rises run journal s (goes_on {journal = before} {s = t} e history step in_time) =
     rise_append run [] before (entries run t e) (rises run before t history) (event_rises run before t e in_time)
@@ -140,7 +140,7 @@ arrive_shows run front link round reading Early read =
     (entry.Stopped (stop.Early link round reading) ∷ []) shows
     (one_shows run (entry.Stopped (stop.Early link round reading)) shows)
 
-event_shows : (run : Run) (front : List JournalEntry) (s : BusState) (e : BusEvent) → IsInTime run front s e
+pub event_shows : (run : Run) (front : List JournalEntry) (s : BusState) (e : BusEvent) → IsInTime run front s e
     → All (ShowsTime run) (entries run s e)
 event_shows run front s (Start node reading) in_time =
     one_shows run (start_entry run s node reading (missing_link run s node.0))
@@ -163,7 +163,7 @@ event_shows run front s (Arrive link round reading) in_time =
 event_shows run front s (Drop link round) in_time = absurd in_time
 event_shows run front s (Repeat link round) in_time = absurd in_time
 
-times : (run : Run) (journal : List JournalEntry) (s : BusState) → History run journal s → All (ShowsTime run) journal
+pub times : (run : Run) (journal : List JournalEntry) (s : BusState) → History run journal s → All (ShowsTime run) journal
 times run journal s opens = All-nil (ShowsTime run)
 times run journal s (goes_on {journal = before} {s = t} e history step in_time) =
     All-append (ShowsTime run) before (entries run t e) (times run before t history)

@@ -61,28 +61,28 @@ use Rattle.run_laws.proofs.HistoryReplay.{replays}
 use Rattle.run_laws.proofs.MeetingStopsAndBounds.{link_is}
 
 -- ---- an audit that has come as far as a history
-record IsAt (run : Run) (front : List JournalEntry) (s : BusState) (a : Audit) : Type 0 where
+pub record IsAt (run : Run) (front : List JournalEntry) (s : BusState) (a : Audit) : Type 0 where
   bus : a.bus ≡ s
   owed : a.owed ≡ None
   many : length a.readings ≡ length run.design.components
   last : AreLast run front a.readings
 
-abbrev Passes : Run → List JournalEntry → BusState → BusState → List JournalEntry → Type 0
+abbrev pub Passes : Run → List JournalEntry → BusState → BusState → List JournalEntry → Type 0
 Passes run front s t told' =
     (a : Audit) → IsAt run front s a → BreakNone run a told' × IsAt run (front ++ told') t (audited run a told')
 
 -- an entry breaks no rule, whatever the audit's readings are
-abbrev BreaksNone : Run → List JournalEntry → BusState → JournalEntry → Type 0
+abbrev pub BreaksNone : Run → List JournalEntry → BusState → JournalEntry → Type 0
 BreaksNone run front s x = (readings : List ℕ) → AreLast run front readings → broken run s readings x ≡ None
 
-line_is : (run : Run) (front : List JournalEntry) (s : BusState) (a : Audit) (x : JournalEntry) → IsAt run front s a
+pub line_is : (run : Run) (front : List JournalEntry) (s : BusState) (a : Audit) (x : JournalEntry) → IsAt run front s a
     → has_reading (timed run.design x) ≡ true → broken run s a.readings x ≡ None → line_broken run a (Some x) ≡ None
 line_is run front s a x up has none =
     (λ i. cond (not (has i)) (Some rule.Text)
     (cond (is_some (up.owed i)) (cond (is_line_of run.design x (up.owed i)) None (Some rule.Stop))
     (broken run (up.bus i) a.readings x))) ∙ none
 
-after_is : (run : Run) (front : List JournalEntry) (s : BusState) (a : Audit) (x : JournalEntry) (e : BusEvent)
+pub after_is : (run : Run) (front : List JournalEntry) (s : BusState) (a : Audit) (x : JournalEntry) (e : BusEvent)
     → IsAt run front s a → event_of run.design x ≡ Some e
     → audit_after run a x ≡ record {
       bus = after run s e;
@@ -163,7 +163,7 @@ has_one : (run : Run) (front : List JournalEntry) (node least : ℕ) (reading : 
 has_one run front node least reading read = ap is_some read.reading_is
 
 -- ---- Start
-start_passes : (run : Run) (front : List JournalEntry) (s : BusState) (node : NodeNo) (reading : Option ℕ)
+pub start_passes : (run : Run) (front : List JournalEntry) (s : BusState) (node : NodeNo) (reading : Option ℕ)
     → IsDesign run.design → StartsInTime run front s node.0 reading → is_waiting (node_at s node.0).phase ≡ true
     → s.stop ≡ None → missing_link run s node.0 ≡ None
     → IsEntryIn run.design (entry.Start node (node_at s node.0).count reading)
@@ -185,7 +185,7 @@ start_passes run front s node reading rules b may going misses of =
     (ap (λ m. is_line_of run.design x (first_entry (start_entry run s node reading m ∷ []))) misses
     ∙ its_line run.design x))
 
-missed_passes : (run : Run) (front : List JournalEntry) (s : BusState) (link : ℕ) (reading : Option ℕ)
+pub missed_passes : (run : Run) (front : List JournalEntry) (s : BusState) (link : ℕ) (reading : Option ℕ)
     → let node = (link_at run.design link).target in
     IsDesign run.design → StartsInTime run front s node.0 reading → is_waiting (node_at s node.0).phase ≡ true
     → s.stop ≡ None → missing_link run s node.0 ≡ Some link → 1 ≤ (node_at s node.0).count
@@ -211,7 +211,7 @@ missed_passes run front s link reading rules b may going misses some of =
     (ap (λ m. is_line_of run.design x (first_entry (start_entry run s node reading m ∷ []))) misses
     ∙ its_line run.design x))
 
-abbrev Misses : Run → List JournalEntry → BusState → ℕ → Option ℕ → NodeNo → Type 0
+abbrev pub Misses : Run → List JournalEntry → BusState → ℕ → Option ℕ → NodeNo → Type 0
 Misses run front s link reading node =
     IsDesign run.design → StartsInTime run front s node.0 reading → is_waiting (node_at s node.0).phase ≡ true
     → s.stop ≡ None → missing_link run s node.0 ≡ Some link → 1 ≤ (node_at s node.0).count
@@ -236,7 +236,7 @@ start_by run front s node reading (Some link) rules b may going misses of =
     (All-head (IsEntryIn run.design) _ [] of)
 
 -- ---- Step
-step_passes : (run : Run) (front : List JournalEntry) (s : BusState) (node : NodeNo) (reading : Option ℕ)
+pub step_passes : (run : Run) (front : List JournalEntry) (s : BusState) (node : NodeNo) (reading : Option ℕ)
     → IsDesign run.design → StepsInTime run front s node.0 reading → is_allowed run s (Step node reading) ≡ true
     → s.stop ≡ None
     → All (IsEntryIn run.design) (entries run s (Step node reading))
@@ -261,7 +261,7 @@ step_passes run front s node reading rules b may going all =
     refl (its_line run.design x))
 
 -- ---- Finish
-finish_passes : (run : Run) (front : List JournalEntry) (s : BusState) (node : NodeNo) → IsDesign run.design
+pub finish_passes : (run : Run) (front : List JournalEntry) (s : BusState) (node : NodeNo) → IsDesign run.design
     → is_allowed run s (Finish node) ≡ true → s.stop ≡ None → All (IsEntryIn run.design) (entries run s (Finish node))
     → Passes run front s (after run s (Finish node)) (entries run s (Finish node))
 finish_passes run front s node rules may going all =
@@ -274,7 +274,7 @@ finish_passes run front s node rules may going all =
     (nat_eq-self (round_of n))) refl refl refl (its_line run.design x))
 
 -- ---- Send
-send_passes : (run : Run) (front : List JournalEntry) (s : BusState) (node : NodeNo) (reading : Option ℕ)
+pub send_passes : (run : Run) (front : List JournalEntry) (s : BusState) (node : NodeNo) (reading : Option ℕ)
     → IsDesign run.design → IsRead run front node.0 reading
     (release_reading (plan_of run.design node.0) (node_at s node.0)) → is_allowed run s (Send node reading) ≡ true
     → s.stop ≡ None
@@ -296,7 +296,7 @@ send_passes run front s node reading rules read may going all =
     refl (its_line run.design x))
 
 -- ---- Arrive
-arrive_rules : (run : Run) (front : List JournalEntry) (s : BusState) (link : LinkNo) (round : ℕ) (reading : Option ℕ)
+pub arrive_rules : (run : Run) (front : List JournalEntry) (s : BusState) (link : LinkNo) (round : ℕ) (reading : Option ℕ)
     → IsDesign run.design → ArrivesInTime run front s link.0 round reading
     → is_allowed run s (Arrive link round reading) ≡ true → s.stop ≡ None
     → link.0 < length run.design.links
@@ -313,16 +313,16 @@ arrive_rules run front s link round reading rules t may going within = λ readin
     (ap (λ o. not (option_map_or (is_due reading) o false)) t.is_copy ∙ ap not t.due)
     (its_line run.design x)
 
-append_two : (front : List JournalEntry) (x y : JournalEntry) → (front ++ x ∷ []) ++ y ∷ [] ≡ front ++ x ∷ y ∷ []
+pub append_two : (front : List JournalEntry) (x y : JournalEntry) → (front ++ x ∷ []) ++ y ∷ [] ≡ front ++ x ∷ y ∷ []
 append_two [] x y = refl
 append_two (z ∷ front) x y = ap (λ js. z ∷ js) (append_two front x y)
 
-abbrev Told : Run → List JournalEntry → BusState → LinkNo → ℕ → Option ℕ → Arrived → Type 0
+abbrev pub Told : Run → List JournalEntry → BusState → LinkNo → ℕ → Option ℕ → Arrived → Type 0
 Told run front s link round reading a =
     Passes run front s (after run s (Arrive link round reading))
     (entry.Arrive link round reading a ∷ stop_entry (early_stop link round reading a))
 
-two_lines : (run : Run) (front : List JournalEntry) (s : BusState) (link : LinkNo) (round : ℕ) (reading : Option ℕ)
+pub two_lines : (run : Run) (front : List JournalEntry) (s : BusState) (link : LinkNo) (round : ℕ) (reading : Option ℕ)
     (a : Arrived) → IsDesign run.design → ArrivesInTime run front s link.0 round reading
     → is_allowed run s (Arrive link round reading) ≡ true → s.stop ≡ None
     → arrival run s link round ≡ a
@@ -386,7 +386,7 @@ two_lines run front s link round reading Early rules t may going is all = λ a u
     )
 
 -- ---- each event
-event_passes : (run : Run) (front : List JournalEntry) (s : BusState) (e : BusEvent) → IsDesign run.design
+pub event_passes : (run : Run) (front : List JournalEntry) (s : BusState) (e : BusEvent) → IsDesign run.design
     → IsInTime run front s e → is_allowed run s e ≡ true → s.stop ≡ None → All (IsEntryIn run.design) (entries run s e)
     → Passes run front s (after run s e) (entries run s e)
 event_passes run front s (Start node reading) rules in_time may going of =
@@ -402,12 +402,12 @@ event_passes run front s (Drop link round) rules in_time may going of = absurd i
 event_passes run front s (Repeat link round) rules in_time may going of = absurd in_time
 
 -- ---- each history
-front_of : {X : Type 0} (P : X → Type 0) (xs ys : List X) → All P (xs ++ ys) → All P xs
+pub front_of : {X : Type 0} (P : X → Type 0) (xs ys : List X) → All P (xs ++ ys) → All P xs
 front_of P [] ys all = All-nil P
 front_of P (x ∷ xs) ys all =
     All-cons P x xs (All-head P x (xs ++ ys) all) (front_of P xs ys (All-tail P x (xs ++ ys) all))
 
-passes : (run : Run) (journal : List JournalEntry) (s : BusState) → IsDesign run.design → History run journal s
+pub passes : (run : Run) (journal : List JournalEntry) (s : BusState) → IsDesign run.design → History run journal s
     → All (IsEntryIn run.design) journal
     → BreakNone run (opening_audit run) journal × IsAt run journal s (audited run (opening_audit run) journal)
 passes run journal s rules opens of =
@@ -426,32 +426,32 @@ passes run journal s rules (goes_on {journal = before} {s = t} e history step in
     )
 
 -- ---- the end
-all_done : (ns : List NodeState) → All (λ (n : NodeState). is_done n.phase ≡ true) ns
+pub all_done : (ns : List NodeState) → All (λ (n : NodeState). is_done n.phase ≡ true) ns
     → list_all (λ (n : NodeState). is_done n.phase) ns ≡ true
 all_done [] done = refl
 all_done (n ∷ ns) done =
     ap₂ (λ a b. a && b) (All-head (λ (m : NodeState). is_done m.phase ≡ true) n ns done)
     (all_done ns (All-tail (λ (m : NodeState). is_done m.phase ≡ true) n ns done))
 
-tests_done : (run : Run) (s : BusState) → length s.nodes ≡ length run.design.components → AllDone run s
+pub tests_done : (run : Run) (s : BusState) → length s.nodes ≡ length run.design.components → AllDone run s
     → list_all (λ (n : NodeState). is_done n.phase) s.nodes ≡ true
 tests_done run s many done =
     all_done s.nodes (All-from_get_or (λ (n : NodeState). is_done n.phase ≡ true) s.nodes no_node
     (λ node within. ap is_done (done node (omega arith))))
 
-over_by : (o : Option Stop) (done : Bool) → (o ≢ None) ⊎ (done ≡ true) → (is_none o && not done) ≡ false
+pub over_by : (o : Option Stop) (done : Bool) → (o ≢ None) ⊎ (done ≡ true) → (is_none o && not done) ≡ false
 over_by None done (inl stands) = absurd (stands refl)
 over_by None done (inr all) = ap not all
 over_by (Some why) done over = refl
 
-over_is : (run : Run) (s : BusState) → length s.nodes ≡ length run.design.components → IsStoppedOrDone run s
+pub over_is : (run : Run) (s : BusState) → length s.nodes ≡ length run.design.components → IsStoppedOrDone run s
     → (is_none s.stop && not (list_all (λ (n : NodeState). is_done n.phase) s.nodes)) ≡ false
 over_is run s many (inl stands) = over_by s.stop (list_all (λ (n : NodeState). is_done n.phase) s.nodes) (inl stands)
 over_is run s many (inr done) =
     over_by s.stop (list_all (λ (n : NodeState). is_done n.phase) s.nodes) (inr (tests_done run s many done))
 
 -- ---- the whole
-first_has_form : (design : DesignParts) (journal : List JournalEntry) → IsDesign design → All (IsEntryIn design) journal
+pub first_has_form : (design : DesignParts) (journal : List JournalEntry) → IsDesign design → All (IsEntryIn design) journal
     → FirstHasForm (map (entry_line design) journal)
 first_has_form design [] rules fit = tt
 first_has_form design (e ∷ es) rules fit =

@@ -9,7 +9,7 @@ use Rattle.pals_model.proofs.FirstMatches.{at_element}
 use Rattle.run_laws.specs.proof.LinkTiming.{LinkView, one_if, copies, Whereabouts, in_flight, in_slot, was_taken}
 use Rattle.run_laws.specs.proof.LinkTiming.{came_early, IsDueCopy, IsTimed}
 
-some_copy : (flight : List FlightCopy) (place round : ℕ) (copy : FlightCopy) → slice_get flight place ≡ Some copy
+pub some_copy : (flight : List FlightCopy) (place round : ℕ) (copy : FlightCopy) → slice_get flight place ≡ Some copy
     → is_of round copy ≡ true → 1 ≤ copies round flight
 some_copy [] place round copy is of = absurd (cc)
 some_copy (c ∷ cs) zero round copy is of =
@@ -18,7 +18,7 @@ some_copy (c ∷ cs) zero round copy is of =
     omega arith
 some_copy (c ∷ cs) (suc place) round copy is of = let rest = some_copy cs place round copy is of in omega arith
 
-only_by : (c : FlightCopy) (cs : List FlightCopy) (place round : ℕ) (copy : FlightCopy) (b : Bool) → is_of round c ≡ b
+pub only_by : (c : FlightCopy) (cs : List FlightCopy) (place round : ℕ) (copy : FlightCopy) (b : Bool) → is_of round c ≡ b
     → slice_get cs place ≡ Some copy → is_of round copy ≡ true → one_if (is_of round c) + copies round cs ≤ 1
     → (copies round cs ≤ 1 → oldest round cs ≡ Some copy)
     → cond b (Some c) (oldest round cs) ≡ Some copy
@@ -28,7 +28,7 @@ only_by c cs place round copy true is at of most rest =
     absurd (omega arith)
 only_by c cs place round copy false is at of most rest = rest (omega arith)
 
-only_copy : (flight : List FlightCopy) (place round : ℕ) (copy : FlightCopy) → slice_get flight place ≡ Some copy
+pub only_copy : (flight : List FlightCopy) (place round : ℕ) (copy : FlightCopy) → slice_get flight place ≡ Some copy
     → is_of round copy ≡ true → copies round flight ≤ 1 → oldest round flight ≡ Some copy
 only_copy [] place round copy is of most = absurd (cc)
 only_copy (c ∷ cs) zero round copy is of most =
@@ -37,7 +37,7 @@ only_copy (c ∷ cs) zero round copy is of most =
 only_copy (c ∷ cs) (suc place) round copy is of most =
     only_by c cs place round copy (is_of round c) refl is of most (only_copy cs place round copy is of)
 
-one_at_most : (round count flying : ℕ) (slot : Option (List PortValue)) (taken : Option ℕ)
+pub one_at_most : (round count flying : ℕ) (slot : Option (List PortValue)) (taken : Option ℕ)
     → Whereabouts round count slot flying taken → flying ≤ 1
 one_at_most round count flying slot taken (in_flight one most free) = omega arith
 one_at_most round count flying slot taken (in_slot none here full) = omega arith

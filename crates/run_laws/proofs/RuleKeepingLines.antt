@@ -68,14 +68,14 @@ none_of order falls waits tells early o f e w t =
     (cond (is_some (e i)) (e i) (cond (w i) (Some rule.Due) (cond (not (t i)) (Some rule.Stop) None))))
 
 -- ---- nothing is due
-none_any : (test : FlightCopy → Bool) (flight : List FlightCopy) → All (λ c. test c ≡ false) flight
+pub none_any : (test : FlightCopy → Bool) (flight : List FlightCopy) → All (λ c. test c ≡ false) flight
     → list_any test flight ≡ false
 none_any test [] all = refl
 none_any test (c ∷ cs) all =
     ap₂ (λ a b. a || b) (All-head (λ d. test d ≡ false) c cs all)
     (none_any test cs (All-tail (λ d. test d ≡ false) c cs all))
 
-any_by : (node from : ℕ) (l : Link) (ls : List Link) (test : ℕ → Bool) (b : Bool) → nat_eq l.target.0 node ≡ b
+pub any_by : (node from : ℕ) (l : Link) (ls : List Link) (test : ℕ → Bool) (b : Bool) → nat_eq l.target.0 node ≡ b
     → (l.target.0 ≡ node → test from ≡ false)
     → list_any test (map (λ (p : ℕ × Link). p.0)
     (filter (λ (p : ℕ × Link). nat_eq p.1.target.0 node) (enumerate_from (from + 1) ls))) ≡ false
@@ -85,7 +85,7 @@ any_by : (node from : ℕ) (l : Link) (ls : List Link) (test : ℕ → Bool) (b 
 any_by node from l ls test true is own rest = ap₂ (λ a b. a || b) (own (eqb-true l.target.0 node is)) rest
 any_by node from l ls test false is own rest = rest
 
-none_into : (node from : ℕ) (ls : List Link) (test : ℕ → Bool)
+pub none_into : (node from : ℕ) (ls : List Link) (test : ℕ → Bool)
     → ((k : ℕ) (l : Link) → slice_get ls k ≡ Some l → l.target.0 ≡ node → test (from + k) ≡ false)
     → list_any test (map (λ (p : ℕ × Link). p.0)
     (filter (λ (p : ℕ × Link). nat_eq p.1.target.0 node) (enumerate_from from ls))) ≡ false

@@ -133,7 +133,7 @@ opening_many run =
 pub opening_last : (run : Run) → AreLast run [] (opening_audit run).readings
 opening_last run = λ k below. zeros (opening run).nodes k
 
-opening_up : (run : Run) → KeepsUp run [] (opening_audit run)
+pub opening_up : (run : Run) → KeepsUp run [] (opening_audit run)
 opening_up run =
     record {
       owed_in = All-nil (IsEntryIn run.design);
@@ -152,16 +152,16 @@ wrong_by : (index : ℕ) (o : Option TraceRule) (otherwise : Verdict) (rounds : 
 wrong_by index None otherwise rounds why sound = (refl, sound)
 wrong_by index (Some r) otherwise rounds why sound = absurd (cc)
 
-line_parts : (reads : Bool) (o p : Option TraceRule) (owes : Bool)
+pub line_parts : (reads : Bool) (o p : Option TraceRule) (owes : Bool)
     → cond (not reads) (Some rule.Text) (cond owes o p) ≡ None → (reads ≡ true) × (cond owes o p ≡ None)
 line_parts true o p owes none = (refl, none)
 line_parts false o p owes none = absurd (cc)
 
-stop_line : (same : Bool) → cond same None (Some rule.Stop) ≡ None → same ≡ true
+pub stop_line : (same : Bool) → cond same None (Some rule.Stop) ≡ None → same ≡ true
 stop_line true none = refl
 stop_line false none = absurd (cc)
 
-follow_by : (run : Run) (front : List JournalEntry) (bus : BusState) (readings : List ℕ) (owed : Option JournalEntry)
+pub follow_by : (run : Run) (front : List JournalEntry) (bus : BusState) (readings : List ℕ) (owed : Option JournalEntry)
     (e : JournalEntry) → let a : Audit = record { bus = bus; readings = readings; owed = owed } in
     IsDesign run.design → IsEntryIn run.design e → KeepsUp run front a → line_broken run a (Some e) ≡ None
     → KeepsUp run (front ++ e ∷ []) (audit_after run a e)
@@ -211,7 +211,7 @@ follow_by run front bus readings (Some o) e rules of up none =
     }
 
 -- ---- the end
-end_parts : (owes unfinished same : Bool)
+pub end_parts : (owes unfinished same : Bool)
     → cond owes (Some rule.Stop) (cond unfinished (Some rule.Unfinished) (cond same None (Some rule.Count))) ≡ None
     → (owes ≡ false) × (unfinished ≡ false) × (same ≡ true)
 end_parts true unfinished same none = absurd (cc)
@@ -219,19 +219,19 @@ end_parts false true same none = absurd (cc)
 end_parts false false true none = (refl, refl, refl)
 end_parts false false false none = absurd (cc)
 
-over_by : (o : Option Stop) (all : Bool) → (is_none o && not all) ≡ false → (o ≢ None) ⊎ (all ≡ true)
+pub over_by : (o : Option Stop) (all : Bool) → (is_none o && not all) ≡ false → (o ≢ None) ⊎ (all ≡ true)
 over_by None true over = inr refl
 over_by None false over = absurd (true≢false over)
 over_by (Some why) all over = inl (λ same. absurd (cc))
 
-done_phase : (p : Phase) → is_done p ≡ true → p ≡ Done
+pub done_phase : (p : Phase) → is_done p ≡ true → p ≡ Done
 done_phase Waiting is = absurd (false≢true is)
 done_phase (Running step) is = absurd (false≢true is)
 done_phase (Between steps) is = absurd (false≢true is)
 done_phase Holding is = absurd (false≢true is)
 done_phase Done is = refl
 
-done_at : (ns : List NodeState) (k : ℕ) → list_all (λ (n : NodeState). is_done n.phase) ns ≡ true
+pub done_at : (ns : List NodeState) (k : ℕ) → list_all (λ (n : NodeState). is_done n.phase) ns ≡ true
     → (slice_index_or ns k no_node).phase ≡ Done
 done_at [] k all = refl
 done_at (n ∷ ns) zero all =
@@ -239,7 +239,7 @@ done_at (n ∷ ns) zero all =
 done_at (n ∷ ns) (suc k) all =
     done_at ns k (and_parts (is_done n.phase) (list_all (λ (m : NodeState). is_done m.phase) ns) all).1
 
-over_or : (run : Run) (s : BusState) → (s.stop ≢ None) ⊎ (list_all (λ (n : NodeState). is_done n.phase) s.nodes ≡ true)
+pub over_or : (run : Run) (s : BusState) → (s.stop ≢ None) ⊎ (list_all (λ (n : NodeState). is_done n.phase) s.nodes ≡ true)
     → IsStoppedOrDone run s
 over_or run s (inl stands) = inl stands
 over_or run s (inr all) = inr (λ node within. done_at s.nodes node all)
@@ -258,10 +258,10 @@ record IsRest (run : Run) (rows : ℕ) (front : List JournalEntry) (lines : List
   rows_are : rows ≡ rounds
   stop_is : why ≡ state.stop
 
-sound_rounds : (a b : ℕ) (o p : Option Stop) → Sound a o ≡ Sound b p → (a ≡ b) × (o ≡ p)
+pub sound_rounds : (a b : ℕ) (o p : Option Stop) → Sound a o ≡ Sound b p → (a ≡ b) × (o ≡ p)
 sound_rounds a b o p same = (cc, cc)
 
-ends : (run : Run) (rows index : ℕ) (front : List JournalEntry) (a : Audit) (rounds : ℕ) (why : Option Stop)
+pub ends : (run : Run) (rows index : ℕ) (front : List JournalEntry) (a : Audit) (rounds : ℕ) (why : Option Stop)
     → KeepsUp run front a → journal_verdict run rows index a [] ≡ Sound rounds why → IsRest run rows front [] rounds why
 ends run rows index front a rounds why up sound =
     let finished = finished_by_all run a.bus in

@@ -58,12 +58,12 @@ feed_lacks : (root : ℕ) (f : Option Feed) (slot : Option (List PortValue)) →
 feed_lacks root None slot = refl
 feed_lacks root (Some f) slot = refl
 
-link_lacks : (design : DesignParts) (l : Option Link) (slot : Option (List PortValue))
+pub link_lacks : (design : DesignParts) (l : Option Link) (slot : Option (List PortValue))
     → ((link : Link) → l ≡ Some link → is_none slot ≡ false) → lacks (input_from_link design l) slot ≡ false
 link_lacks design None slot full = refl
 link_lacks design (Some link) slot full = full link refl
 
-source_lacks : (design : DesignParts) (src : PortSource) (slot : Option (List PortValue))
+pub source_lacks : (design : DesignParts) (src : PortSource) (slot : Option (List PortValue))
     → ((number : ℕ) (link : Link) → src ≡ source.Link number → slice_get design.links number ≡ Some link
     → is_none slot ≡ false) → lacks (input_of design src) slot ≡ false
 source_lacks design source.Nothing slot full = refl
@@ -71,11 +71,11 @@ source_lacks design (source.Feed f root) slot full = feed_lacks root (slice_get 
 source_lacks design (source.Link number) slot full =
     link_lacks design (slice_get design.links number) slot (λ link is. full number link refl is)
 
-missing_by : (b first : Bool) (o : Option ℕ) → b ≡ first → (first ≡ false → o ≡ None) → (if b then None else o) ≡ None
+pub missing_by : (b first : Bool) (o : Option ℕ) → b ≡ first → (first ≡ false → o ≡ None) → (if b then None else o) ≡ None
 missing_by true first o is none = refl
 missing_by false first o is none = none (sym is)
 
-missing_none : (plan : Plan) (n : NodeState)
+pub missing_none : (plan : Plan) (n : NodeState)
     → (0 < n.count → position (λ (p : Input × Option (List PortValue)). lacks p.0 p.1) (zip plan.inputs n.slots) ≡ None)
     → missing plan n ≡ None
 missing_none plan n later =
@@ -182,7 +182,7 @@ start_once count slot sent flight round full empty once =
     ]
 
 -- before its first round a node has no message
-slot_empty : (run : Run) (link count : ℕ) (slot : Option (List PortValue)) → SlotAgrees run link count slot → count ≡ 0
+pub slot_empty : (run : Run) (link count : ℕ) (slot : Option (List PortValue)) → SlotAgrees run link count slot → count ≡ 0
     → slot ≡ None
 slot_empty run link count None agrees first = refl
 slot_empty run link count (Some tuple) agrees first = let last = agrees.1 in absurd (omega arith)

@@ -14,7 +14,7 @@ use Rattle.run_laws.specs.proof.WorldInvariant.{IsNowhere}
 use Rattle.run_laws.specs.proof.WorldLaws.{MessagesStandOnce}
 use Rattle.run_laws.proofs.WorldLinkTiming.{one_of_true, one_of_false}
 
-not_past : (count round : ℕ) → taken count round ≡ false → count ≤ round + 1
+pub not_past : (count round : ℕ) → taken count round ≡ false → count ≤ round + 1
 not_past count round is =
     elim (cases_lt (round + 1) count)
     [ inl past ↦ absurd (false≢true (sym is ∙ lt-ltb (round + 1) count past)) | inr few ↦ few ]

@@ -34,7 +34,7 @@ pub left_in_time : (t a : ℕ) (b : Option ℕ) → KeepsDeadline t (lesser (Som
 left_in_time t a None in_time = in_time
 left_in_time t a (Some b) in_time = let both : t ≤ min a b = in_time in omega arith
 
-right_in_time : (t b : ℕ) (a : Option ℕ) → KeepsDeadline t (lesser a (Some b)) → t ≤ b
+pub right_in_time : (t b : ℕ) (a : Option ℕ) → KeepsDeadline t (lesser a (Some b)) → t ≤ b
 right_in_time t b None in_time = in_time
 right_in_time t b (Some a) in_time = let both : t ≤ min a b = in_time in omega arith
 
@@ -66,7 +66,7 @@ send_last g plan n ready = if may_send plan n then Some (max ready (last_before 
 abbrev pub last_time : Gamma → Plan → NodeState → ℕ → ℕ → Option ℕ
 last_time g plan n since ready = lesser (phase_last g plan n since n.phase) (send_last g plan n ready)
 
-phase_is : (run : Run) (w : World) (node : ℕ) (p : Phase)
+pub phase_is : (run : Run) (w : World) (node : ℕ) (p : Phase)
     → phase_deadline run w node p
     ≡ phase_last run.design.gamma (plan_of run.design node) (node_at w.bus node) (since_at w node) p
 phase_is run w node Waiting = refl
@@ -97,7 +97,7 @@ pub record MayBe (plan : Plan) (n : NodeState) : Type 0 where
   pub finished : finished_steps plan.rate n.phase ≡ Some steps
   pub enough : plan.sent_steps ≤ steps
 
-enough_of : (plan : Plan) (o : Option ℕ) → option_map_or (nat_le plan.sent_steps) o false ≡ true
+pub enough_of : (plan : Plan) (o : Option ℕ) → option_map_or (nat_le plan.sent_steps) o false ≡ true
     → (steps : ℕ) × (o ≡ Some steps) × (plan.sent_steps ≤ steps)
 enough_of plan None is = absurd (false≢true is)
 enough_of plan (Some steps) is = (steps, refl, leb-true plan.sent_steps steps is)
@@ -117,12 +117,12 @@ FitsAt run node =
     (plan_of run.design node).rate (plan_of run.design node).step_period (plan_of run.design node).sent_steps
     (plan_of run.design node).release_offset
 
-begins_below : (k : ℕ) (cs : List Component) → k ≤ fold (λ (m : ℕ) (c : Component). max m c.rate) k cs
+pub begins_below : (k : ℕ) (cs : List Component) → k ≤ fold (λ (m : ℕ) (c : Component). max m c.rate) k cs
 begins_below k [] = omega arith
 begins_below k (c ∷ cs) = let later : max k c.rate ≤ fold (λ (m : ℕ) (d : Component). max m d.rate) (max k c.rate) cs =
     begins_below (max k c.rate) cs in omega arith
 
-one_below : (k : ℕ) (cs : List Component) (at : ℕ) (c : Component) → slice_get cs at ≡ Some c
+pub one_below : (k : ℕ) (cs : List Component) (at : ℕ) (c : Component) → slice_get cs at ≡ Some c
     → c.rate ≤ fold (λ (m : ℕ) (d : Component). max m d.rate) k cs
 one_below k [] at c is = absurd (cc)
 one_below k (d ∷ cs) zero c is =
