@@ -246,7 +246,7 @@ over_or run s (inr all) = inr (λ node within. done_at s.nodes node all)
 
 -- ---- the journal
 -- what the lines that are left tell
-record IsRest (run : Run) (rows : ℕ) (front : List JournalEntry) (lines : List (List ℕ)) (rounds : ℕ)
+pub record IsRest (run : Run) (rows : ℕ) (front : List JournalEntry) (lines : List (List ℕ)) (rounds : ℕ)
     (why : Option Stop) : Type 0 where
   journal : List JournalEntry
   state : BusState
