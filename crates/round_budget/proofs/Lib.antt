@@ -4,6 +4,7 @@ pub mod ReleaseTimes
 pub mod FilteredSums
 pub mod TimelyService
 pub mod BudgetLaws
+pub mod ClockedService
 pub mod TimetableRepetition
 pub mod SortedUniqueness
 pub mod ProcessorMembers

@@ -8,6 +8,7 @@ use Rattle.round_budget.specs.proof.BudgetLaws.{AreMembers, IsWithinBudget}
 use Rattle.round_budget.specs.Budgets.{Release, budget, total, fits}
 use Rattle.round_budget.specs.ResponseTimes.{AreInTime, AreAtMost, by_exec, RespondInTime}
 use Rattle.round_budget.proofs.BudgetLaws.{responses_fit, exec_at_most, rounds_are_apart}
+use Rattle.round_budget.proofs.ClockedService.{in_time_by_clock}
 use Rattle.round_budget.proofs.TimetableRepetition.{timetable_repeats}
 use Rattle.round_budget.specs.proof.TimetableResults.{TimetableIsEach}
 
@@ -36,4 +37,6 @@ respond_in_time design codes nanos members sound some budgeted =
       weighed = weighed;
       executed = λ env rounds.
           weighed rounds (by_exec design env codes) (exec_at_most design codes nanos members env sound some budgeted);
+      clocked = λ rounds reached count most near.
+          in_time_by_clock design codes nanos members rounds reached count sound budgeted most near;
     }

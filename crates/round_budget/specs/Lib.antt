@@ -1,4 +1,5 @@
 pub mod Budgets
 pub mod BudgetText
+pub mod ClockedService
 pub mod ResponseTimes
 pub mod proof

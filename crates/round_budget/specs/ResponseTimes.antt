@@ -12,6 +12,7 @@ use Rattle.pals_model.specs.declared.environment.Env.{Env}
 use Rattle.pals_model.specs.ComponentInputs.{input_vectors}
 use Rattle.pals_model.specs.Composition.{comp, no_frame, partial_steps}
 use Rattle.round_budget.specs.Budgets.{Release, Served, budget, most_of}
+use Rattle.round_budget.specs.ClockedService.{ReachTimes, IsReachedInTime, budget_by, AreInTimeByClock}
 
 -- how long after its release a step is done
 abbrev pub response : Served → ℕ
@@ -54,3 +55,7 @@ pub record RespondInTime (design : DesignParts) (codes : List CodeParts) (nanos 
   -- and where they make those that their codes make in the composition, in every environment
   pub executed : (env : Env) (rounds : ℕ)
       → AreInTime design (budget design members rounds nanos (by_exec design env codes))
+  -- and by clocks within the skew, if the processor keeps the order of the timetable
+  pub clocked : (rounds : ℕ) (reached : ReachTimes) (count : Release → ℕ) → AreAtMost codes members count
+      → ((x : Release) → IsReachedInTime design.gamma reached x)
+      → AreInTimeByClock design.gamma reached (budget_by design members rounds nanos reached count)
