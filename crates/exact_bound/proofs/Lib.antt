@@ -1,0 +1,3 @@
+mod SenderTimes
+pub mod ExactBounds
+pub mod ShortPeriodStops

@@ -1,0 +1,2 @@
+pub mod ExactBounds
+pub mod ShortPeriodStops
