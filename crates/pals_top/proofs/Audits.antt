@@ -8,6 +8,7 @@ use Rattle.bus_machine.specs.proof.AgreementLaws.{IsRunOf}
 use Rattle.run_laws.specs.TraceVerdicts.{verdict}
 use Rattle.run_laws.proofs.SoundTraces.{sound_are_traces}
 use Rattle.run_laws.proofs.HistoryVerdicts.{traces_are_sound}
+use Rattle.trace_laws.proofs.WrongLines.{wrong_lines_have_a_cause}
 use Rattle.pals_top.specs.declared.answer.Answer.{Answer}
 use Rattle.pals_top.specs.Audit.{SaysVerdict, IsAudited}
 use Rattle.pals_top.specs.BundleScenarios.{run_of}
@@ -24,6 +25,7 @@ audit_of design scenario status text rules says =
       judged = says;
       sound =
           λ rounds stop. (sound_are_traces run lines rounds stop rules, traces_are_sound run lines rounds stop rules);
+      wrong = λ index why is. wrong_lines_have_a_cause run lines index why rules is;
     }
 
 -- the line of the verdict on a scenario's trace

@@ -4,11 +4,13 @@ use Rattle.pals_model.specs.declared.design.DesignParts.{DesignParts}
 use Rattle.pals_model.specs.RoundTexts.{line_end}
 use Rattle.pals_report.specs.ClockEndsAndVerdicts.{verdict_line}
 use Rattle.pals_runs.specs.declared.journal.Stop.{Stop}
+use Rattle.pals_runs.specs.declared.verdicts.TraceRule.{TraceRule}
 use Rattle.pals_runs.specs.declared.verdicts.Verdict.{Verdict}
 use Rattle.pals_runs.specs.declared.verdicts.Verdict.TheVariants.{Sound, Wrong}
 use Rattle.scenario_json.specs.declared.scenario.Scenario.{Scenario}
 use Rattle.run_laws.specs.HistoriesAndTraces.{IsTraceOf}
 use Rattle.run_laws.specs.TraceVerdicts.{verdict}
+use Rattle.trace_laws.specs.WrongLines.{IsWrongBy}
 use Rattle.pals_top.specs.declared.status.TheConstants.{DONE, NOT_SO}
 use Rattle.pals_top.specs.BundleScenarios.{run_of}
 
@@ -28,3 +30,7 @@ pub record IsAudited (design : DesignParts) (scenario : Scenario) (status : ℕ)
   pub sound : (rounds : ℕ) (stop : Option Stop)
       → (verdict (run_of design scenario) scenario.trace ≡ Sound rounds stop)
       ↔ IsTraceOf (run_of design scenario) scenario.trace rounds stop
+  -- a wrong line is the first of the journal that no history has, or that the composition's rows do not have
+  pub wrong : (index : ℕ) (why : TraceRule)
+      → verdict (run_of design scenario) scenario.trace ≡ Wrong index why
+      → IsWrongBy (run_of design scenario) scenario.trace index why

@@ -62,10 +62,10 @@ use Rattle.run_laws.proofs.MeetingStopsAndBounds.{link_is}
 
 -- ---- an audit that has come as far as a history
 pub record IsAt (run : Run) (front : List JournalEntry) (s : BusState) (a : Audit) : Type 0 where
-  bus : a.bus ≡ s
-  owed : a.owed ≡ None
-  many : length a.readings ≡ length run.design.components
-  last : AreLast run front a.readings
+  pub bus : a.bus ≡ s
+  pub owed : a.owed ≡ None
+  pub many : length a.readings ≡ length run.design.components
+  pub last : AreLast run front a.readings
 
 abbrev pub Passes : Run → List JournalEntry → BusState → BusState → List JournalEntry → Type 0
 Passes run front s t told' =

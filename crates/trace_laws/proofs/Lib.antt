@@ -1,0 +1,7 @@
+mod LinesBefore
+mod WrongJournalLines
+mod WrongEnds
+mod PrefixVerdicts
+mod OwedStops
+mod WrongRows
+pub mod WrongLines
