@@ -108,8 +108,6 @@ def test_pages_count_right():
     """What pages say of how much there is."""
     edits = len(glob.glob(f"{TOP}/crates/*/must-fail/*.edit"))
     tried = len({os.path.dirname(name) for name in glob.glob(f"{TOP}/crates/*/must-fail/*.edit")})
-    says("README.md", f"tries {edits} wrong bodies")
-    says("docs/proved.md", f"there are {edits} wrong edits")
     says("docs/DECISIONS.md", f"So they are {edits}, in {tried} crates")
     says("docs/library.md", f"over {len(glob.glob(f'{TOP}/crates/*/src'))} crates")
 
