@@ -48,17 +48,17 @@ def test_pages_name_files_that_are_there():
         for found in re.findall(r"`(?:[\w/+-]*/)?([\w+-]+\.(?:antt|rt))`", page(name)):
             expect(found in files, True, f"{name} names {found}, which is there")
     paths = 0
-    for row in (line for line in page("docs/crates.md").split("\n") if line.startswith("| ")):
+    for item in re.split(r"\n(?=[-#])", page("docs/contributing.md")):
         crate = None
-        for word in re.findall(r"`([^`]+)`", row):
+        for word in re.findall(r"`([^`]+)`", item):
             first, _, rest = word.partition("/")
             if os.path.isdir(f"{TOP}/crates/{first}"):
                 crate, word = first, rest
             if crate and re.fullmatch(r"(?:src|specs|proofs)/[\w/+]+\.(?:rt|antt)", word):
                 here = os.path.isfile(f"{TOP}/crates/{crate}/{word}")
-                expect(here, True, f"docs/crates.md names {word} of {crate}, which is there")
+                expect(here, True, f"docs/contributing.md names {word} of {crate}, which is there")
                 paths += 1
-    expect(paths >= 150, True, f"{paths} paths in docs/crates.md")
+    expect(paths >= 150, True, f"{paths} paths in docs/contributing.md")
     listed = page("docs/definitions.md").partition("in this order:")[2].partition("\n\n#")[0]
     count = 0
     for row in (line for line in listed.split("\n") if line.startswith("| ")):
@@ -75,14 +75,15 @@ def test_pages_name_files_that_are_there():
     expect(count >= 40, True, f"{count} files in the list of definitions")
 
 
-def test_the_table_of_crates_has_their_edges():
-    """A crate stands on no other one than `crates.txt` says."""
+def test_the_list_of_crates_has_their_edges():
+    """The page lists each crate of `crates.txt` once, with dependencies that it has there."""
     lines = [line.partition(":") for line in page("crates.txt").split("\n") if not line.startswith("#")]
     below = {name: rest.split() for name, _, rest in lines if name}
-    for name, last in re.findall(r"(?m)^\| `(\w+)` \|.*\|([^|]*)\|$", page("docs/crates.md")):
-        if name in below:
-            for word in re.findall(r"`(\w+)`", last):
-                expect(word in below[name], True, f"docs/crates.md: {name} stands on {word}")
+    items = re.findall(r"(?m)^- \*\*`(\w+)`\*\*\s\(([^)]*)\)", page("docs/crates.md"))
+    expect(sorted(name for name, _ in items), sorted(below), "crates in docs/crates.md")
+    for name, nearest in items:
+        for word in re.findall(r"`(\w+)`", nearest):
+            expect(word in below[name], True, f"docs/crates.md: {name} depends on {word}")
 
 
 def test_definitions_are_told_by_their_folder():
