@@ -59,11 +59,11 @@ def test_pages_name_files_that_are_there():
                 expect(here, True, f"docs/contributing.md names {word} of {crate}, which is there")
                 paths += 1
     expect(paths >= 150, True, f"{paths} paths in docs/contributing.md")
-    listed = page("docs/definitions.md").partition("in this order:")[2].partition("\n\n#")[0]
+    listed = page("docs/definitions.md").partition("in this order:")[2].partition("\n\nThe")[0]
     count = 0
-    for row in (line for line in listed.split("\n") if line.startswith("| ")):
+    for item in re.split(r"\n(?=\d+\.)", listed):
         crate = None
-        for word in re.findall(r"`(\w+)`", row):
+        for word in re.findall(r"`(\w+)`", item):
             if os.path.isdir(f"{TOP}/crates/{word}"):
                 crate = word
             elif crate and re.fullmatch("[A-Z][A-Za-z]+", word):
@@ -97,9 +97,8 @@ def test_definitions_are_told_by_their_folder():
     for name in (name for names in inner for name in names.split(", ")):
         expect(re.search(rf"\b{name}\b", clauses), None, f"{name} in the theorem")
     lines = [line.strip() for name in rests for line in read(name).decode().split("\n") if line.strip()]
-    comments = sum(line.startswith("--") for line in lines)
     told = sum(not line.startswith(("--", "use ")) for line in lines)
-    says("docs/definitions.md", f"{len(rests)} of them, with {told:,} lines of definitions and {comments:,} of comments")
+    says("docs/definitions.md", f"{len(rests)} of them, with {told:,} lines of definitions")
     inside = len(of_pals(f"{TOP}/crates/*/specs/proof/**/*.antt"))
     says("docs/definitions.md", f"those definitions, {inside} files")
     says("docs/assurance.md", f"{len(rests)} short files")
