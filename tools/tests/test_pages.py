@@ -7,9 +7,13 @@ import subprocess
 import tempfile
 
 from lib.bundles import read
-from tests.common import TOP, WITHIN, blocks, expect, page
+from tests.common import TOP, WITHIN, blocks, built, expect, page, script
 
 LISTINGS = ("code_listing", "pals_code")
+# A command ./pals that passes a design and a scenario to the built program.
+PALS = """command=$1; shift; flag=
+case $1 in --trace) flag=$1; shift ;; esac
+tools/bundle "$@" | {program} $command $flag Top.impl"""
 
 
 def says(name, words):
@@ -37,6 +41,20 @@ def test_pages_show_what_the_tools_write():
                     expect(ran.stdout.decode(), wanted, f"{name}: {command}")
                     count += 1
     expect(count >= 8, True, f"{count} commands in the pages")
+
+
+def test_the_tutorial_shows_what_its_commands_write():
+    """Each command of the tutorial runs, in order in one folder, and writes what the page shows."""
+    program = built()
+    with tempfile.TemporaryDirectory() as folder:
+        for part in ("tools", "examples"):
+            os.symlink(os.path.join(TOP, part), os.path.join(folder, part))
+        script(os.path.join(folder, "pals"), PALS.format(program=program))
+        for block in (text for kind, text in blocks("docs/tutorial.md") if kind == "console"):
+            for command, wanted in re.findall(r"\$ (.*(?:\n> .*)*)\n((?:(?!\$ ).*\n)*)", block):
+                how = {"shell": True, "cwd": folder, "stdout": subprocess.PIPE, "timeout": WITHIN}
+                ran = subprocess.run(command.replace("\n> ", "\n"), stderr=subprocess.STDOUT, check=False, **how)
+                expect(ran.stdout.decode(), wanted, command)
 
 
 def test_pages_name_files_that_are_there():
