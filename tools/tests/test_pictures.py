@@ -6,8 +6,10 @@ import tempfile
 import xml.dom.minidom
 
 from lib.bundles import read
+from lib.crate_picture import CratePicture
+from lib.crates import chains, dependencies, direct, purposes
 from lib.rows import Report
-from tests.common import EXAMPLES, TOP, answers, expect, tool
+from tests.common import EXAMPLES, TOP, answers, expect, page, tool
 
 
 PICTURES = [
@@ -18,6 +20,7 @@ PICTURES = [
     ("values", ["plot", "--watch", "examples/pacemaker_watch.watch", "controller.pacer", "pace"], "pacemaker.rounds"),
     ("design", ["graph", "examples/turn_controller.aadl"], None),
     ("timetable", ["timetable"], "turn_budget.budget"),
+    ("crates", ["crate_graph"], None),
 ]
 
 
@@ -36,6 +39,15 @@ def expect_picture(picture, drawn):
         with open(path, "wb") as file:
             file.write(drawn)
     expect(read(path) == drawn, True, f"{path} is not what is drawn")
+
+
+def test_the_picture_of_the_crates_is_whole():
+    """It has a box for each crate but the tests, in as many rows as the longest chain has crates."""
+    below, shown = dependencies(page("crates.txt")), purposes(page("docs/crates.md"))
+    tests = {"case_files", *(name for name in below if name.endswith("_tests"))}
+    expect(set(shown), set(below) - tests, "crates in the picture")
+    expect(len(CratePicture(below, shown).rows), max(chains(below).values()), "rows")
+    expect(direct({"a": ["b", "c"], "b": ["c"], "c": []}), {"a": ["b"], "b": ["c"], "c": []}, "direct dependencies")
 
 
 def test_pictures_of_what_is_made():
