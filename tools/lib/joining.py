@@ -1,4 +1,4 @@
-"""Joins what several nodes have recorded to one trace (docs/traces.md, Joining)."""
+"""Joins what several nodes have recorded to one trace (docs/traces.md, Join)."""
 
 from .bundles import Refused
 from .records import Line
