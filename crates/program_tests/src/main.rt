@@ -4,8 +4,10 @@
 mod answer_ranges;
 mod audited_runs;
 mod case_variations;
+mod meeting_gate;
 mod program_answer;
 mod ring_text_reports;
+mod started_threads;
 
 use case_files::{asked, check_answer, text_of, word};
 use case_variations::answer_series;

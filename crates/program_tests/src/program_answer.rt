@@ -1,5 +1,5 @@
 //! What the program answers to words and a bundle.
-use node_threads::{NoGate, ThreadStarter};
+use node_threads::{Gate, Host, NoGate, Starter, ThreadStarter};
 use pals_base::{NoMemory, Text};
 use pals_io::{MemSink, MemSource};
 use pals_top::pals;
@@ -44,6 +44,22 @@ pub fn ask<R: Threads + Wait + Sync>(
     bundle: Vec<u8>,
     transfer: Transfer,
 ) -> io::Result<ProgramAnswer> {
+    let host = Host {
+        runtime: threads,
+        starter: &mut ThreadStarter,
+        gate: &NoGate,
+    };
+    ask_on(host, alloc, line, bundle, transfer)
+}
+
+/// The same on a host with this starter and this gate.
+pub fn ask_on<R: Threads + Wait + Sync, W: Starter, G: Gate + Sync>(
+    host: Host<'_, R, W, G>,
+    alloc: Global,
+    line: &str,
+    bundle: Vec<u8>,
+    transfer: Transfer,
+) -> io::Result<ProgramAnswer> {
     if transfer.size == 0 {
         return Err(io::ErrorKind::InvalidInput.into());
     }
@@ -54,13 +70,13 @@ pub fn ask<R: Threads + Wait + Sync>(
     let mut source = MemSource::new(bundle, transfer.size, failing_reads);
     let mut sink = MemSink::new(alloc, 65_536, 8, failing_writes)?;
     let status = pals(
-        threads,
+        host.runtime,
         alloc,
         words.as_slice(),
         &mut source,
         &mut sink,
-        &mut ThreadStarter,
-        &NoGate,
+        host.starter,
+        host.gate,
     );
     let mut text = Vec::new(alloc);
     text.extend_from_slice(sink.taken())?;
