@@ -17,7 +17,7 @@ use std::sync::Wait;
 use std::thread::Threads;
 use std::{fs, io};
 
-const FILES: [&str; 13] = [
+const FILES: [&str; 14] = [
     "commands",
     "checks",
     "refused_texts",
@@ -30,6 +30,7 @@ const FILES: [&str; 13] = [
     "left_out",
     "runs",
     "audits",
+    "mutants",
     "examples",
 ];
 

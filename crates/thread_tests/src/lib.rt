@@ -1,5 +1,4 @@
-//! Tests of runs in threads: what comes out does not depend on who runs when, which starts are
-//! refused, or how long the lists of clocks are.
+//! Tests of runs in threads: the result does not depend on the schedule, or on how long the lists of clocks are.
 #![tactic(auto)]
 
 #[cfg(test)]
@@ -11,4 +10,4 @@ mod gates;
 #[cfg(test)]
 mod list_clocks;
 #[cfg(test)]
-mod schedules_and_refused_starts;
+mod schedules;
