@@ -10,13 +10,14 @@
 //!   the second, and at last none.
 //! - `each trace`: no series, but a run, whose rows and stop are shown, and what `audit` answers to all that it wrote.
 //! - `each starter`: a run of four nodes, with threads for all of them, for all but one, and for none.
+//! - `each slow`: no series, but a run in which the first job of node 1 is slow.
 //!
 //! In the answer `END` is the place where the bundle ends, `_` is another place, and `..` stands for the first bytes
 //! of the answer, 8 for each write that did not fail.
 use crate::answer_ranges::AnswerRanges;
 use crate::audited_runs::run_and_audit;
 use crate::program_answer::{ProgramAnswer, Transfer, ask};
-use crate::started_threads::answer_starters;
+use crate::scheduled_runs::{answer_slow_job, answer_starters};
 use case_files::{asked, text_of, word};
 use pals_top::status::{READ_FAULT, WRITE_FAULT};
 use std::alloc::Global;
@@ -43,6 +44,7 @@ pub fn answer_series<R: Threads + Wait + Sync>(
             "write" => writes(threads, rt, case),
             "trace" => run_and_audit(threads, rt, case),
             "starter" => answer_starters(threads, rt, case),
+            "slow" => answer_slow_job(threads, rt, case),
             _ => events(threads, rt, case),
         },
     }

@@ -7,7 +7,8 @@ mod case_variations;
 mod meeting_gate;
 mod program_answer;
 mod ring_text_reports;
-mod started_threads;
+mod scheduled_runs;
+mod slow_gate;
 
 use case_files::{asked, check_answer, text_of, word};
 use case_variations::answer_series;
@@ -51,9 +52,7 @@ fn answer<R: Threads + Wait + Sync>(
     let bundle = text_of(rt, case)?;
     let alloc = rt.alloc();
     let asked = ask(threads, alloc, asked(case), bundle, transfer)?;
-    let mut answer = format!(in alloc; "{}\n", asked.status)?.into_bytes();
-    answer.extend_from_slice(asked.text.as_slice())?;
-    Ok(answer)
+    asked.lines(alloc)
 }
 
 // Writes of each case in the file of this name whether the program answers it right.

@@ -16,6 +16,15 @@ pub struct ProgramAnswer {
     pub end: (u64, u64),
 }
 
+impl ProgramAnswer {
+    /// The status on a line, and then the text.
+    pub fn lines(&self, alloc: Global) -> io::Result<Vec<u8>> {
+        let mut lines = format!(in alloc; "{}\n", self.status)?.into_bytes();
+        lines.extend_from_slice(self.text.as_slice())?;
+        Ok(lines)
+    }
+}
+
 /// How a bundle is read and an answer is written: the source gives `size` bytes a call, and the calls of
 /// these numbers fail, from 1; 0 is none.
 #[derive(Clone, Copy)]

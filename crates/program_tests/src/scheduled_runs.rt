@@ -1,7 +1,8 @@
-//! Runs of a design of four nodes under several starters. With threads for all nodes, the first jobs of the four nodes have
-//! to run at the same time. A run without threads for some or all nodes prints the same text.
+//! Runs under several starters and gates. With threads for all nodes of a design of four, their first jobs have to run at
+//! the same time. A run without threads for some or all nodes prints the same text, and so does one with a slow job.
 use crate::meeting_gate::MeetingGate;
 use crate::program_answer::{ProgramAnswer, Transfer, ask, ask_on};
+use crate::slow_gate::SlowGate;
 use case_files::{asked, text_of};
 use node_threads::{FakeStarter, Host, NoGate, ThreadStarter};
 use pals_base::{ItemList, NodeNo};
@@ -87,4 +88,20 @@ fn refused_starts_do_not_show<R: Threads + Wait + Sync>(
 
 fn is_same(one: &ProgramAnswer, other: &ProgramAnswer) -> bool {
     one.status == other.status && one.text.as_slice() == other.text.as_slice()
+}
+
+/// The answer of a run in which the first job of node 1 is slow.
+pub fn answer_slow_job<R: Threads + Wait + Sync>(
+    threads: &R,
+    rt: &HostRuntime,
+    case: &str,
+) -> io::Result<Vec<u8>> {
+    let host = Host {
+        runtime: threads,
+        starter: &mut ThreadStarter,
+        gate: &SlowGate::new(NodeNo(1)),
+    };
+    let bundle = text_of(rt, case)?;
+    let run = ask_on(host, rt.alloc(), asked(case), bundle, Transfer::whole(4096))?;
+    run.lines(rt.alloc())
 }
