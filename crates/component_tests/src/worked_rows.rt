@@ -12,7 +12,11 @@ pub fn check_rows(rt: &HostRuntime) -> io::Result<()> {
 }
 
 // Writes the name of a row, and whether its answer is right.
-fn write_verdict(rt: &HostRuntime, row: &str, is_right: Result<bool, AllocError>) -> io::Result<()> {
+fn write_verdict(
+    rt: &HostRuntime,
+    row: &str,
+    is_right: Result<bool, AllocError>,
+) -> io::Result<()> {
     let answer = if is_right == Ok(true) {
         "right"
     } else {

@@ -16,10 +16,7 @@ const REFUSALS: [(&str, &[NodeNo]); 5] = [
     ("node 1", &[NodeNo(1)]),
     ("node 2", &[NodeNo(2)]),
     ("node 3", &[NodeNo(3)]),
-    (
-        "all nodes",
-        &[NodeNo(0), NodeNo(1), NodeNo(2), NodeNo(3)],
-    ),
+    ("all nodes", &[NodeNo(0), NodeNo(1), NodeNo(2), NodeNo(3)]),
 ];
 
 /// The answers of a run, a line for each starter: whether its status and text are those of `sync` for the same bundle.
@@ -30,7 +27,13 @@ pub fn answer_starters<R: Threads + Wait + Sync>(
 ) -> io::Result<Vec<u8>> {
     let alloc = rt.alloc();
     let bundle = text_of(rt, case)?;
-    let rounds = ask(threads, alloc, "sync Top.impl", bundle, Transfer::whole(4096))?;
+    let rounds = ask(
+        threads,
+        alloc,
+        "sync Top.impl",
+        bundle,
+        Transfer::whole(4096),
+    )?;
     let mut answer = String::new(alloc);
     let meeting = if jobs_meet(threads, rt, case, &rounds)? {
         "the first jobs met"
