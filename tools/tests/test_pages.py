@@ -124,10 +124,24 @@ def test_definitions_are_told_by_their_folder():
 
 def test_pages_count_right():
     """What pages say of how much there is."""
-    edits = len(glob.glob(f"{TOP}/crates/*/must-fail/*.edit"))
-    tried = len({os.path.dirname(name) for name in glob.glob(f"{TOP}/crates/*/must-fail/*.edit")})
-    says("docs/DECISIONS.md", f"So they are {edits}, in {tried} crates")
     says("docs/library.md", f"over {len(glob.glob(f'{TOP}/crates/*/src'))} crates")
+
+
+def test_the_table_of_mutants_is_complete():
+    """Each edit is a row of the table of mutants, and each case that a row names is in its file."""
+    rows = re.findall(r"(?m)^\| (\w+) \| [^|]* \| (\w+) \| ([^|]*) \|$", page("docs/testing.md"))
+    listed = sorted(f"{crate}/{body}" for body, crate, test in rows if test == "edit")
+    found = [name.split("/") for name in glob.glob(f"{TOP}/crates/*/must-fail/*.edit")]
+    expect(listed, sorted(f"{parts[-3]}/{parts[-1][:-5]}" for parts in found), "the edits of the table")
+    bodies = [body for body, _, _ in rows]
+    expect(sorted(set(bodies)), sorted(bodies), "each mutant has one row")
+    written = page("crates/program_tests/stdout").split("\n")
+    count = 0
+    for test in (test for _, crate, test in rows if os.path.isdir(f"{TOP}/crates/{crate}")):
+        for name, number in re.findall(r"\b([a-z_]+) (\d+)", test):
+            expect(f"{name} {number}: right" in written, True, f"{name} {number} is a case of program_tests")
+            count += 1
+    expect(count >= 40, True, f"{count} cases in the table of mutants")
 
 
 def test_pages_quote_what_stands():
