@@ -78,14 +78,19 @@ pub fn ask_on<R: Threads + Wait + Sync, W: Starter, G: Gate + Sync>(
     let failing_writes = calls(alloc, transfer.failing_write)?;
     let mut source = MemSource::new(bundle, transfer.size, failing_reads);
     let mut sink = MemSink::new(alloc, 65_536, 8, failing_writes)?;
+    let Host {
+        runtime,
+        starter,
+        gate,
+    } = host;
     let status = pals(
-        host.runtime,
+        runtime,
         alloc,
         words.as_slice(),
         &mut source,
         &mut sink,
-        host.starter,
-        host.gate,
+        starter,
+        gate,
     );
     let mut text = Vec::new(alloc);
     text.extend_from_slice(sink.taken())?;
