@@ -1,1 +1,3 @@
 pub mod WrongLines
+pub mod WorldTraces
+pub mod proof
