@@ -24,6 +24,8 @@ use Rattle.answer_laws.specs.proof.ExistencePremises.{ExistenceLaws}
 use Rattle.answer_laws.proofs.ExistingStepCodes.{has_codes}
 use Rattle.answer_laws.proofs.ExistingRunAnswers.{run_answer}
 use Rattle.answer_laws.proofs.ExistingLooseWorldAnswers.{world_answer}
+use Rattle.trace_laws.proofs.WorldDelays.{world_runs_are_carried}
+use Rattle.bus_machine.specs.proof.AgreementLaws.{IsRunOf}
 use Rattle.answer_laws.proofs.TimedWorldAnswers.{answered}
 
 -- ---- analyses
@@ -80,7 +82,9 @@ IsMadeByExecution what design scenario = (status : ℕ) × (text : List ℕ) × 
 by_timed_world : (design : DesignParts) (scenario : Scenario) → IsDesign design → IsScenarioOf design scenario
     → IsMadeByExecution TimedWorld design scenario
 by_timed_world design scenario rules suits =
-    answered (world_of design scenario) (record { design = rules; rounds = suits.long.0 }) scenario.events
+    let run_rules : IsRunOf (world_of design scenario) = record { design = rules; rounds = suits.long.0 } in
+    answered (world_of design scenario) run_rules suits.long.1
+    (world_runs_are_carried design scenario.env scenario.rounds run_rules) scenario.events
 
 by_loose_world : (design : DesignParts) (scenario : Scenario) → AreLooseEvents design scenario.events
     → IsMadeByExecution LooseWorld design scenario

@@ -1,5 +1,5 @@
 -- The events of a scenario have an answer in a timed world, and one alone.
-use Rattle.std.proofs.Common.{◌≡◌, ◌∙◌, ◌⊎◌, inl, inr, ℕ, zero, suc, List, [], ◌∷◌, ◌++◌, take, Option, None, Some}
+use Rattle.std.proofs.Common.{◌≡◌, ◌∙◌, ◌⊎◌, inl, inr, ℕ, zero, suc, ◌≤◌, List, [], ◌∷◌, ◌++◌, take, Option, None, Some}
 use Rattle.std.proofs.Common.{slice_get, refl, sym, ap, ap₂}
 use Rattle.std.proofs.lemmas.Option.{same_Some, none-some}
 use Rattle.pals_model.specs.RoundTexts.{line_end}
@@ -7,12 +7,15 @@ use Rattle.pals_runs.specs.declared.events_and_faults.Event.{Event}
 use Rattle.pals_runs.specs.declared.events_and_faults.EventFault.{EventFault}
 use Rattle.bus_machine.specs.RunParameters.{Run}
 use Rattle.bus_machine.specs.WorldTexts.{worldtext}
+use Rattle.pals_base.specs.declared.limits.TheConstants.{ROUNDS}
 use Rattle.bus_machine.specs.proof.AgreementLaws.{IsRunOf}
 use Rattle.run_laws.proofs.KeptWorldInvariant.{lists_go_right}
 use Rattle.run_laws.specs.Worlds.{World, opening_world, world_after}
 use Rattle.run_laws.specs.EventFaults.{fault_of}
 use Rattle.run_laws.specs.EventLists.{IsWithin, world_left}
 use Rattle.pals_report.specs.EventFaultLines.{event_fault_line}
+use Rattle.trace_laws.specs.WorldTraces.{IsCarriedInTime}
+use Rattle.trace_laws.proofs.WorldTraces.{worlds_are_traces}
 use Rattle.world_texts.specs.WorldTexts.{IsToldWorld}
 use Rattle.pals_top.specs.declared.status.TheConstants.{DONE, SCENARIO_REFUSED}
 use Rattle.pals_top.specs.TimedWorlds.{HasTimedFault}
@@ -117,14 +120,23 @@ module _ (run : Run) where
   ends w [] = inl tt
   ends w (e ∷ events) = ends_by w e events (fault_of run w e) refl (ends (world_after run w e) events)
 
-  answered_by : (events : List Event) → IsRunOf run → Ends (opening_world run) events
+  answered_by : (events : List Event) → IsRunOf run → run.rounds ≤ ROUNDS → IsCarriedInTime run
+      → Ends (opening_world run) events
       → (status : ℕ) × (text : List ℕ) × IsTimed events status text
-  answered_by events rules (inl within) = (
+  answered_by events rules few carried (inl within) = (
     DONE,
     worldtext run.design run.env events,
-    inl (refl, record { within = within; right = lists_go_right run events rules within; text_is = refl }),
+    inl (
+      refl,
+      record {
+        within = within;
+        right = lists_go_right run events rules within;
+        recorded = worlds_are_traces run events rules few carried within;
+        text_is = refl;
+      },
+    ),
   )
-  answered_by events rules (inr x) = (
+  answered_by events rules few carried (inr x) = (
     SCENARIO_REFUSED,
     event_fault_line run.design x.0 x.1 ++ line_end,
     inr (
@@ -138,5 +150,6 @@ module _ (run : Run) where
     ),
   )
 
-  pub answered : IsRunOf run → (events : List Event) → (status : ℕ) × (text : List ℕ) × IsTimed events status text
-  answered rules events = answered_by events rules (ends (opening_world run) events)
+  pub answered : IsRunOf run → run.rounds ≤ ROUNDS → IsCarriedInTime run → (events : List Event)
+      → (status : ℕ) × (text : List ℕ) × IsTimed events status text
+  answered rules few carried events = answered_by events rules few carried (ends (opening_world run) events)

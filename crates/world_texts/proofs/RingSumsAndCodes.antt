@@ -1,5 +1,5 @@
 -- The sum of a ring's numbers fits in 64 bits and is that of the last round's parts, and its codes are short enough.
-use Rattle.std.proofs.Common.{◌≡◌, ◌∙◌, ℕ, zero, suc, ◌+◌, ◌-◌, ◌*◌, ◌<◌, ◌≤◌, [], ◌∷◌, map, fold, pos, ◌+ℤ◌, ◌≤ℤ◌, sym}
+use Rattle.std.proofs.Common.{◌≡◌, ◌∙◌, ℕ, zero, suc, ◌+◌, ◌*◌, ◌<◌, ◌≤◌, [], ◌∷◌, map, fold, pos, ◌+ℤ◌, ◌≤ℤ◌, sym}
 use Rattle.std.proofs.Common.{ap, subst, arith, lit≤}
 use Rattle.std.specs.Prelude.{ℤ}
 use Rattle.std.proofs.lemmas.Int.{ints}

@@ -1,11 +1,12 @@
 -- What is told of timed events, event by event, and that in the end it is the text of their world, or their first
 -- fault.
-use Rattle.std.proofs.Common.{◌≡◌, ◌∙◌, inl, inr, ℕ, ◌+◌, ◌<◌, Bool, true, false, List, [], ◌++◌, length, take, Some}
+use Rattle.std.proofs.Common.{◌≡◌, ◌∙◌, inl, inr, ℕ, ◌+◌, ◌<◌, ◌≤◌, Bool, true, false, List, [], ◌++◌, length, take, Some}
 use Rattle.std.proofs.Common.{None, refl, sym, ap, subst, append-nil}
 use Rattle.std.specs.Prelude.{slice_index_or, if◌then◌else◌}
 use Rattle.std.proofs.lemmas.Bool.{ltb-true}
 use Rattle.std.proofs.lemmas.Option.{none-some}
 use Rattle.step_code.specs.declared.instr.CodeParts.{CodeParts}
+use Rattle.pals_base.specs.declared.limits.TheConstants.{ROUNDS}
 use Rattle.pals_model.specs.declared.design.DesignParts.{DesignParts}
 use Rattle.pals_model.specs.declared.environment.Env.{Env}
 use Rattle.pals_model.specs.RoundTexts.{text_of}
@@ -30,6 +31,9 @@ use Rattle.loose_world.proofs.WorldTexts.{world_is_told}
 use Rattle.timed_world.specs.proof.WorldValuesAndMoves.{WorldValue, world_of, opening_value, Moves}
 use Rattle.timed_world.specs.proof.EventLists.{EndsAt}
 use Rattle.timed_world.proofs.EventLists.{leads_none}
+use Rattle.trace_laws.specs.WorldTraces.{IsCarriedInTime}
+use Rattle.trace_laws.proofs.WorldDelays.{world_runs_are_carried}
+use Rattle.trace_laws.proofs.WorldTraces.{worlds_are_traces}
 use Rattle.world_texts.specs.WorldTexts.{IsToldWorld, IsFirstFault}
 use Rattle.world_texts.specs.proof.WorldTexts.{IsOpening, LeadsTelling}
 use Rattle.world_texts.proofs.EventsWithinBounds.{leads_next}
@@ -98,21 +102,26 @@ telling_more old mid new events first d before so_far text within telling fine m
 -- ---- from the opening of a run on
 pub opens : (design : DesignParts) (codes : List CodeParts) (env : Env) (rounds : ℕ) (v : WorldValue)
     → v ≡ opening_value design codes env rounds → IsOpening v
-opens design codes env rounds v is = subst IsOpening (sym is) (record { bus = refl; world = refl })
+opens design codes env rounds v is = subst IsOpening (sym is) (record { bus = refl; world = refl; run = refl })
 
 pub world_told : (old new : WorldValue) (events : List Event) (sent text : List ℕ) → IsOpening old → IsRunOf new.bus.run
-    → LeadsTelling old events new [] sent → text ≡ text_of (finished_lines new.bus) ++ sent
+    → new.bus.run.rounds ≤ ROUNDS → LeadsTelling old events new [] sent → text ≡ text_of (finished_lines new.bus) ++ sent
     → IsToldWorld old.bus.run events text
-world_told old new events sent text opening rules telling is =
+world_told old new events sent text opening rules few telling is =
     let run = old.bus.run in
     let same : new.bus.run ≡ run = ap (λ (b : BusValue). b.run) telling.leads.others in
     let undergone =
     subst (λ (b : BusValue). InTurn Undergoes b events new.bus telling.lines) opening.bus telling.undergone in
     let within = subst (λ (w : World). IsWithin run w events) opening.world telling.leads.within in
     let of_run = subst IsRunOf same rules in
+    let carried =
+    subst IsCarriedInTime (sym opening.run)
+    (world_runs_are_carried run.design run.env run.rounds (subst IsRunOf opening.run of_run)) in
     record {
       within = within;
       right = lists_go_right run events of_run within;
+      recorded =
+          worlds_are_traces run events of_run (subst (λ (r : Run). r.rounds ≤ ROUNDS) same few) carried within;
       text_is =
           is
           ∙ ap (λ (xs : List ℕ). text_of (finished_lines new.bus) ++ xs) telling.told

@@ -4,7 +4,7 @@ use Rattle.pals_model.specs.RoundTexts.{text_of}
 use Rattle.pals_runs.specs.declared.events_and_faults.Event.{Event}
 use Rattle.bus_machine.specs.RunParameters.{Run}
 use Rattle.pals_bus.specs.proof.OpeningNodes.{opening_bus}
-use Rattle.run_laws.specs.Worlds.{opening_world}
+use Rattle.run_laws.specs.Worlds.{world_run, opening_world}
 use Rattle.loose_world.specs.LooseRuns.{InTurn}
 use Rattle.loose_world.specs.proof.BusAfterEvents.{Undergoes}
 use Rattle.timed_world.specs.declared.event_list.WorldEnd.{WorldEnd}
@@ -24,6 +24,7 @@ TellsWorld run events (Refused index fault) = IsFirstFault run events index faul
 pub record IsOpening (v : WorldValue) : Type 0 where
   pub bus : v.bus ≡ opening_bus v.bus.run v.bus.codes false
   pub world : world_of v ≡ opening_world v.bus.run
+  pub run : v.bus.run ≡ world_run v.bus.run.design v.bus.run.env v.bus.run.rounds
 
 -- events lead from one world to another, and the lines of what their bus sends are added to a text
 pub record LeadsTelling (old : WorldValue) (events : List Event) (new : WorldValue)

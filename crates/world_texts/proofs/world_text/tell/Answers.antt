@@ -20,4 +20,4 @@ returns-in-All c =
     c.in_ok-finished-in-All.ensures
     ∙ ap (λ (xs : List ℕ). text_of (finished_lines new.bus) ++ xs) c.as_slice.ensures.value in
     world_told old new events sent c.in_ok-finished-in-All.field-0.items c.requires.opening c.kept.ensures.run
-    telling text
+    c.kept.ensures.rounds telling text
