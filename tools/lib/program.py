@@ -1,4 +1,4 @@
-"""Runs the program, and says where it cannot be run."""
+"""Runs the program, and reports if it cannot be run."""
 
 import os
 import subprocess
@@ -8,29 +8,25 @@ from .page import TOP
 
 
 PALS = os.path.join(TOP, "pals")
-BUILT = os.path.join(TOP, "crates", "pals_cli", "out", "pals_cli")
-CARRIED = os.path.join(TOP, "prebuilt", "out", "pals")
 
 
 def program_at(path=None):
-    """The program that is asked: a file, or else the one that ./pals would run. One that is compiled anew for each
-    answer is not asked."""
+    """The program that is asked: a file, or else the program that ./pals runs, if that needs no compilation."""
     if path is None:
-        path = stands()
+        path = found_by_pals()
     if not (os.path.isfile(path) and os.access(path, os.X_OK)):
-        raise Refused(f"{path} is no program that can be run")
+        raise Refused(f"{path} is not a program that can be run")
     return os.path.abspath(path)
 
 
-def stands():
-    """The built program, or the one that is carried, which is unpacked here."""
-    said = ask_program(PALS, ["--version"], b"")[1]
-    if "built and proved here" in said:
-        return BUILT
-    if "of prebuilt/" not in said:
-        raise Refused("no program is built: ./pals build builds it, and --program FILE names one")
-    ask_program(PALS, ["self", "2", "1"], b"")
-    return CARRIED
+def found_by_pals(*words):
+    """The path of the built program, or of the unpacked program of prebuilt/; with the word `code`, of pals_code."""
+    ran = subprocess.run([PALS, "--program", *words], stdout=subprocess.PIPE, stderr=subprocess.PIPE, check=False)
+    path = os.fsdecode(ran.stdout[:-1])
+    if ran.returncode or not path:
+        said = ran.stderr.decode("utf-8", "replace").strip().split("\n")[-1].replace("pals: ", "", 1)
+        raise Refused(f"{said}, and --program FILE names another program")
+    return path
 
 
 def ask_program(command, words, data):

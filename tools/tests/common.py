@@ -7,14 +7,17 @@ import runpy
 import sys
 import tempfile
 
-from lib.bundles import read
+from lib.bundles import Refused, read
+from lib.program import found_by_pals
 
 HERE = os.path.dirname(os.path.dirname(os.path.abspath(__file__)))
 TOP = os.path.dirname(HERE)
 EXAMPLES = os.path.join(TOP, "examples")
 RULE = re.compile(r"\| `(\S+\.pals)` \| `(\S+)` \| `(\S+)` \| `([^`]+)` \| `(\S+)` \| (\d+) \|")
-# What names other programs than those that the gate built.
-PROGRAMS = {"pals_cli": "PALS_PROGRAM", "pals_code": "PALS_CODE_PROGRAM"}
+# Of each program the variable that names another one, and the word by which ./pals knows it.
+PROGRAMS = {"pals_cli": ("PALS_PROGRAM", ()), "pals_code": ("PALS_CODE_PROGRAM", ("code",))}
+# The paths of programs that were found.
+FOUND = {}
 # The seconds that a command may take at most, on a machine that has other work.
 WITHIN = 600
 
@@ -52,11 +55,14 @@ def tool(name, *words, given=b"", folder=TOP):
 
 
 def built(name="pals_cli"):
-    """A built program, where it stands."""
-    path = os.environ.get(PROGRAMS[name]) or os.path.join(TOP, "crates", name, "out", name)
-    if not os.path.isfile(path):
-        raise Skipped(f"{name} is not built; ./pals build builds it")
-    return path
+    """The path of a program that is built, or carried in prebuilt/."""
+    variable, words = PROGRAMS[name]
+    if name not in FOUND:
+        try:
+            FOUND[name] = os.environ.get(variable) or found_by_pals(*words)
+        except Refused as why:
+            raise Skipped(f"{name}: {why}") from why
+    return FOUND[name]
 
 
 def page(name):

@@ -8,7 +8,6 @@ import pty
 import re
 import shutil
 import subprocess
-import sys
 import tempfile
 import threading
 import time
@@ -30,30 +29,29 @@ def small_tree(folder):
     os.makedirs(os.path.join(folder, "crates", "pals_cli", "out"))
     script(os.path.join(folder, "crates", "pals_cli", "out", "pals_cli"), 'echo "built $*"; cat; exit 5')
     script(os.path.join(folder, "bin", "rt"), 'echo "rt $*"; cat; exit 6')
-    age_all(folder)
+    record(folder)
 
 
-def age_all(folder):
-    """Makes all sources old, and the program a little newer."""
-    for crate in ("pals_cli", "pals_code", "pals_base", "case_files"):
-        age(folder, f"{crate}/src", 0)
-        age(folder, f"{crate}/src/lib.rt", 0)
-    age(folder, "../crates.txt", 0)
-    age(folder, "pals_cli/out/pals_cli", 1)
+def record(folder, crate="pals_cli", kit="kit-1 logic 0a"):
+    """Writes the record of a program, as if it had been proved of these sources just now."""
+    sources = pals(folder, "--sources", *(["code"] if crate == "pals_code" else []))[1]
+    path = f"{folder}/crates/{crate}/out/{crate}"
+    with open(f"{path}.record", "w", encoding="utf-8") as file:
+        file.write(f"sources {sources}kit {kit}\nprogram {hashlib.sha256(read(path)).hexdigest()}\n")
 
 
-def pals(folder, *words, path=None):
-    """Runs ./pals of a small tree."""
-    env = {**os.environ, "PATH": path or f"{folder}/bin:{os.environ['PATH']}"}
+def change(folder, crate="pals_base", text="// more\n"):
+    """Adds a comment to a source."""
+    with open(f"{folder}/crates/{crate}/src/lib.rt", "a", encoding="utf-8") as file:
+        file.write(text)
+
+
+def pals(folder, *words, path=None, by=(), **more):
+    """Runs ./pals of a small tree, by a command that runs it, if given, and with more variables."""
+    env = {**os.environ, "PATH": path or f"{folder}/bin:{os.environ['PATH']}", **more}
     how = {"input": b"bundle\n", "stdout": subprocess.PIPE, "stderr": subprocess.PIPE, "timeout": WITHIN}
-    ran = subprocess.run([f"{folder}/pals", *words], env=env, **how)
+    ran = subprocess.run([*by, f"{folder}/pals", *words], env=env, check=False, **how)
     return ran.returncode, ran.stdout.decode(), ran.stderr.decode()
-
-
-def age(folder, name, seconds):
-    """Sets the time of a file, in seconds since long ago."""
-    path = os.path.join(folder, "crates", name)
-    os.utime(path, (10**9 + seconds, 10**9 + seconds))
 
 
 def test_hostile_tools_make_what_they_say():
@@ -74,12 +72,12 @@ def test_pals_hands_on():
         small_tree(folder)
         built = (5, "built sync A b.impl\nbundle\n", "")
         expect(pals(folder, "sync", "A b.impl"), built, "a program that is built")
-        age(folder, "case_files/src/lib.rt", 2)
-        expect(pals(folder, "sync", "A b.impl"), built, "a newer source that the program does not stand on")
-        age(folder, "pals_base/src/lib.rt", 2)
+        change(folder, "case_files")
+        expect(pals(folder, "sync", "A b.impl"), built, "a change in a crate that the program does not depend on")
+        change(folder)
         status, text, said = pals(folder, "sync", "A b.impl")
-        expect((status, text), (6, "rt try -- sync A b.impl\nbundle\n"), "a newer source")
-        expect("crates/pals_base/src/lib.rt is newer" in said and "unproved" in said, True, said)
+        expect((status, text), (6, "rt try -- sync A b.impl\nbundle\n"), "a changed source")
+        expect("a source has changed since the program was built" in said and "unproved" in said, True, said)
         os.remove(os.path.join(folder, "crates", "pals_cli", "out", "pals_cli"))
         status, text, said = pals(folder, "print")
         expect((status, text), (6, "rt try -- print\nbundle\n"), "no program that is built")
@@ -123,19 +121,35 @@ def test_pals_tells_the_likely_word():
         expect(pals(folder)[0], 2, "no word, and no program")
 
 
+def test_pals_runs_tools():
+    """./pals TOOL runs tools/TOOL, a command comes before a tool of its name, and --help shows a command in short."""
+    with tempfile.TemporaryDirectory() as folder:
+        with_files(folder, 'echo "built $*"; cat; exit 5')
+        usage = pals(folder, "lint", "--help")
+        expect((usage[0], usage[1].startswith("usage: tools/lint "), usage[2]), (0, True, ""), "./pals lint --help")
+        expect(pals(folder, "help", "lint"), usage, "./pals help lint")
+        expect(pals(folder, "bundle", f"{folder}/two_counters.aadl")[1].endswith("%%%\n"), True, "./pals bundle")
+        expect(pals(folder, "world", "A.b")[:2], (5, "built world A.b\nbundle\n"), "./pals world")
+        expect("lint is likely meant" in pals(folder, "lnt")[2], True, "a tool that is near")
+        for word in ("lib", "test.py", "../pals", ""):
+            expect("there is no command" in pals(folder, word)[2], True, f"./pals {word}")
+        for words in (("check", "--help"), ("check", "-h"), ("check", "Top.impl", "--help")):
+            status, text, said = pals(folder, *words)
+            expect((status, text.startswith("./pals check ROOT"), said), (0, True, ""), f"./pals {words}")
+
+
 def test_pals_finds_old_programs_in_any_folder():
-    """A source that is newer is found whatever letters the path has, and a folder is no program."""
+    """A changed source is found whatever letters the path has, and a folder is not a program."""
     with tempfile.TemporaryDirectory() as outer:
         for name in ("plain", "a b", "it's \"so\"", "-n", "line\nend", "ends\n", "ü\\x"):
             folder = os.path.join(outer, name)
             os.makedirs(folder)
             small_tree(folder)
             expect(pals(folder, "print")[:2], (5, "built print\nbundle\n"), f"a program in {name!r}")
-            age(folder, "pals_base/src/lib.rt", 2)
+            change(folder)
             status, text, said = pals(folder, "print")
             expect((status, text), (6, "rt try -- print\nbundle\n"), f"an old program in {name!r}")
-            expect("crates/pals_base/src/lib.rt is newer" in said, True, said)
-        age_all(folder)
+            expect("a source has changed" in said, True, said)
         os.remove(f"{folder}/crates/pals_cli/out/pals_cli")
         os.makedirs(f"{folder}/crates/pals_cli/out/pals_cli")
         expect(pals(folder, "print")[:2], (6, "rt try -- print\nbundle\n"), "a folder in place of the program")
@@ -168,11 +182,9 @@ def test_pals_answers_with_what_is_carried():
         expect("of prebuilt/, proved elsewhere" in pals(folder, "--version")[1], True, "the version")
         os.utime(f"{folder}/crates/pals_base/src/lib.rt")
         expect(pals(folder, "sync", "A.b")[:2], answer, "a source that is newer, and the same")
-        with open(f"{folder}/crates/case_files/src/lib.rt", "a", encoding="utf-8") as file:
-            file.write("// more\n")
+        change(folder, "case_files")
         expect(pals(folder, "sync", "A.b")[:2], answer, "a source that the program does not stand on")
-        with open(f"{folder}/crates/pals_base/src/lib.rt", "a", encoding="utf-8") as file:
-            file.write("// more\n")
+        change(folder)
         expect(pals(folder, "sync", "A.b")[:2], (6, "rt try -- sync A.b\nbundle\n"), "other sources")
         expect("not built" in pals(folder, "--version")[1], True, "the version of other sources")
 
@@ -186,14 +198,15 @@ def test_code_is_a_program_of_its_own():
         expect(pals(folder, "code", "A.b"), (127, "", missing), "no program")
         expect(pals(folder, "--version", "code")[1].endswith(", not built\n"), True, "the version of no program")
         script(f"{folder}/crates/pals_code/out/pals_code", 'echo "listed $*"; cat; exit 3')
-        age(folder, "pals_code/out/pals_code", 1)
+        record(folder, "pals_code")
         listed = (3, "listed A.b\nbundle\n", "")
         expect(pals(folder, "code", "A.b"), listed, "a program that is built")
-        expect(pals(folder, "--version", "code")[1].endswith("built and proved here\n"), True, "its version")
+        expect(pals(folder, "--version", "code")[1].endswith("built and proved here by kit-1 logic 0a\n"), True,
+               "its version")
         expect(pals(folder, "check", "A.b")[:2], (5, "built check A.b\nbundle\n"), "another command")
-        age(folder, "pals_code/src/lib.rt", 2)
+        change(folder, "pals_code")
         status, text, said = pals(folder, "code", "A.b")
-        expect((status, text, "crates/pals_code/src/lib.rt is newer" in said), (127, "", True), said)
+        expect((status, text, "a source has changed" in said), (127, "", True), said)
         os.remove(f"{folder}/crates/pals_code/out/pals_code")
         carry(folder)
         status, text, said = pals(folder, "code", "A.b")
@@ -234,39 +247,11 @@ def test_pals_takes_no_other_program():
         with open(f"{folder}/prebuilt/pals.gz", "wb") as file:
             file.write(gzip.compress(b"#!/bin/sh\necho worse\n"))
         ran = pals(folder, "print")
-        expect((ran[:2], "is not the program" in ran[2]), (other, True), "other bytes")
+        expect((ran[:2], "is not the program of prebuilt/SUMS" in ran[2]), (other, True), "other bytes")
         with open(f"{folder}/prebuilt/pals.gz", "wb") as file:
             file.write(b"no gzip")
         expect(pals(folder, "print")[:2], other, "no gzip")
-        expect(os.listdir(f"{folder}/prebuilt/out"), [], "what is left of it")
-
-
-def test_release_makes_what_pals_takes():
-    """tools/release makes prebuilt/ of the program that is built, the same bytes each time, and of no old one."""
-    with tempfile.TemporaryDirectory() as folder:
-        small_tree(folder)
-        shutil.copytree(os.path.join(TOP, "tools"), f"{folder}/tools",
-                        ignore=shutil.ignore_patterns("tests", "__pycache__"))
-        release = [sys.executable, f"{folder}/tools/release"]
-        how = {"stdout": subprocess.PIPE, "stderr": subprocess.PIPE, "timeout": WITHIN, "check": False}
-        expect(subprocess.run(release, **how).returncode, 0, "a release")
-        first = [read(f"{folder}/prebuilt/{name}") for name in ("pals.gz", "SUMS")]
-        expect(subprocess.run([*release, "--check"], **how).returncode, 0, "a release that is of this program")
-        expect(subprocess.run(release, **how).returncode, 0, "a release again")
-        expect([read(f"{folder}/prebuilt/{name}") for name in ("pals.gz", "SUMS")], first, "the same bytes")
-        expect(os.path.exists(f"{folder}/prebuilt/pals_code.gz"), False, "a program that is not built")
-        script(f"{folder}/crates/pals_code/out/pals_code", 'echo "listed $*"')
-        age(folder, "pals_code/out/pals_code", 1)
-        expect(subprocess.run([*release, "--check"], **how).returncode, 1, "a release without a program that is built")
-        expect(subprocess.run(release, **how).returncode, 0, "a release of two programs")
-        os.rename(f"{folder}/crates/pals_code/out/pals_code", f"{folder}/kept_code")
-        expect(pals(folder, "code", "A.b", path="/usr/bin:/bin")[:2], (0, "listed A.b\n"), "the released pals_code")
-        os.rename(f"{folder}/crates/pals_cli/out/pals_cli", f"{folder}/kept")
-        expect(pals(folder, "print", path="/usr/bin:/bin")[:2], (5, "built print\nbundle\n"), "the released program")
-        expect(subprocess.run(release, **how).returncode, 1, "a release of nothing")
-        os.rename(f"{folder}/kept", f"{folder}/crates/pals_cli/out/pals_cli")
-        age(folder, "pals_base/src/lib.rt", 2)
-        expect(subprocess.run(release, **how).returncode, 1, "a release of an old program")
+        expect(os.path.exists(f"{folder}/prebuilt/out"), False, "a folder for it")
 
 
 def test_pals_tells_how_long_it_compiles():
@@ -320,7 +305,7 @@ def with_files(folder, answer):
     for name in ("two_counters.aadl", "two_counters.json", "two_counters.pals"):
         shutil.copy(os.path.join(TOP, "examples", name), folder)
     script(f"{folder}/crates/pals_cli/out/pals_cli", answer)
-    age_all(folder)
+    record(folder)
 
 
 def test_pals_takes_files():
@@ -350,7 +335,7 @@ def test_pals_explains_on_a_terminal():
         expect((status, text), (5, "scenario OutOfRange rounds\n"), "the program's answer")
         expect(shown.startswith("two_counters.json:1:2: rounds are from 1 to 100,000\n"), True, shown)
         script(f"{folder}/crates/pals_cli/out/pals_cli", "cat >/dev/null; exit 0")
-        age_all(folder)
+        record(folder)
         status, text, shown = in_terminal(words, folder, b"")
         expect((status, text, "nothing was checked" in shown), (0, "", True), "an empty answer")
 
