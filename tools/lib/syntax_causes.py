@@ -97,13 +97,6 @@ def line_end(place, text):
     return None
 
 
-def line_end(place, text):
-    """A `;` that is missing at the end of a line before this one."""
-    if place.wants(";") and place.before and b"\n" in text[place.before_end : place.here.offset]:
-        return f"a `;` is missing behind `{word_of(place.before)}`", place.before_end
-    return None
-
-
 def pattern(place, _text):
     """What is told by this token, the one before, and what could stand here."""
     for fits, says in PATTERNS:
@@ -228,11 +221,6 @@ def comma(place, _text):
     return "a `,` is missing between two names" if place.wants(",", ":") and place.here.kind == "word" else None
 
 
-def comma(place, _text):
-    """Two names beside each other in a list of names."""
-    return "a `,` is missing between two names" if place.wants(",", ":") and place.here.kind == "word" else None
-
-
 def value(place, _text):
     """A value, a number or a bracket that is missing, or another kind of value."""
     if place.here.kind in ("real", "string") and place.here.inside:
@@ -244,11 +232,6 @@ def value(place, _text):
             return f"a `{closer}` is missing here"
     return f"a `{place.wanted[0]}` is missing here" if len(place.wanted) == 1 and place.wanted[0] not in (NAME,
                                                                                                           END) else None
-
-
-# What may be wrong, the surest first.
-LOOKS = (comment, missing_end, line_end, pattern, misspelt, order, keyword, semicolon, behind_package, word_left_out,
-         comma, value)
 
 
 # What may be wrong, the surest first.

@@ -16,12 +16,6 @@ RANGE = "a range is written `0 ms .. 3 ms`, each end with its unit"
 PROPERTY = "a property has `=>`, as `Period => 9 ms;`"
 COMMENT = "a comment begins with `--` and ends with its line"
 NUMBERS = ("whole", "real")
-SUBCOMPONENT = "a subcomponent is written `a: thread Counter.impl;`, with `system`, `process` or `thread`"
-VARIABLE = "a variable is written `x: Base_Types::Integer;`, its name first"
-RANGE = "a range is written `0 ms .. 3 ms`, each end with its unit"
-PROPERTY = "a property has `=>`, as `Period => 9 ms;`"
-COMMENT = "a comment begins with `--` and ends with its line"
-NUMBERS = ("whole", "real")
 FIRST_VALUE = 'a first value is a property: `x: Base_Types::Integer {Data_Model::Initial_Value => ("5");};`'
 
 
@@ -85,77 +79,10 @@ def lacks_section(place):
     return None
 
 
-def lacks_section(place):
-    """The word that opens a section, where one is missing; or None."""
-    after = place.low(place.number + 2)
-    if place.here.kind != "word":
-        return None
-    if place.next == ":" and place.wants("features") and after in ("in", "out"):
-        return "features"
-    if place.next == ":" and place.wants("subcomponents") and after in ("system", "process", "thread"):
-        return "subcomponents"
-    if place.next == ":" and place.wants("connections") and after == "port":
-        return "connections"
-    if place.next in ("=>", "::") and place.wants("properties"):
-        return "properties"
-    if place.next in (":", ",") and place.wants("variables"):
-        return "states" if after in ("initial", "complete", "state") else "variables"
-    return None
-
-
 PATTERNS = [
     (lambda place: place.wanted == ["none", NAME] and place.word not in ("system", "process", "thread",
                                                                          "port") and place.next != ":",
      "a section with nothing in it is left out, or has `none;`"),
-    (lacks_section, lambda place: f"the word `{lacks_section(place)}` is missing before this"),
-    (lambda place: place.word == "=>" and place.wanted == [":"], "the word `properties` is missing before this"),
-    (lambda place: place.word == "-[" and place.wants(",", ":"), "the word `transitions` is missing before this"),
-    (lambda place: place.word in ("initial", "complete", "state") and place.last == ":" and place.here.inside,
-     "the word `states` is missing before this"),
-    (lambda place: place.word in ("initial", "complete") and place.wants(NAME), STATE),
-    (lambda place: place.word == "/" and place.next in ("/", "*"), COMMENT),
-    (lambda place: place.wants(":=", "!") and place.word in ("+", "-", "*", "/") and place.next in ("+", "-", "="),
-     "an action sets with `:=`, as `x := x + 1`"),
-    (lambda place: place.last == "end" and place.wanted == [NAME],
-     "behind `end` stands the name of what ends, as `end Counter;`"),
-    (lambda place: place.word == ";" and place.wants("end", "annex") and not place.here.inside,
-     "no `;` stands behind the name of a type or an implementation"),
-    (lambda place: place.word in ("import", "use", "using", "include") and place.wants("with"),
-     "`with` names other packages"),
-    (lambda place: place.word == "." and place.wants("annex", "end"),
-     "`implementation` is missing, as in `thread implementation Counter.impl`"),
-    (lambda place: place.word == "implementation" and place.wants("thread"),
-     "an implementation begins with its category, as `thread implementation Counter.impl`"),
-    (lambda place: place.wants("{**"), "an annex opens with `{**` and ends with `**};`"),
-    (lambda place: place.word == "}" and place.wants("**}"), "an annex ends with `**};`"),
-    (lambda place: place.wanted in ([",", ":"],
-                                    [":"]) and (place.word == "::" or place.last in ("int", "integer", "bool",
-                                                                                     "boolean"))
-     and place.here.inside, VARIABLE),
-    (lambda place: place.word == "dispatch", "`on dispatch` is what a step waits for"),
-    (lambda place: place.word == "when", "a guard is `on dispatch`, `otherwise` or a condition, one of them alone"),
-    (lambda place: place.word == "on" and place.wants(NAME, "**}"), TRANSITION),
-    (lambda place: place.wanted in (["-", WHOLE], [WHOLE]) and place.here.inside,
-     "the ends of a loop are whole numbers, and no variables"),
-    (lambda place: place.wanted == [NAME] and place.last == "]->",
-     "the state that a transition leads to stands behind `]->`"),
-    (lambda place: place.wants("{", ";") and place.low(place.number - 2) == "]->",
-     "the actions of a transition stand in braces: `{x := 1; o!(x)}`"),
-    (lambda place: place.word in ("system", "process", "thread") and place.wants(NAME)
-     and (place.wants("none") or place.low(place.number + 3) in (".", ";")) and place.next != "implementation",
-     SUBCOMPONENT),
-    (lambda place: place.word == "port" and place.wants(NAME), f"{CONNECTION}, with a name of its own"),
-    (lambda place: place.word == "[" and place.wants(";", "{"),
-     "there are no arrays: declare each by a name of its own"),
-    (lambda place: place.next == "=>" and place.wants(";", "{"),
-     "properties stand in braces here: `{Timing => Delayed;}`"),
-    (lambda place: place.word in ("to", "-", "until", "through") and place.wants("..", ";"), RANGE),
-    (lambda place: place.last in ("[",
-                                  "..") and (place.here.kind in NUMBERS or place.here.kind == "word")
-                                  and not place.here.inside, RANGE),
-    (lambda place: place.word == ":" and place.wants("::"), "`::` stands between a property set and its property"),
-    (lambda place: place.wants("=>") and place.here.kind != "end", PROPERTY),
-    (lambda place: place.word == "endif", "`end if` is two words"),
     (lacks_section, lambda place: f"the word `{lacks_section(place)}` is missing before this"),
     (lambda place: place.word == "=>" and place.wanted == [":"], "the word `properties` is missing before this"),
     (lambda place: place.word == "-[" and place.wants(",", ":"), "the word `transitions` is missing before this"),
