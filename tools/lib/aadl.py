@@ -2,7 +2,7 @@
 
 from collections import namedtuple
 
-from .bundles import Bundle, Refused, read
+from .bundles import Bundle, Refused, read_design
 from .show import visible
 from .tokens import Tokens, word_of
 
@@ -25,7 +25,7 @@ class File:
     """A file with its bytes and places."""
 
     def __init__(self, path):
-        self.bundle = Bundle(path, read(path))
+        self.bundle = Bundle(path, read_design(path))
 
     def place(self, offset):
         """A place in words: FILE:LINE:COLUMN."""

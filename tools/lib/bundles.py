@@ -98,8 +98,14 @@ class Bundle:
         return self.data[start : len(self.data) if end < 0 else end].rstrip(b"\r")
 
 
+def read_design(path):
+    """The bytes of a file with a design, without a byte order mark."""
+    return without_mark(read(path))
+
+
 def bundle_of(path, scenario_path=None):
-    """The bundle in a file, or that of a design and a scenario in two."""
+    """The bundle in a file, or that of a design and a scenario in two. A byte order mark of a design is removed; in a
+    bundle the program refuses it."""
     if scenario_path is None:
-        return Bundle(path, read(path))
+        return Bundle(path, read_design(path) if path.endswith(".aadl") else read(path))
     return Bundle(path, join(path, read(path), read(scenario_path)), scenario_path)

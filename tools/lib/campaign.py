@@ -1,5 +1,4 @@
-"""Many scenarios of one design: made at random or all of them, tried on all processors, and the first false one made
-small."""
+"""Many scenarios of one design: made at random or all of them, and tried on all processors."""
 
 import itertools
 import json
@@ -12,7 +11,6 @@ from collections import namedtuple
 from .answers import WATCHED
 from .bundles import DIVIDER, Refused
 from .program import ask_program
-from .ranges import same
 from .rows import rounds_in
 
 # What a campaign is of: the program, the root, the design, the scenario without inputs, the ports with their values,
@@ -144,66 +142,3 @@ def begin(plan, in_order):
     WORK.update(plan=plan, in_order=in_order)
     signal.signal(signal.SIGINT, signal.SIG_IGN)
     os.nice(5)
-
-
-class Shrink:
-    """Makes a scenario small that is false: fewer rounds, and simpler values, while the same stays false."""
-
-    def __init__(self, plan, inputs, found):
-        self.plan, self.name, self.tries = plan, found.name, 0
-        self.inputs = {name: list(values) for name, values in inputs.items()}
-        self.rounds = plan.rounds
-        self.take(self.inputs, found.round + 1)
-
-    def take(self, inputs, rounds):
-        """Takes a scenario where it is false too, cut behind its first false round."""
-        self.tries += 1
-        cut = {name: values[:rounds] for name, values in inputs.items()}
-        found = judge(self.plan, cut, rounds) if rounds else None
-        if found is None or found.name != self.name:
-            return False
-        self.rounds = found.round + 1
-        self.inputs = {name: values[: self.rounds] for name, values in cut.items()}
-        return True
-
-    def smallest(self):
-        """The scenario when nothing makes it smaller; it has its inputs and its rounds."""
-        while self.fewer_rounds() or self.simpler_values():
-            pass
-        inputs = {}
-        for name, values in self.inputs.items():
-            while values and values[-1] is None:
-                values = values[:-1]
-            inputs[name] = values
-        return inputs, self.rounds
-
-    def fewer_rounds(self):
-        """Leaves out rounds: half of them, a quarter, and so on to one."""
-        size, smaller = self.rounds // 2, False
-        while size:
-            first = 0
-            while first + size <= self.rounds and self.rounds > size:
-                rest = {name: values[:first] + values[first + size :] for name, values in self.inputs.items()}
-                if self.take(rest, self.rounds - size):
-                    smaller = True
-                else:
-                    first += size
-            size //= 2
-        return smaller
-
-    def simpler_values(self):
-        """Puts simpler values in the place of others."""
-        smaller = False
-        for name, values in self.plan.ports.items():
-            for at in range(self.rounds):
-                while at < self.rounds and self.simplify(name, values, at):
-                    smaller = True
-        return smaller
-
-    def simplify(self, name, values, at):
-        """Puts a simpler value in one place, where one does."""
-        for value in values.simpler(self.inputs[name][at]):
-            changed = self.inputs[name][:at] + [value] + self.inputs[name][at + 1 :]
-            if not same(value, self.inputs[name][at]) and self.take({**self.inputs, name: changed}, self.rounds):
-                return True
-        return False

@@ -5,7 +5,7 @@ import os
 import subprocess
 import sys
 
-from .bundles import BYTE_ORDER_MARK, Refused, bundle_of
+from .bundles import Refused, bundle_of
 from .command import Misused
 from .explaining import explain
 from .model import declared_in
@@ -51,7 +51,6 @@ class Asked:
         whole = self.bundle.has_divider or len(self.files) == 2 or not self.files[0].endswith(".aadl")
         if whole:
             return data
-        data = data[len(BYTE_ORDER_MARK) :] if data.startswith(BYTE_ORDER_MARK) else data
         return data + (b"" if data.endswith(b"\n") else b"\n") + b"%%%\n"
 
     def run(self):

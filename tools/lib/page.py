@@ -17,9 +17,14 @@ def advice():
         number = int(match.group(1)) if match else number
         taking = line.startswith("**Do:**") or (taking and bool(line.strip()))
         if taking and number:
-            text = line.replace("**Do:**", "").strip()
+            text = plain(line.replace("**Do:**", "").strip())
             found[part, number] = (found.get((part, number), "") + " " + text).strip()
     return found
+
+
+def plain(text):
+    """A text of a page without its marks: a string is not quoted twice, and a page is named by its path."""
+    return re.sub(r"`(\w+\.md)`", r"docs/\1", re.sub(r'`("[^"`]*")`', r"\1", text))
 
 
 def lines_of(path):

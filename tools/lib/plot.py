@@ -71,8 +71,8 @@ def chosen(signals, names):
         return signals
     taken = []
     for name in names:
-        known = [it for it in signals if it.name in (name, f"out {name}") or it.name.startswith(f"{name}.")
-                 or fnmatch.fnmatchcase(it.name, name)]
+        known = [it for it in signals if it.name.startswith(f"{name}.")
+                 or any(fnmatch.fnmatchcase(it.name, form) for form in (name, f"out {name}"))]
         if not known:
             near = near_names(name, [it.name for it in signals]) or [it.name for it in signals[:6]]
             raise Refused(f"nothing is named {name}; there is {choice(near)}" if near else f"nothing is named {name}")

@@ -73,7 +73,7 @@ class Numbers:
 
     def has(self, value):
         """Whether a value is one of these."""
-        return isinstance(value, int) and not isinstance(value, bool) and self.first <= value <= self.last
+        return is_number(value) and self.first <= value <= self.last
 
 
 class Single:
@@ -109,17 +109,29 @@ class Values:
         """Whether a value is one of these."""
         return any(part.has(value) for part in self.parts)
 
-    def simpler(self, value):
-        """The values that are simpler than one, the simplest first: none, those that come first, half as much."""
-        options = [None, False, 0, self.take(0)]
-        if isinstance(value, int) and not isinstance(value, bool):
-            options += [value // 2, value - 1 if value > 0 else value + 1]
-        taken = []
-        for option in options:
-            if self.has(option) and not same(option, value) and not any(same(option, it) for it in taken):
-                taken.append(option)
-        at = next((order for order, it in enumerate(taken) if same(it, value)), len(taken))
-        return taken[:at]
+    def simplest(self):
+        """The simplest values, in order: an absent value, false, 0 and the first one."""
+        found = []
+        for option in (None, False, 0, self.take(0)):
+            if self.has(option) and not any(same(option, it) for it in found):
+                found.append(option)
+        return found
+
+    def rank(self, value):
+        """The place of a value among the simplest ones; other values come after them."""
+        simplest = self.simplest()
+        return next((at for at, it in enumerate(simplest) if same(it, value)), len(simplest))
+
+    def nearest(self, value):
+        """The simplest number to which a number may be reduced, or None: 0, or else the first number."""
+        if not is_number(value):
+            return None
+        return next((it for it in (0, self.take(0)) if is_number(it) and self.has(it)), None)
+
+
+def is_number(value):
+    """Whether a value is a number; a Boolean is not one."""
+    return isinstance(value, int) and not isinstance(value, bool)
 
 
 def same(one, two):

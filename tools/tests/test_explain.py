@@ -5,6 +5,7 @@ import re
 
 from lib import sentences
 from lib.bundles import read
+from lib.page import advice
 from lib.properties import PLACES, likely
 from lib.words import ANNEX, DECLARATIONS
 from tests.common import EXAMPLES, TOP, answers, changed, check_examples, expect, explained, page, tool
@@ -148,6 +149,13 @@ def test_explain_shows_likely_properties():
             "Pals_Profile::Skwe": "PALS_Profile::Skew",
             "PALS_Profil::Network": "PALS_Profile::Network", "Period": None, "Deadline": None, "Timng": "Timing"}
     expect({name: likely(name) for name in near}, near, "likely names")
+
+
+def test_advice_has_no_marks_of_a_page():
+    """Advice that is read from docs/checks.md names pages by their paths, and quotes a string once."""
+    for key, text in advice().items():
+        expect(re.findall(r"\*\*|`\"|\"`|`\w+\.md`|\]\(|^$", text), [], f"advice on {key}: {text}")
+    expect('as "repeat" to the faster and "latest"' in advice()["findings", 9], True, "the advice on NoAdaptor")
 
 
 def test_sentences_are_those_of_the_pages():

@@ -163,7 +163,7 @@ def test_plots_choose_by_name():
     """A name, a component and a pattern choose; what is not there is told with what is."""
     given = read(os.path.join(EXAMPLES, "pacemaker.rounds"))
     for names, wanted in ((["controller.pacer.deaf"], 1), (["controller.pacer"], 3), (["pace"], 1),
-                          (["*.deaf", "out *"], 2), ([], 6)):
+                          (["*.deaf", "out *"], 2), (["pa*"], 1), ([], 6)):
         status, text, _ = tool("plot", *names, given=given)
         expect(status, 0, f"plot of {names}")
         found = xml.dom.minidom.parseString(text).getElementsByTagName("g")

@@ -225,4 +225,6 @@ def test_times_and_values():
         expect(nanos_of(word), wanted, word)
     values = values_of("0..9223372036854775807,null,true")
     expect(tuple(values.take(2**63 + more) for more in (-1, 0, 1)), (2**63 - 1, None, True), "a wide range")
-    expect(values_of("3..9").simpler(8), [3, 4, 7], "simpler values")
+    values = values_of("3..9,null,false")
+    expect([values.simplest(), values.rank(8), values.nearest(8)], [[None, False, 3], 3, 3], "simpler values")
+    expect([values_of("-5..9").nearest(-4), values_of("true").nearest(True)], [0, None], "the simplest number")
