@@ -1,9 +1,9 @@
 #!/usr/bin/env python3
-"""Tries the tools, ./pals, and where definitions stand: tools/test.py [WORD ..]
+"""Tests the tools, ./pals and the pages: tools/test.py [WORD ..]
 
-It tries those whose names have one of the words, or all, and ends with status 0 exactly where all is as it should be.
-Without the built programs or a C compiler it takes a minute, and tests that need them say that they are left out; with
-them it takes some minutes more. --more makes long tests longer. --write-pictures makes the pictures of the docs anew.
+It runs the tests whose names have one of the words, or all, and ends with status 0 if and only if none fails. The
+programs that it asks are those that ./pals runs: built here, or those of prebuilt/. A test whose program or package is
+missing is reported as left out. --more makes long tests longer. --write-pictures makes the pictures of the docs anew.
 """
 
 import glob
@@ -22,7 +22,7 @@ def tests_named(words):
     """The tests whose names have one of the words, in the order of their files."""
     for path in sorted(glob.glob(os.path.join(HERE, "tests", "test_*.py"))):
         module = importlib.import_module(f"tests.{os.path.basename(path)[:-3]}")
-        for name, test in vars(module).items():
+        for name, test in list(vars(module).items()):
             if name.startswith("test_") and (not words or any(word in f"{module.__name__}.{name}" for word in words)):
                 yield test
 

@@ -1,4 +1,4 @@
-"""How a campaign reduces what it finds: tries that are bounded, interrupts, and what is in the file meanwhile."""
+"""How a campaign reduces a false scenario: bounded tries, bisection, interrupts, and the file meanwhile."""
 
 import json
 import os
@@ -22,7 +22,7 @@ SLOW = JUDGE.replace("import json, sys\n", "import json, os, sys, time\nif os.pa
 
 
 class Sums(Shrink):
-    """A scenario that is false if the inputs of a round and those of the round before have a sum of 1,500."""
+    """A scenario that is false if the inputs of two successive rounds have a sum of 1,500 or more."""
 
     def take(self, inputs, rounds):
         self.tries += 1
