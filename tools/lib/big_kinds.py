@@ -7,7 +7,7 @@ from .bundles import MOST_BYTES, read
 from .page import TOP
 
 DESIGN = os.path.join(TOP, "examples", "two_counters.aadl")
-# A scenario with what each command needs.
+# A scenario with the fields that the commands need.
 FIELDS = {
     "rounds": 3,
     "events": [],
@@ -32,7 +32,7 @@ def bundle(design, scenario):
 
 
 def filled(front, piece, back, joint=""):
-    """A text of the greatest size: between two parts as many pieces as there is room for, with joints between."""
+    """A text of the largest size: between two parts as many pieces as there is room for, with joints between."""
     front, back, joint = front.encode(), back.encode(), joint.encode()
     pieces, size, number = [], MOST_BYTES - len(front) - len(back), 0
     while True:
@@ -67,7 +67,7 @@ def in_scenario(field, value, piece, most=1_000_000):
 
 
 def padded(data):
-    """A bundle with blanks behind it, up to the greatest size."""
+    """A bundle with blanks after it, up to the largest size."""
     return data + b" " * (MOST_BYTES - len(data))
 
 
