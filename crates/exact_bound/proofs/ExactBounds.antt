@@ -3,9 +3,9 @@ use Rattle.std.proofs.Common.{ℕ, ◌+◌, ◌-◌, ◌*◌, ◌/◌, ◌<◌, 
 use Rattle.std.proofs.Math.Nat.{div-mul-le_self, le-div_iff_mul-le}
 use Rattle.pals_base.specs.declared.period_bound_and_releases.Gamma.{Gamma}
 use Rattle.pals_base.specs.PeriodBoundAndReleases.{step_period, sent_steps}
-use Rattle.exact_bound.specs.ExactBounds.{sender, message_period, IsPlatform, IsLongEnough}
-use Rattle.exact_bound.specs.ExactBounds.{HasTime, DesignsAreExact, StepsHaveTimeExactly, OneLessIsEnough, TwoLessIsNot}
-use Rattle.exact_bound.specs.ExactBounds.{NoBoundIsBetter}
+use Rattle.exact_bound.specs.proof.ExactBounds.{sender, message_period, IsPlatform, IsLongEnough}
+use Rattle.exact_bound.specs.proof.ExactBounds.{HasTime, DesignsAreExact, StepsHaveTimeExactly, OneLessIsEnough, TwoLessIsNot}
+use Rattle.exact_bound.specs.proof.ExactBounds.{NoBoundIsBetter}
 use Rattle.exact_bound.proofs.SenderTimes.{senders_are_exact}
 
 -- ---- the last step that is sent

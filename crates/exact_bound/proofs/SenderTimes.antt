@@ -2,8 +2,8 @@
 use Rattle.std.proofs.Common.{◌≡◌, ℕ, zero, suc, ◌+◌, ◌-◌, ◌*◌, ◌<◌, ◌≤◌, max, arith}
 use Rattle.pals_base.specs.declared.period_bound_and_releases.Gamma.{Gamma}
 use Rattle.pals_base.specs.PeriodBoundAndReleases.{alarm}
-use Rattle.exact_bound.specs.ExactBounds.{Sender, ArrivesBetween, IsPlatform, IsLongEnough, SendersAreExact}
-use Rattle.exact_bound.specs.ExactBounds.{last_finish}
+use Rattle.exact_bound.specs.proof.ExactBounds.{Sender, ArrivesBetween, IsPlatform, IsLongEnough, SendersAreExact}
+use Rattle.exact_bound.specs.proof.ExactBounds.{last_finish}
 
 next_alarm : (t round : ℕ) → alarm t (round + 1) ≡ alarm t round + t
 next_alarm t round = grind arith

@@ -4,7 +4,7 @@ use Rattle.std.specs.Fmt.{digits}
 use Rattle.pals_base.specs.SingleStep.{fire}
 use Rattle.pals_model.specs.ComponentInputs.{input_vectors}
 use Rattle.pals_model.specs.Composition.{comp, part, msg, state}
-use Rattle.exact_bound.specs.ShortPeriodStops.{ShortPeriodStops}
+use Rattle.exact_bound.specs.proof.ShortPeriodStops.{ShortPeriodStops}
 
 pub short_period_stops : ShortPeriodStops
 unfolding digits fire comp part input_vectors msg state

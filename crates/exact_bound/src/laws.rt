@@ -1,7 +1,7 @@
 //! Laws on how close the bound is to the best one. Each is the contract of a function that does nothing.
-ghost use Rattle.exact_bound.specs.ExactBounds.{SendersAreExact, DesignsAreExact, StepsHaveTimeExactly};
-ghost use Rattle.exact_bound.specs.ExactBounds.{OneLessIsEnough, TwoLessIsNot, NoBoundIsBetter};
-ghost use Rattle.exact_bound.specs.ShortPeriodStops.{ShortPeriodStops};
+ghost use Rattle.exact_bound.specs.proof.ExactBounds.{SendersAreExact, DesignsAreExact, StepsHaveTimeExactly};
+ghost use Rattle.exact_bound.specs.proof.ExactBounds.{OneLessIsEnough, TwoLessIsNot, NoBoundIsBetter};
+ghost use Rattle.exact_bound.specs.proof.ShortPeriodStops.{ShortPeriodStops};
 
 /// The messages of a sender arrive between the two starts if and only if its offset and the period are long
 /// enough. In a design that is so at each rate if and only if the period is at least one nanosecond less than

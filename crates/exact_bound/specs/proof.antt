@@ -1,0 +1,3 @@
+-- What the theorem of the program does not depend on: definitions of laws.
+pub mod ExactBounds
+pub mod ShortPeriodStops
