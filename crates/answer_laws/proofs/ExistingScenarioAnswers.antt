@@ -10,6 +10,7 @@ use Rattle.pals_runs.specs.declared.plant_pairs.Pair.{Pair}
 use Rattle.plant_fuse.specs.FusedReport.{IsFusedReport}
 use Rattle.plant_fuse.specs.proof.FusedLaws.{ReportExists}
 use Rattle.plant_fuse.proofs.ReportsWithoutPairs.{report_without_pairs}
+use Rattle.plant_fuse.proofs.ExactlyOneSolution.{solution_is_one}
 use Rattle.analysis_texts.proofs.OutvotedFaults.{rows_outvoted, rows_alone}
 use Rattle.pals_top.specs.AnalysisCommands.{Analysis, Sync, Watch, Vote, Fuse}
 use Rattle.pals_top.specs.ExecutionCommands.{Execution, TimedWorld, LooseWorld, Run, Audit, Budget}
@@ -61,6 +62,8 @@ module _ (fused : ReportExists) where
         record {
           status_is = refl;
           report = there.1;
+          unique = λ ins other.
+              solution_is_one design scenario.plants scenario.env scenario.rounds ins other rules pairs;
           alone = λ none.
               report_without_pairs design scenario.env scenario.rounds there.0 rules
               (subst (λ (ps : List Pair). IsFusedReport design ps scenario.env scenario.rounds there.0) none there.1);
