@@ -122,17 +122,9 @@ def test_definitions_are_told_by_their_folder():
     says("docs/assurance.md", f"{len(rests)} short files")
 
 
-def test_pages_count_right():
-    """What pages say of how much there is."""
-    says("docs/library.md", f"over {len(glob.glob(f'{TOP}/crates/*/src'))} crates")
-
-
-def test_the_table_of_mutants_is_complete():
-    """Each edit is a row of the table of mutants, and each case that a row names is in its file."""
+def test_mutants_name_cases_that_stand():
+    """Each mutant has one row in the table, and each case that a row names is in the output of its crate."""
     rows = re.findall(r"(?m)^\| (\w+) \| [^|]* \| (\w+) \| ([^|]*) \|$", page("docs/testing.md"))
-    listed = sorted(f"{crate}/{body}" for body, crate, test in rows if test == "edit")
-    found = [name.split("/") for name in glob.glob(f"{TOP}/crates/*/must-fail/*.edit")]
-    expect(listed, sorted(f"{parts[-3]}/{parts[-1][:-5]}" for parts in found), "the edits of the table")
     bodies = [body for body, _, _ in rows]
     expect(sorted(set(bodies)), sorted(bodies), "each mutant has one row")
     written = page("crates/program_tests/stdout").split("\n")
