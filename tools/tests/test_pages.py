@@ -93,6 +93,23 @@ def test_pages_name_files_that_are_there():
     expect(count >= 40, True, f"{count} files in the list of definitions")
 
 
+def test_links_of_pages_lead_somewhere():
+    """Each link of a page leads to a file that is there, and to a heading of it."""
+    count = 0
+    for path in [f"{TOP}/README.md", f"{TOP}/examples/README.md", *glob.glob(f"{TOP}/docs/*.md")]:
+        name = os.path.relpath(path, TOP)
+        for link in re.findall(r"\]\(([^)\s:]+)\)", page(name)):
+            file, _, heading = link.partition("#")
+            target = os.path.normpath(os.path.join(os.path.dirname(name), file)) if file else name
+            expect(os.path.isfile(os.path.join(TOP, target)), True, f"{name} links to {link}")
+            if heading:
+                titles = [re.sub(r"[^\w\- ]", "", it.lower()).replace(" ", "-")
+                          for it in re.findall(r"(?m)^#+ (.*)$", page(target))]
+                expect(heading in titles, True, f"{name} links to {link}")
+            count += 1
+    expect(count >= 50, True, f"{count} links")
+
+
 def test_the_list_of_crates_has_their_edges():
     """The page lists each crate of `crates.txt` once, with dependencies that it has there."""
     lines = [line.partition(":") for line in page("crates.txt").split("\n") if not line.startswith("#")]
