@@ -1,0 +1,3 @@
+pub mod DueEvents
+pub mod FaultlessPasses
+pub mod WorldProgress

@@ -1,0 +1,5 @@
+//! How worlds go on: no list of timed events within the bounds leads to a world in which nothing can happen.
+//! Definitions and their law.
+#![tactic(auto)]
+
+pub mod laws;
