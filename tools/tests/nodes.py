@@ -12,6 +12,7 @@ import tempfile
 from lib.bundles import Bundle
 from lib.joining import Joined
 from lib.nodes_of import nodes_of
+from lib.raw_arrivals import comments_of
 from lib.records import read_record
 from tests.common import TOP, WITHIN, Skipped, Wrong, built, page, tool
 
@@ -145,13 +146,31 @@ def design_nodes(text, root=None):
     return nodes_of(Bundle("the design", text.encode()), root)
 
 
-def joined(nodes, output):
-    """The records in the output of several nodes, joined."""
+def records_in(nodes, output):
+    """The texts of the records in the output of several nodes."""
     own = {path: [] for path in nodes.paths}
     for line in output.split("\n")[:-1]:
         path, _, rest = line.partition(" ")
-        own[path].append(rest)
-    return Joined(nodes, {path: read_record("\n".join(lines), path, nodes) for path, lines in own.items()})
+        own[path].append(f"{rest}\n")
+    return {path: "".join(lines) for path, lines in own.items()}
+
+
+def joined(nodes, output):
+    """The records in the output of several nodes, joined."""
+    return Joined(nodes, {path: read_record(text, path, nodes) for path, text in records_in(nodes, output).items()})
+
+
+def recorded_within(text, nodes, output):
+    """The status and the text of tools/bounds for the records in the output of several nodes."""
+    with tempfile.TemporaryDirectory() as where:
+        design = os.path.join(where, "design.aadl")
+        for path, record in [("design.aadl", text), *records_in(nodes, output).items()]:
+            with open(os.path.join(where, path), "w", encoding="ascii") as file:
+                file.write(record)
+        status, written, said = tool("bounds", where, design)
+    if said:
+        raise Wrong(said)
+    return status, written.decode()
 
 
 def audited(text, scenario, trace, root="Top.impl"):
@@ -164,7 +183,8 @@ def within(text, trace):
     """The status and the text of tools/bounds for a trace."""
     path = os.path.join(folder(), "trace.pals")
     with open(path, "w", encoding="ascii") as file:
-        file.write(text + "%%%\n" + json.dumps({"trace": trace.lines()}))
+        comments = "".join(f"{line}\n" for line in comments_of(trace.raw_arrivals()))
+        file.write(text + comments + "%%%\n" + json.dumps({"trace": trace.lines()}))
     status, written, said = tool("bounds", path)
     if said:
         raise Wrong(said)
