@@ -4,16 +4,19 @@ import json
 import os
 import random
 import tempfile
+from collections import Counter
 
 from lib.bundles import Bundle, Refused
 from lib.joining import Joined
 from lib.nodes_of import nodes_of
-from lib.platform_bounds import lines_of_records
+from lib.platform_bounds import Bounds, lines_of_records
 from lib.raw_arrivals import comments_of
 from lib.records import read_record
 from tests.common import TOP, expect, page, tool
-from tests.nodes import audited, pals
+from tests.nodes import MORE, audited, pals
 
+
+WORLDS = 300 if MORE else 30
 # Two rounds of the two counters. The message of p.a is taken at the very reading of p.b's start, behind it.
 A = """start p.a 0 9000000
 finish p.a 0
@@ -228,3 +231,60 @@ def test_a_record_that_is_no_sound_trace_in_any_order():
         expect(str(why), "no round can be audited: the record of p.a lacks lines of round 0", "why")
     else:
         expect("joined", "refused", "an arrival without its send")
+
+
+def records_of_world(nodes, events, report):
+    """The records of the nodes of a timed list of events, and the rows of its report."""
+    texts, count, step, sent, now = {path: [] for path in nodes.paths}, Counter(), Counter(), Counter(), {}
+    rows = {}
+    for line in report.split("\n")[:-1]:
+        if line.startswith("round "):
+            number = line.split(" ")[1]
+        else:
+            rows.setdefault(int(number), []).append(line)
+    for kind, what, *rest in events:
+        path = nodes.links[what][1] if kind == "arrive" else what
+        if kind == "pass":
+            now = dict(zip(nodes.paths, rest[0]))
+        elif kind == "arrive":
+            texts[path].append(f"arrive {what} {rest[0]} {now[path]} kept")
+        elif kind == "start":
+            texts[path].append(f"start {path} {count[path]} {now[path]}")
+            count[path], step[path] = count[path] + 1, 0
+        elif kind == "step":
+            step[path] += 1
+            texts[path].append(f"step {path} {count[path] - 1} {step[path]} {now[path]}")
+        elif kind == "send":
+            texts[path].append(f"send {path} {sent[path]} {now[path]}")
+            sent[path] += 1
+        else:
+            texts[path].append(f"finish {path} {count[path] - 1}")
+            if step[path] + 1 == nodes.rates[path]:
+                own = next(line for line in rows[count[path] - 1] if line.startswith(f"{path} "))
+                texts[path].append(f"row {count[path] - 1} {own}")
+    return {path: read_record("".join(f"{line}\n" for line in lines), path, nodes) for path, lines in texts.items()}
+
+
+def test_worlds_that_the_program_accepts_are_sound():
+    """Random worlds, which the proved program accepts, are sound without delays as they are joined, and within the
+    bounds as they were recorded."""
+    text = page("examples/turn_controller.aadl").replace("Network => 1 ms", "Network => 0 ms")
+    nodes, put_off = nodes_of(Bundle("the design", text.encode()), None), 0
+    with tempfile.TemporaryDirectory() as folder:
+        design, given = os.path.join(folder, "d.aadl"), os.path.join(folder, "s.json")
+        for path, content in ((design, text), (given, '{"rounds": 5, "inputs": {"goal": [4, 9]}}')):
+            with open(path, "w", encoding="ascii") as file:
+                file.write(content)
+        for seed in range(WORLDS):
+            status, written, said = tool("world", "--random", "--seed", str(seed), design, given)
+            expect((status, said), (0, ""), "tools/world")
+            scenario = json.loads(written)
+            status, report = pals(["world", "Top.impl"], text, scenario)
+            expect(status, 0, report)
+            records = records_of_world(nodes, scenario["events"], report)
+            trace = Joined(nodes, records, 5)
+            expect((trace.delays, trace.notes), ({}, []), f"the delays of seed {seed}")
+            expect(audited(text, scenario, trace), (0, "sound rounds 5 stop none\n"), f"the world of seed {seed}")
+            expect(Bounds(nodes, lines_of_records(records, nodes)).outside, None, f"the bounds of seed {seed}")
+            put_off += sum(trace.sent(key) > reading for key, reading in trace.arrivals.items())
+    expect(put_off > 0, True, "some arrivals read less than their sends")
