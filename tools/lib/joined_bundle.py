@@ -25,7 +25,7 @@ def joined_bundle(bundle, scenario, nodes, records, rounds):
         limit = min(whole - 1, int(whole * share * 0.99))
         if limit < 1:
             raise Refused("not even one round fits into a bundle")
-        notes = [f"{whole:,} rounds are too long for a bundle, which holds {MOST_BYTES:,} bytes"]
+        notes = notes or [f"{whole:,} rounds are too long for a bundle, which holds {MOST_BYTES:,} bytes"]
     notes = [*joined.notes, *notes]
     whole = joined.rounds if joined.rounds is not None else asked
     if notes and not joined.last and whole is not None:
