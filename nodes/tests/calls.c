@@ -10,10 +10,11 @@
 static char last[PALS_LINE];
 static uint32_t records, sends;
 
-static void on_send(void *user, uint32_t link, uint64_t round, const pals_value values[], uint32_t count)
+static bool on_send(void *user, uint32_t link, uint64_t round, const pals_value values[], uint32_t count)
 {
     assert((user == NULL) && (link == 1U) && (round < 3U) && (count == 1U) && values[0].present);
     sends++;
+    return true;
 }
 
 static pals_value on_read(void *user, uint32_t input, uint64_t round)
@@ -36,7 +37,7 @@ static void on_record(void *user, const pals_node *node, const pals_record *reco
     records++;
 }
 
-static const pals_hooks HOOKS = {on_send, on_read, on_record};
+static const pals_hooks HOOKS = {.send = on_send, .read = on_read, .record = on_record};
 
 static pals_arrived arrive(pals_node *node, uint32_t link, uint64_t round, uint32_t count, int64_t reading)
 {

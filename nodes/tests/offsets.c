@@ -17,11 +17,12 @@ static messages flying;
 static int64_t now;
 static const int64_t *delays;
 
-static void on_send(void *user, uint32_t link, uint64_t round, const pals_value values[], uint32_t count)
+static bool on_send(void *user, uint32_t link, uint64_t round, const pals_value values[], uint32_t count)
 {
     const message sent = message_of(now + delays[link], link, round, values, count);
     (void)user;
     messages_add(&flying, &sent);
+    return true;
 }
 
 static void on_record(void *user, const pals_node *node, const pals_record *record)
@@ -32,7 +33,7 @@ static void on_record(void *user, const pals_node *node, const pals_record *reco
     records_write(stdout, prefix, node, record);
 }
 
-static const pals_hooks HOOKS = {on_send, scenario_input, on_record};
+static const pals_hooks HOOKS = {.send = on_send, .read = scenario_input, .record = on_record};
 
 static void take_messages(uint32_t number, int64_t reading)
 {
