@@ -107,9 +107,8 @@ def fault_sentences(clocks):
     for one, other in clocks.pairs():
         low, high = clocks.interval(one, other, clocks.all)
         if low > high:
-            yield (f"{one} and {other}: no difference of their clocks explains all messages between them: they drift, "
-                   f"or the network did not keep its bounds")
-        elif low > 2 * clocks.most:
+            continue
+        if low > 2 * clocks.most:
             yield f"the clock of {other} is ahead of that of {one} by at least {in_ms(low)} {network}; allowed is " \
                   f"less than {skew}"
         elif high < -2 * clocks.most:
@@ -121,7 +120,7 @@ def fault_sentences(clocks):
 def suspicion(clocks, suspects):
     """Which clock is at fault, as a sentence."""
     if not suspects:
-        return "no single clock explains this: the network did not keep its bounds, or several clocks are at fault"
+        return "no single clock explains this: look at the network, at nodes that were late, or at several clocks"
     if len(suspects) > 1:
         return f"likely at fault: the clock of {' or that of '.join(suspects)}; messages between them cannot tell which"
     return f"likely at fault: the clock of {suspects[0]}, which is {direction(clocks, suspects[0])}"

@@ -86,10 +86,12 @@ class Bounds:
         return None
 
     def check_stop(self, index, line, path):
-        """A missed stop: whether its message is slow, or the node late. An early one tells no more than its arrival."""
+        """A stop: whether its message is slow, or the node late. At an early one the node had not started the round."""
         sent = self.sends.get((line.what, line.round))
         if line.end == "early":
-            return None
+            late = self.earliest[path] > self.alarm(line.round) + self.bounds.skew - 1
+            return Outside(index, "late", f"{path} had not started round {line.round} when a message of this round "
+                           f"arrived") if late else None
         if sent and self.earliest[path] > sent.latest + self.bounds.slowest:
             return Outside(index, "slow", f"the message of round {line.round} to {line.what} has not come "
                            f"{in_ms(line.reading - sent.reading)} behind its send by the two clocks: {self.declared()}")

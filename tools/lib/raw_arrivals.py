@@ -79,14 +79,15 @@ def precedes(arrival, line):
 
 
 def merged(own, nodes):
-    """The lines of all nodes in one order: each node's own order, and each arrival after the send of its message if
-    that is there."""
+    """The lines of all nodes in one order: each node's own order, and each arrival and each stop after the send of its
+    message if that is there."""
     left = {path: list(reversed(lines)) for path, lines in own.items()}
     sends = {(line.what, line.round) for lines in own.values() for _, line in lines if line.kind == "send"}
     order, sent = [], set()
 
     def may_go(line):
-        key = (nodes.links[line.what][0], line.round) if line.kind == "arrive" and line.what in nodes.links else None
+        of_message = line.kind in ("arrive", "stop") and line.what in nodes.links
+        key = (nodes.links[line.what][0], line.round) if of_message else None
         return key is None or key in sent or key not in sends
 
     while any(left.values()):

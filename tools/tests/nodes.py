@@ -59,8 +59,8 @@ def compilers():
 
 def compiled(compiler, flags, source, include, where):
     """The object of a source, at a path. Whatever the compiler says is wrong."""
-    command = [compiler, *STRICT, *flags, "-I", NODES, "-I", os.path.join(NODES, "demo"), "-I", include, "-c", "-o",
-               where, source]
+    command = [compiler, *STRICT, *flags, "-I", NODES, "-I", os.path.join(NODES, "demo"), "-I",
+               os.path.join(NODES, "udp"), "-I", include, "-c", "-o", where, source]
     ran = subprocess.run(command, stdout=subprocess.PIPE, stderr=subprocess.STDOUT, timeout=WITHIN, check=False)
     if ran.returncode or ran.stdout:
         raise Wrong(f"{compiler} says of {source}: {ran.stdout.decode()[:2000]}")

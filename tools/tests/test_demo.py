@@ -26,9 +26,9 @@ FAULTS = {
 }
 
 
-def slower(text, line):
+def slower(text, line, times=SLOWER):
     """A text with the times of some of its lines made longer."""
-    return re.sub(line, lambda match: re.sub(r"\d+", lambda it: str(int(it[0]) * SLOWER), match[0]), text)
+    return re.sub(line, lambda match: re.sub(r"\d+", lambda it: str(int(it[0]) * times), match[0]), text)
 
 
 class Demo:
