@@ -19,6 +19,13 @@ def test_the_calls_of_a_node():
         expect(calls.run_text(""), "", "the calls")
 
 
+def test_outputs_and_traps():
+    """Root outputs are passed on when the round is sent, and a trap is reported once."""
+    for compiler in compilers():
+        hooks = program_of(page("nodes/tests/operators.listing"), "tests/hooks.c", compiler, CHECKED)
+        expect(hooks.run_text(""), "", "the hooks")
+
+
 def test_a_node_that_has_finished_more_steps_than_it_sends():
     """A message carries k' steps, also where more are finished when it is sent."""
     text = page("nodes/tests/cut.aadl")
