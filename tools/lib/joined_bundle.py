@@ -35,6 +35,18 @@ def joined_bundle(bundle, scenario, nodes, records, rounds):
     return text, notes
 
 
+def from_round(scenario, first):
+    """A scenario whose rounds begin with a later one."""
+    if not first:
+        return scenario
+    rounds, inputs = scenario.get("rounds"), scenario.get("inputs")
+    made = {"rounds": rounds - first} if isinstance(rounds, int) and rounds > first else {}
+    if isinstance(inputs, dict):
+        made["inputs"] = {name: values[first:] if isinstance(values, list) else values
+                          for name, values in inputs.items()}
+    return made
+
+
 def bundle_text(bundle, scenario, joined, asked):
     """The bytes of a bundle, and the number of lines of its trace."""
     rounds = joined.rounds if joined.rounds is not None and not joined.last else asked

@@ -1,14 +1,16 @@
 """Records of runs that went wrong: clocks that are off, crashes, restarts, readings that jump, runs that are long."""
 
 import json
+import os
 import random
+import tempfile
 
 from lib.bundles import Bundle, Refused
 from lib.joined_bundle import joined_bundle
 from lib.joining import Joined
 from lib.record_ends import endings, jumps, other_designs
 from lib.records import read_record
-from tests.common import expect, page
+from tests.common import expect, page, tool
 from tests.nodes import (MORE, audited, compilers, design_nodes, pals, program_of, recorded_within, records_in)
 
 RUNS, ROUNDS, MS = 120 if MORE else 12, 20, 1_000_000
@@ -182,3 +184,56 @@ def test_a_long_run():
     expect(pals(["audit", "Top.impl"], page("examples/two_counters.aadl"), found),
            (0, f"sound rounds {found['rounds']} stop none\n"), "the audit")
 
+
+
+# What the two counters do until p.a holds a value in round 1, and after a restart of both at round 4.
+HELD_A = """start p.a 0 9000000
+finish p.a 0
+row 0 p.a s x=1
+send p.a 0 10000000
+hold p.a.i 0 18000000
+start p.a 1 18000000
+finish p.a 1
+row 1 p.a s x=2
+send p.a 1 19000000
+restart p.a 4 40000000
+"""
+HELD_B = """start p.b 0 9000000
+finish p.b 0
+row 0 p.b s x=1
+send p.b 0 10000000
+arrive p.b.i 0 12000000 kept
+start p.b 1 18000000
+finish p.b 1
+row 1 p.b s x=3
+send p.b 1 19000000
+restart p.b 4 40000000
+"""
+AGAIN = """start p.X 4 45000000
+finish p.X 4
+row 4 p.X s x=1
+send p.X 4 46000000
+arrive p.X.i 4 48000000 kept
+start p.X 5 54000000
+finish p.X 5
+row 5 p.X s x=3
+send p.X 5 55000000
+"""
+
+
+def test_held_values_and_a_restart():
+    """A run is audited up to the first held value, and again from a restart on."""
+    text = page("examples/two_counters.aadl")
+    with tempfile.TemporaryDirectory() as where:
+        for name, lines in (("d.aadl", text), ("s.json", '{"rounds": 6}'), ("p.a", HELD_A + AGAIN.replace("X", "a")),
+                            ("p.b", HELD_B + AGAIN.replace("X", "b"))):
+            with open(os.path.join(where, name), "w", encoding="ascii") as file:
+                file.write(lines)
+        words = [where, os.path.join(where, "d.aadl"), os.path.join(where, "s.json")]
+        for part, rounds, said in (("0", 1, "p.a began round 1 with a held value"), ("1", 2, "")):
+            status, written, noted = tool("join", "--part", part, *words)
+            expect((status, said in noted), (0, True), noted)
+            given = json.loads(Bundle("joined", written).scenario)
+            expect(pals(["audit", "Top.impl"], text, given), (0, f"sound rounds {rounds} stop none\n"), f"part {part}")
+        status, _, noted = tool("join", "--part", "2", *words)
+        expect((status, "p.a has 1 restarts in its record" in noted), (1, True), noted)
