@@ -5,10 +5,12 @@ enum { AT_VERSION = 4, AT_RESERVED = 5, AT_COUNT = 6, AT_DESIGN = 8, AT_LINK = 1
 
 static const uint8_t MAGIC[4] = {0x50U, 0x41U, 0x4CU, 0x53U};
 
-static void put(uint8_t to[], uint32_t at, uint64_t number, uint32_t bytes)
+static void put_bytes(uint8_t to[], uint32_t at, uint64_t number, uint32_t bytes)
 {
-    for (uint32_t i = 0; i < bytes; i++) {
-        to[at + i] = (uint8_t)((number >> (8U * ((bytes - 1U) - i))) & 0xFFU);
+    uint64_t left = number;
+    for (uint32_t i = bytes; i > 0U; i--) {
+        to[(at + i) - 1U] = (uint8_t)(left & 0xFFU);
+        left >>= 8;
     }
 }
 
@@ -24,7 +26,8 @@ static uint64_t get(const uint8_t from[], uint32_t at, uint32_t bytes)
 /* The number of 64 bits in two's complement that has these bits. */
 static int64_t signed_of(uint64_t bits)
 {
-    return (bits <= (uint64_t)INT64_MAX) ? (int64_t)bits : (-(int64_t)(UINT64_MAX - bits) - 1);
+    const uint64_t below = UINT64_MAX - bits;
+    return (bits <= (uint64_t)INT64_MAX) ? (int64_t)bits : (-(int64_t)below - 1);
 }
 
 uint32_t pals_crc(const uint8_t bytes[], uint32_t length)
@@ -53,20 +56,20 @@ uint32_t pals_encode(uint8_t to[], uint64_t design, uint32_t link, uint64_t roun
     }
     for (uint32_t i = 0; i < count; i++) {
         present |= values[i].present ? (UINT64_C(1) << i) : 0U;
-        put(to, (uint32_t)PALS_MESSAGE_HEAD + (8U * i), values[i].present ? (uint64_t)values[i].number : 0U, 8);
+        put_bytes(to, (uint32_t)PALS_MESSAGE_HEAD + (8U * i), values[i].present ? (uint64_t)values[i].number : 0U, 8);
     }
     for (uint32_t i = 0; i < 4U; i++) {
         to[i] = MAGIC[i];
     }
-    put(to, AT_VERSION, PALS_MESSAGE_VERSION, 1);
-    put(to, AT_RESERVED, 0, 1);
-    put(to, AT_COUNT, count, 2);
-    put(to, AT_DESIGN, design, 8);
-    put(to, AT_LINK, link, 4);
-    put(to, AT_ROUND, round, 8);
-    put(to, AT_PRESENT, present, 8);
+    put_bytes(to, AT_VERSION, PALS_MESSAGE_VERSION, 1);
+    put_bytes(to, AT_RESERVED, 0, 1);
+    put_bytes(to, AT_COUNT, count, 2);
+    put_bytes(to, AT_DESIGN, design, 8);
+    put_bytes(to, AT_LINK, link, 4);
+    put_bytes(to, AT_ROUND, round, 8);
+    put_bytes(to, AT_PRESENT, present, 8);
     const uint32_t length = PALS_BYTES_OF(count) - (uint32_t)PALS_MESSAGE_TAIL;
-    put(to, length, pals_crc(to, length), 4);
+    put_bytes(to, length, pals_crc(to, length), 4);
     return length + (uint32_t)PALS_MESSAGE_TAIL;
 }
 

@@ -128,7 +128,7 @@ static void tell_late(int64_t reading)
 static void take_datagrams(int64_t reading)
 {
     uint8_t bytes[PALS_MESSAGE_BYTES + 1];
-    struct sockaddr_in from;
+    struct sockaddr_in from = {0};
     socklen_t size = sizeof from;
     pals_message m;
     ssize_t length = recvfrom(port, bytes, sizeof bytes, MSG_DONTWAIT, (struct sockaddr *)&from, &size);

@@ -126,16 +126,16 @@ class Tables:
                 for number, it in enumerate(self.design.components)]
 
     def links_of(self):
-        """The tables of the links of each chosen component."""
-        for number in self.chosen:
-            found = [str(at) for at, it in enumerate(self.design.links) if number in (it.source[0], it.target[0])]
-            yield from table("uint32_t", f"links_of_{number}", [", ".join(found)] if found else [])
-        yield from ("", "const uint32_t *pals_links_of(uint32_t number, uint32_t *count)", "{", "    *count = 0;",
-                    "    switch (number) {")
-        for number in self.chosen:
-            if any(number in (it.source[0], it.target[0]) for it in self.design.links):
-                yield (f"    case {number}: *count = (uint32_t)(sizeof links_of_{number} / sizeof links_of_{number}[0]); "
-                       f"return links_of_{number};")
+        """The function with the links of each chosen component."""
+        yield from ("const uint32_t *pals_links_of(uint32_t number, uint32_t *count)", "{")
+        found = {number: [str(at) for at, it in enumerate(self.design.links) if number in (it.source[0], it.target[0])]
+                 for number in self.chosen}
+        found = {number: links for number, links in found.items() if links}
+        yield from (f"    static const uint32_t LINKS_OF_{number}[] = {{{', '.join(links)}}};"
+                    for number, links in found.items())
+        yield from ("    *count = 0;", "    switch (number) {")
+        yield from (f"    case {number}: *count = {len(links)}; return LINKS_OF_{number};"
+                    for number, links in found.items())
         yield from ("    default: return NULL;", "    }", "}")
 
     def design_source(self):
