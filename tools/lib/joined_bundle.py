@@ -11,7 +11,7 @@ MOST_LINES, MOST_ROUNDS = 1_000_000, 100_000
 
 
 def joined_bundle(bundle, scenario, nodes, records, rounds):
-    """The bundle of a trace of records, and sentences on what it leaves out."""
+    """The bundle of a trace of records, sentences on the rest, and whether the ends of the records are of interest."""
     asked = rounds if rounds is not None else scenario.get("rounds")
     asked = asked if isinstance(asked, int) and 0 < asked <= MOST_ROUNDS else None
     limit, notes = asked, []
@@ -26,13 +26,14 @@ def joined_bundle(bundle, scenario, nodes, records, rounds):
         if limit < 1:
             raise Refused("not even one round fits into a bundle")
         notes = notes or [f"{whole:,} rounds are too long for a bundle, which holds {MOST_BYTES:,} bytes"]
+    ended = bool(joined.notes) or any(record.lines and record.lines[-1].kind == "stop" for record in records.values())
     notes = [*joined.notes, *notes]
     whole = joined.rounds if joined.rounds is not None else asked
     if notes and not joined.last and whole is not None:
         notes.append(f"the trace has the first {whole:,} rounds")
     if joined.left_out:
         notes.append(f"{joined.left_out} second copies of messages are left out: a trace has no line for them")
-    return text, notes
+    return text, notes, ended
 
 
 def from_round(scenario, first):

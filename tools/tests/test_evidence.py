@@ -175,7 +175,7 @@ def test_a_long_run():
     program = program_of(page("examples/two_counters.listing"), "tests/meeting.c", compilers()[0], ["-O1"])
     output = records_in(nodes, program.run({"rounds": 400}))
     records = {path: read_record(lines, path, nodes) for path, lines in output.items()}
-    made, notes = joined_bundle(bundle, {"rounds": 400}, nodes, records, None)
+    made, notes, _ = joined_bundle(bundle, {"rounds": 400}, nodes, records, None)
     found = json.loads(Bundle("made", made).scenario)
     expect(100 < found["rounds"] < 400 and len(made) <= 16_777_216, True, f"{found['rounds']} rounds")
     expect(notes, ["400 rounds are too long for a bundle, which holds 16,777,216 bytes",
