@@ -93,13 +93,13 @@ class NodesInC:
         whole = os.path.join(self.path, "whole.c")
         with open(whole, "w", encoding="ascii") as file:
             file.write("".join(f'#include "{name}"\n' for name in c_of(listing, self.path)))
-        self.object = compiled(compiler, flags, whole, self.path, os.path.join(self.path, "whole.o"))
+        self.objects = [compiled(compiler, flags, whole, self.path, os.path.join(self.path, "whole.o"))]
 
     def program(self, main, *more):
         """The program of a main and of what more it needs."""
         objects = [object_of(self.compiler, tuple(self.flags), name) for name in (*OWN, *HOST, *more, main)]
         path = os.path.join(self.path, os.path.basename(main)[:-2])
-        subprocess.run([self.compiler, *self.flags, "-o", path, self.object, *objects], check=True, timeout=WITHIN)
+        subprocess.run([self.compiler, *self.flags, "-o", path, *self.objects, *objects], check=True, timeout=WITHIN)
         return Program(path)
 
 
