@@ -73,7 +73,7 @@ uint32_t pals_encode(uint8_t to[], uint64_t design, uint32_t link, uint64_t roun
     return length + (uint32_t)PALS_MESSAGE_TAIL;
 }
 
-/* Whether the bytes have the form of a message of this design, the values not yet looked at. */
+/* Whether the bytes have the form of a message of this design, the values not yet checked. */
 static pals_decoded check(const uint8_t from[], uint32_t length, uint64_t design)
 {
     if (length < PALS_BYTES_OF(1U)) {

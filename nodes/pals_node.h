@@ -73,7 +73,7 @@ typedef enum { PALS_KEPT, PALS_IGNORED, PALS_EARLY, PALS_REFUSED } pals_arrived;
 /* What a node does next. */
 typedef enum { PALS_NOTHING, PALS_START, PALS_STEP, PALS_FINISH, PALS_SEND } pals_action;
 
-/* The event of a record. PALS_ROW follows the last finish of a round: the frame and the outs are then those of the end
+/* The event of a record. PALS_ROW follows the last finish of a round: the frame and the outs then have the values at the end
    of the round. The events from PALS_HELD on are not actions of the theorem: a start with the last values of a link
    whose message is missing, a restart at a round, a step that trapped, a message that the transport did not accept, and
    a stop by a clock that is not trusted. */
@@ -126,7 +126,7 @@ typedef struct {
     bool *full;         /* one for each link */
     pals_value *ins;    /* rate * ins, step by step */
     pals_value *outs;   /* outs * rate, port by port */
-    pals_value *values; /* the greater of outs and rate: those of a step, or of a message */
+    pals_value *values; /* the larger of outs and rate: the values of a step, or of a message */
 } pals_memory;
 
 struct pals_node {

@@ -13,7 +13,7 @@ typedef struct {
     int64_t start;
     clockid_t clock;
     pals_policy policy;
-    int64_t wait;  /* how long a message waits before it leaves; the least time of the network */
+    int64_t wait;  /* how long a message waits before it leaves; the minimum time of the network */
     int64_t ahead; /* how far the clock is ahead, to try a wrong clock */
 } options;
 

@@ -1,4 +1,4 @@
-/* Messages that wait until they are sent: a node's message leaves after the least time of the network, so that a faster
+/* Messages that wait until they are sent: a node's message leaves after the minimum time of the network, so that a faster
    network keeps this bound. */
 #ifndef PALS_UDP_OUTGOING_H
 #define PALS_UDP_OUTGOING_H

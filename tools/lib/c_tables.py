@@ -115,7 +115,7 @@ class Tables:
         return link.source[0] in self.chosen or link.target[0] in self.chosen
 
     def link_rows(self):
-        """The rows of the links by their numbers; those that no chosen component has are empty."""
+        """The rows of the links by their numbers; the rows of other links are empty."""
         return [f'{{"{name_of_link(self.design, it)}", {it.source[0]}, {it.target[0]}, {self.rate(it.source[0])}}}'
                 if self.is_near(it) else "{NULL, 0, 0, 0}" for it in self.design.links]
 

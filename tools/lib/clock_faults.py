@@ -99,7 +99,7 @@ class Clocks:
 
 
 def fault_sentences(clocks):
-    """What the messages of a run that is outside of the bounds say about its clocks."""
+    """Sentences on the clocks of a run that is outside of the bounds."""
     suspects = clocks.suspects()
     if suspects is None:
         return
@@ -122,7 +122,7 @@ def suspicion(clocks, suspects):
     if not suspects:
         return "no single clock explains this: look at the network, at nodes that were late, or at several clocks"
     if len(suspects) > 1:
-        return f"likely at fault: the clock of {' or that of '.join(suspects)}; messages between them cannot tell which"
+        return f"likely at fault: the clock of {' or that of '.join(suspects)}; their messages do not distinguish them"
     return f"likely at fault: the clock of {suspects[0]}, which is {direction(clocks, suspects[0])}"
 
 

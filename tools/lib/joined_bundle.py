@@ -32,7 +32,7 @@ def joined_bundle(bundle, scenario, nodes, records, rounds):
     if notes and not joined.last and whole is not None:
         notes.append(f"the trace has the first {whole:,} rounds")
     if joined.left_out:
-        notes.append(f"{joined.left_out} second copies of messages are left out: a trace has no line for them")
+        notes.append(f"{joined.left_out} second copies of messages are omitted: a trace has no line for them")
     return text, notes, ended
 
 

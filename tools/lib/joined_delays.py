@@ -1,11 +1,11 @@
-"""The delays of the messages of a joined trace: the least of the network if the trace is right with it, and else the
+"""The delays of the messages of a joined trace: the minimum of the network if the trace is right with it, and else the
 nearest delay with which it is."""
 
 from .bundles import Refused
 from .records import started_round
 from .times import in_ms
 
-# The greatest delay that an audit takes.
+# The maximum delay that an audit takes.
 MOST_DELAY = 3_600_000_000_000
 
 
@@ -43,7 +43,7 @@ class Delays:
         self.places = {(line.what, line.round): at for at, line in enumerate(joined.journal) if line.kind == "send"}
 
     def chosen(self):
-        """The delays of each link that needs others than the least of the network."""
+        """The delays of each link that needs others than the minimum of the network."""
         delays = {}
         for link, (source, _) in self.nodes.links.items():
             rounds = sorted(number for path, number in self.places if path == source)

@@ -2,19 +2,19 @@
 
 The trace has the form that a law of pals gives to every run within the bounds: each arrival is at the start that reads
 it, with the reading of this start and in the order of the links; a message that no start reads is in flight; the delays
-are the least of the network. A message that needs another delay, since it was late or lost, has one."""
+are the minimum of the network. A message that needs another delay, since it was late or lost, has one."""
 
 from .bundles import Refused
 from .joined_delays import Delays, NotShown
 from .records import Line, before, started_round, whole_rounds
 
-# The greatest reading that an audit takes.
+# The maximum reading that an audit takes.
 MOST_READING = 2**59
 
 
 class Joined:
     """One trace of records: its lines, and the delays of its messages. `rounds` is the number of rounds to which the
-    records are cut, or None; `notes` are sentences on what the trace does not show; `left_out` counts second copies."""
+    records are cut, or None; `notes` are sentences on the parts that the trace does not show; `left_out` counts second copies."""
 
     def __init__(self, nodes, records, rounds=None):
         self.nodes, self.given, self.rounds = nodes, records, rounds
@@ -76,7 +76,7 @@ class Joined:
             raise NotShown(held, f"{path} began round {held} with a held value: an audit can judge the rounds before it")
 
     def take_stops(self):
-        """Takes all stops out of the lines, and gives the lines of the one that is kept: the first by its round."""
+        """Takes all stops out of the lines, and returns the lines of the first one by its round."""
         ends = {}
         for path, lines in self.own.items():
             if lines and lines[-1].kind == "stop":
@@ -96,7 +96,7 @@ class Joined:
 
     def put_at_starts(self, path):
         """Moves each arrival to the start that reads it, or to the missed stop, in the order of the links. Arrivals
-        that neither reads are left out."""
+        that neither reads are omitted."""
         links = [link for link, (_, target) in self.nodes.links.items() if target == path]
         arrived = {(it.what, it.round) for it in self.own[path] if it.kind == "arrive"}
         lines = []
@@ -125,7 +125,7 @@ class Joined:
             yield Line("arrive", link, number - 1, reading, "kept", words)
 
     def ordered(self):
-        """The lines of all nodes: a send only if no other line can be taken, and then one of the least round."""
+        """The lines of all nodes: a send only if no other line can be taken, and then one of the minimum round."""
         left = {path: list(reversed(lines)) for path, lines in self.own.items()}
         journal, sent = [], set()
         while any(left.values()):
@@ -141,7 +141,7 @@ class Joined:
                 sent.add((path, journal[-1].round))
             elif len(journal) == count:
                 stuck = next(lines[-1] for lines in left.values() if lines)
-                raise NotShown(stuck.round, f"no order has each arrival behind its send: {' '.join(stuck.words)}")
+                raise NotShown(stuck.round, f"no order has each arrival after its send: {' '.join(stuck.words)}")
         return journal
 
     def goes_on(self, line, sent):
@@ -151,7 +151,7 @@ class Joined:
         return line.kind != "send"
 
     def stop_lines(self):
-        """The lines of the stop that is kept, a missed one with its cause."""
+        """The lines of the retained stop, a missed one with its cause."""
         for line in self.last:
             words = list(line.words)
             if line.kind == "stop" and line.end == "missed":
@@ -168,7 +168,7 @@ class Joined:
             for name in self.nodes.outputs:
                 found = [record.outs[number, name] for record in self.records.values() if (number, name) in record.outs]
                 if len(found) != 1:
-                    raise Refused(f"{len(found)} nodes tell what {name} shows in round {number}, and one has to")
+                    raise Refused(f"{len(found)} nodes recorded the output {name} of round {number}; expected one")
                 yield found[0]
 
     def row(self, path, number):

@@ -1,4 +1,4 @@
-"""Reads what one node has recorded: its lines of the journal, and what its rounds have left."""
+"""Reads the record of one node: its lines of the journal, and the rows of its rounds."""
 
 import re
 from collections import Counter, namedtuple
@@ -6,8 +6,8 @@ from collections import Counter, namedtuple
 from .answers import NUMBER
 from .bundles import Refused
 
-# A line: its kind, its path or link, its round, its reading (None of a finish), what came of an arrival or which stop
-# it is, its words, and the number of the line in its record.
+# A line: its kind, its path or link, its round, its reading (None of a finish), the result of an arrival or the kind of
+# a stop, its words, and the number of the line in its record.
 Line = namedtuple("Line", "kind what round reading end words at", defaults=(None,))
 # A record: the lines in the node's own order, its rows by round, what root out ports show by round and name, the
 # identity of the design that the node ran (None if it recorded none), the first round that it started with a held value
@@ -77,16 +77,16 @@ def read_record(text, path, nodes):
     reader, notes = Reader(path, nodes), []
     lines = text.split("\n")
     if lines.pop():
-        notes.append(f"the last line of {path} has no end and is left out")
+        notes.append(f"the last line of {path} has no end and is omitted")
     for number, one in enumerate(lines, 1):
         if reader.begins_again(one):
-            notes.append(f"{path} was started again at line {number} of its record: the lines from there on are left "
-                         f"out")
+            notes.append(f"{path} was started again at line {number} of its record: the lines from there on are "
+                         f"omitted")
             break
         if reader.lines and reader.lines[-1].kind == "stop" and one and not one.startswith("#"):
-            raise Refused(f"{path}, line {number}: it stands behind the stop")
+            raise Refused(f"{path}, line {number}: a line after the stop")
         if one and not reader.take(one, number):
-            raise Refused(f"{path}, line {number}: this is no line of the node: {one[:60]}")
+            raise Refused(f"{path}, line {number}: not a line of this node: {one[:60]}")
     record = Record(reader.lines, reader.rows, reader.outs, reader.design, reader.held, notes)
     return without_open_finish(record, nodes.rates[path])
 
@@ -132,7 +132,7 @@ def whole_rounds(record, rate):
 
 
 def before(record, rounds):
-    """A record without what is of later rounds than the first ones."""
+    """A record with its first rounds only."""
     def stays(line):
         return (started_round(line) if line.kind == "stop" else line.round) < rounds
 

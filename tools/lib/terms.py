@@ -101,7 +101,7 @@ class Paths:
         self.terms, self.condition, self.values, self.waiting = terms, condition, values, {}
 
     def leave(self, label, condition=True):
-        """Goes to a label under a condition; the rest goes on."""
+        """Goes to a label under a condition; the rest continues."""
         taken = self.terms.both(self.condition, condition)
         if taken is not False:
             self.waiting.setdefault(label, []).append((taken, dict(self.values)))

@@ -108,7 +108,7 @@ def test_a_killed_node():
             f"stop missed {path}.target 13 300500000\n"
     records = {path: read_record(text, path, run.nodes) for path, text in texts.items()}
     trace = Joined(run.nodes, records, ROUNDS)
-    expect(trace.notes, ["the last line of p.l has no end and is left out"], "the notes")
+    expect(trace.notes, ["the last line of p.l has no end and is omitted"], "the notes")
     expect(audited(run.text, run.given, trace), (0, "sound rounds 12 stop p.m.l 12\n"), "the audit")
     said = list(endings(records, run.nodes))
     expect(any("the record of p.l ends after 12 whole rounds without a stop, at `start p.l 12" in it for it in said),

@@ -171,7 +171,7 @@ def test_join_as_a_program():
         expect((status, json.loads(Bundle("joined", written).scenario)["rounds"]), (0, 1), "rounds")
         for wrong, words in (("start p.a 0 1\n", "p.b, line 1"), ("stop early p.b.i 0 9\nfinish p.b 0\n", "line 2"),
                              ("arrive p.b.i 7 9 kept\n", "no round can be audited"),
-                             ("start p.b 0 _\nfinish p.b 0\n", "no line of the node")):
+                             ("start p.b 0 _\nfinish p.b 0\n", "not a line of this node")):
             record("p.b", wrong)
             status, written, said = tool("join", folder, example)
             expect((status, written, words in said), (1, b"", True), said)
