@@ -73,16 +73,17 @@ typedef enum { PALS_KEPT, PALS_IGNORED, PALS_EARLY, PALS_REFUSED } pals_arrived;
 /* What a node does next. */
 typedef enum { PALS_NOTHING, PALS_START, PALS_STEP, PALS_FINISH, PALS_SEND } pals_action;
 
-/* The event of a record. PALS_ROW follows the last finish of a round: the frame and the outs then have the values at the end
-   of the round. The events from PALS_HELD on are not actions of the theorem: a start with the last values of a link
-   whose message is missing, a restart at a round, a step that trapped, a message that the transport did not accept, and
-   a stop by a clock that is not trusted. */
+/* The event of a record. PALS_ROW follows the last finish of a round: the frame and the outs then have the values at
+   the end of the round. The events from PALS_HELD on are not actions of the theorem: a start with the last values of a
+   link whose message is missing, a restart at a round, a step that trapped, a message that the transport did not
+   accept, and a stop by a clock that is not trusted. */
 typedef enum {
     PALS_STARTED, PALS_STEPPED, PALS_FINISHED, PALS_SENT, PALS_ARRIVED, PALS_ROW, PALS_STOP_EARLY, PALS_STOP_MISSED,
     PALS_HELD, PALS_RESTARTED, PALS_TRAPPED, PALS_UNSENT, PALS_STOP_CLOCK
 } pals_event;
 
-/* What a node does at a start that misses a message: it stops; or it takes the last values of the link and continues. */
+/* The reaction of a node to a start that misses a message: it stops; or it takes the last values of the link and
+   continues. */
 typedef enum { PALS_STOPS, PALS_HOLDS } pals_policy;
 
 /* A record: a line of a trace. */

@@ -1,7 +1,7 @@
 /* All nodes of a design in one process, with clocks that differ from the time by a constant, and a constant delay for
-   each link: offsets STEP OFFSET .. DELAY .. < SCENARIO. Time advances in steps of STEP nanoseconds; at each of them each
-   node takes its messages and is polled. With `jump NODE TIME NS` after them the clock of the node with this number
-   shows NS more at one time. It writes `PATH LINE` for each line that a node records. */
+   each link: offsets STEP OFFSET .. DELAY .. < SCENARIO. Time advances in steps of STEP nanoseconds; at each of them
+   each node takes its messages and is polled. With `jump NODE TIME NS` after them the clock of the node with this
+   number shows NS more at one time. It writes `PATH LINE` for each line that a node records. */
 #include <stdio.h>
 #include <stdlib.h>
 #include <string.h>

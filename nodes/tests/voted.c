@@ -103,8 +103,8 @@ static bool read_fault(const char *word)
     fault *f = &faults[fault_count];
     int read = 0;
     if ((fault_count == (uint32_t)MOST_FAULTS) ||
-        (sscanf(word, "%" SCNu32 ":%" SCNu32 ":%" SCNu32 ":%" SCNu64 ":%n", &f->link, &f->replica, &f->target, &f->round,
-                &read) != 4)) {
+        (sscanf(word, "%" SCNu32 ":%" SCNu32 ":%" SCNu32 ":%" SCNu64 ":%n", &f->link, &f->replica, &f->target,
+                &f->round, &read) != 4)) {
         return false;
     }
     for (const char *at = &word[read]; *at != '\0'; f->count++) {

@@ -1,8 +1,8 @@
 /* One node of a design as a process, with messages over UDP (docs/c_nodes.md).
 
    node PATH PEERS START RECORD [OPTION ..] < SCENARIO runs the node of PATH (options.h, peers.h). Standard input has
-   `rounds N` and `input NAME VALUE ..` (demo/scenario.h); RECORD gets its lines, for tools/join. node now SECONDS writes
-   the reading of CLOCK_MONOTONIC in so many seconds, for START.
+   `rounds N` and `input NAME VALUE ..` (demo/scenario.h); RECORD gets its lines, for tools/join. node now SECONDS
+   writes the reading of CLOCK_MONOTONIC in so many seconds, for START.
 
    Status: 0 if all rounds were run; 1 if the node stopped, with the cause on standard error; 2 if it was called wrongly
    or came too late. */

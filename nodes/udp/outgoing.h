@@ -1,5 +1,5 @@
-/* Messages that wait until they are sent: a node's message leaves after the minimum time of the network, so that a faster
-   network keeps this bound. */
+/* Messages that wait until they are sent: a node's message leaves after the minimum time of the network, so that a
+   faster network meets this bound. */
 #ifndef PALS_UDP_OUTGOING_H
 #define PALS_UDP_OUTGOING_H
 #include "pals_message.h"

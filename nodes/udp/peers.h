@@ -7,8 +7,8 @@
 
 enum { MOST_PEERS = 256 };
 
-/* Reads the file; false, with a line on standard error, if it cannot be read, a line is wrong, or a node that the tables
-   of the design name is missing. */
+/* Reads the file; false, with a line on standard error, if it cannot be read, a line is wrong, or a node that the
+   tables of the design name is missing. */
 bool peers_read(const char *file);
 
 /* The number of the node of a path, or MOST_PEERS if the design does not have it. */

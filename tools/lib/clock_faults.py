@@ -1,8 +1,8 @@
 """Which clock is likely at fault if messages do not fit the bounds, and how clocks drift against each other.
 
-A message from A to B that is sent at the reading p and arrives at the reading r took r - p by the two clocks. If its time
-was within the network's bounds, the clock of B is ahead of that of A by r - p less this time. Messages in both directions
-give an interval for each pair of nodes."""
+A message from A to B that is sent at the reading p and arrives at the reading r took r - p by the two clocks. If its
+time was within the network's bounds, the clock of B is ahead of the clock of A by r - p less this time. Messages in
+both directions give an interval for each pair of nodes."""
 
 from collections import namedtuple
 

@@ -25,7 +25,8 @@ class TextLines:
         thread = self.model.by_path.get(component.path.lower())
         behaviour = behaviour_of(thread.impl) if thread and thread.impl else None
         if behaviour is None:
-            raise Refused(f"{self.bundle.path} is not the design of the listing: it has no behaviour of {component.path}")
+            raise Refused(f"{self.bundle.path} is not the design of the listing: it has no behaviour of "
+                          f"{component.path}")
         return {place: self.line(offset) for place, offset in self.places(component, behaviour)}
 
     def line(self, offset):

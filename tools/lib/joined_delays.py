@@ -89,8 +89,9 @@ class Delays:
                            f"{target} read the message of round {number} to {link} {in_ms(-high)} before its send by "
                            f"the two clocks: the clock of {source} is ahead, or that of {target} is behind")
         if low > MOST_DELAY or (high is not None and high < low):
-            raise NotShown(self.cut(link, number, number), f"the message of round {number} to {link} would be under way for "
-                           f"{in_ms(low)} by the two clocks, which no trace can show")
+            raise NotShown(self.cut(link, number, number),
+                           f"the message of round {number} to {link} would be under way for {in_ms(low)} by the two "
+                           f"clocks, which no trace can show")
 
     def cut(self, link, number, rounds):
         """The number of rounds before a look that no delay explains: `rounds`, or all whole ones if it is the stop."""

@@ -14,7 +14,8 @@ MOST_READING = 2**59
 
 class Joined:
     """One trace of records: its lines, and the delays of its messages. `rounds` is the number of rounds to which the
-    records are cut, or None; `notes` are sentences on the parts that the trace does not show; `left_out` counts second copies."""
+    records are cut, or None; `notes` are sentences on the parts that the trace does not show; `left_out` counts second
+    copies."""
 
     def __init__(self, nodes, records, rounds=None):
         self.nodes, self.given, self.rounds = nodes, records, rounds
@@ -73,7 +74,8 @@ class Joined:
         path, held = min(((path, record.held) for path, record in self.given.items() if record.held is not None),
                          key=lambda it: it[1], default=(None, None))
         if held is not None and (self.rounds is None or held < self.rounds):
-            raise NotShown(held, f"{path} began round {held} with a held value: an audit can judge the rounds before it")
+            raise NotShown(held, f"{path} began round {held} with a held value: an audit can judge the rounds before "
+                           f"it")
 
     def take_stops(self):
         """Takes all stops out of the lines, and returns the lines of the first one by its round."""

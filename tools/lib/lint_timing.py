@@ -162,6 +162,7 @@ def shared_inputs(model):
         if len(paths) > 1:
             yield Found(
                 "shared-input", port.name.text, port.name.offset,
-                f"{' and '.join(paths)} read the root's in port {port.name.text}: the composition has one value for all",
+                f"{' and '.join(paths)} read the root's in port {port.name.text}: the composition has one value for "
+                f"all",
                 "let one component sample it and send it to the others, or give all nodes the same sample",
             )

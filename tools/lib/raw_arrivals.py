@@ -1,6 +1,6 @@
 """The readings at which messages arrived. A joined trace has each arrival at the start that reads it; the bundle keeps
-the recorded readings as comments of the design: `-- arrived LINK ROUND READING ..`, with one reading for each round from
-ROUND on, and `_` for a message without an arrival."""
+the recorded readings as comments of the design: `-- arrived LINK ROUND READING ..`, with one reading for each round
+from ROUND on, and `_` for a message without an arrival."""
 
 import re
 

@@ -14,7 +14,8 @@ def endings(records, nodes):
         elif last.kind == "stop":
             stops[path] = (started_round(last), last.reading)
             why = "came early" if last.end == "early" else "was not there"
-            yield f"{path} stopped in round {started_round(last)}: the message of round {last.round} to {last.what} {why}"
+            yield (f"{path} stopped in round {started_round(last)}: the message of round {last.round} to {last.what} "
+                   f"{why}")
         else:
             rounds = whole_rounds(record, nodes.rates[path])
             yield f"the record of {path} ends after {rounds} whole rounds without a stop, at `{' '.join(last.words)}`"

@@ -1,5 +1,5 @@
-"""The parts of a record between restarts. All nodes restart at one round R, with the design's initial frames, so the part
-from there on is a run by itself: its rounds are counted from R, and its readings from the time R * T."""
+"""The parts of a record between restarts. All nodes restart at one round R, with the design's initial frames, so the
+part from there on is a run by itself: its rounds are counted from R, and its readings from the time R * T."""
 
 import re
 

@@ -35,8 +35,8 @@ def sizes(processor, listing):
         sources = [os.path.join(where, it) for it in c_of(listing, where)]
         for source in [*sources, *(os.path.join(NODES, it) for it in NEEDED)]:
             base = os.path.join(where, os.path.basename(source)[:-2])
-            command = [f"{name}-gcc", "-std=c99", *strict, *flags, "-Os", "-ffreestanding", "-fstack-usage", "-I", NODES,
-                       "-I", where, "-c", "-o", f"{base}.o", source]
+            command = [f"{name}-gcc", "-std=c99", *strict, *flags, "-Os", "-ffreestanding", "-fstack-usage", "-I",
+                       NODES, "-I", where, "-c", "-o", f"{base}.o", source]
             ran = subprocess.run(command, stdout=subprocess.PIPE, stderr=subprocess.STDOUT, timeout=WITHIN, check=False)
             if ran.returncode:
                 raise Wrong(f"{name}-gcc says of {source}: {ran.stdout.decode()[:2000]}")

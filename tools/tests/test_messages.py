@@ -6,7 +6,7 @@ import struct
 import subprocess
 import zlib
 
-from tests.common import WITHIN, Skipped, expect
+from tests.common import WITHIN, Skipped, blocks, expect
 from tests.nodes import CHECKED, MORE, NODES, STRICT, compilers, folder
 
 SOURCES = ["pals_message.c", "tests/messages.c"]
@@ -64,6 +64,12 @@ def test_messages_have_the_bytes_of_the_page():
     for (data, wanted), line in zip(cases, found):
         expect(line, wanted, data.hex())
     expect(len(found), len(cases), "the results")
+
+
+def test_the_example_of_the_page():
+    """The bytes that the page shows are those of the message that it states."""
+    shown = next(text for kind, text in blocks("docs/messages.md") if kind == "")
+    expect(bytes.fromhex(shown.replace("\n", " ")), message([5, None, -1]), "the bytes")
 
 
 def test_random_messages():

@@ -36,8 +36,8 @@ def test_500_rounds_on_an_arm():
     sources = [os.path.join(where, it) for it in c_of(page("examples/turn_controller.listing"), where)]
     sources += [os.path.join(NODES, it) for it in (*OWN, *HOST, "tests/meeting.c")]
     path = os.path.join(where, "meeting")
-    command = [f"{name}-gcc", "-std=gnu11", "-mcpu=cortex-a7", "-marm", "-Os", "--specs=rdimon.specs", "-I", NODES, "-I",
-               os.path.join(NODES, "demo"), "-I", where, "-o", path, *sources]
+    command = [f"{name}-gcc", "-std=gnu11", "-mcpu=cortex-a7", "-marm", "-Os", "--specs=rdimon.specs", "-I", NODES,
+               "-I", os.path.join(NODES, "demo"), "-I", where, "-o", path, *sources]
     linked = subprocess.run(command, stdout=subprocess.PIPE, stderr=subprocess.STDOUT, timeout=WITHIN, check=False)
     if linked.returncode:
         raise Skipped(f"no program for it can be linked: {linked.stdout.decode()[:200]}")

@@ -7,7 +7,7 @@ import time
 from lib.bundles import read
 from lib.records import read_record
 from tests.common import Skipped, Wrong, page, tool
-from tests.nodes import design_nodes, folder, pals
+from tests.nodes import MORE, design_nodes, folder, pals
 from tests.test_demo import slower
 from tests.udp import Network, Run, changed_listing, udp_program
 
@@ -25,7 +25,8 @@ FAULTS = {
              (M, "us after the start that missed it")),
     "damaged": ({"faults": [f"flip:{M_T}:2"]}, "sound rounds 3 stop p.m.t 2", " slow",
                 (M, "is refused: it is damaged")),
-    "ahead": ({"words": {T: ["ahead", "300000000"]}}, None, "likely at fault: the clock of p.t, which is ahead of", None),
+    "ahead": ({"words": {T: ["ahead", "300000000"]}}, None, "likely at fault: the clock of p.t, which is ahead of",
+              None),
     "killed": ({"kill": {L: 4.5}}, "sound rounds 4 stop p.m.l 4", "within", (M, "from p.l was not there")),
     "started late": ({"delay": {T: 2.2}}, None, "", (T, "p.t: too late: the start was")),
     "another design": ({"other": R}, None, "", (M, "its sender runs another design")),
@@ -35,18 +36,18 @@ FAULTS = {
 
 
 class Nodes:
-    """The turn controller, 50 times slower, so that a host that has other work keeps its bounds."""
+    """The turn controller, slower, so that a host that has other work keeps its bounds."""
 
-    def __init__(self):
+    def __init__(self, times=SLOWER, rounds=ROUNDS):
         design = page("examples/turn_controller.pals").partition("\n%%%\n")[0] + "\n"
-        self.text = slower(design, r"\d+ ms", SLOWER)
+        self.text = slower(design, r"\d+ ms", times)
         listing = slower(page("examples/turn_controller.listing"),
-                         r"(?m)^(?:period|skew|execution|network| release) .*$", SLOWER)
+                         r"(?m)^(?:period|skew|execution|network| release) .*$", times)
         self.program, self.other = udp_program(listing), udp_program(changed_listing(listing))
-        self.nodes, self.given = design_nodes(self.text), {"rounds": ROUNDS, "inputs": {"goal": [10]}}
+        self.nodes, self.given = design_nodes(self.text), {"rounds": rounds, "inputs": {"goal": [10]}}
         self.design = os.path.join(folder(), "udp.aadl")
         self.scenario = os.path.join(folder(), "udp.json")
-        for path, text in ((self.design, self.text), (self.scenario, '{"rounds": 6, "inputs": {"goal": [10]}}')):
+        for path, text in ((self.design, self.text), (self.scenario, json.dumps(self.given))):
             with open(path, "w", encoding="ascii") as file:
                 file.write(text)
 
@@ -127,3 +128,23 @@ def test_nodes_over_udp():
     if all(late for _, late in left.values()):
         raise Skipped(f"this host wakes up its nodes too late: {', '.join(left)}")
     raise Wrong(f"not named: {left}")
+
+
+def test_500_rounds_over_udp():
+    """500 rounds of 20 ms over UDP are sound and within the bounds, on a host that wakes its nodes up in time."""
+    if not MORE:
+        raise Skipped("it takes 12 seconds a try; --more runs it")
+    nodes = Nodes(1, 500)
+    network = Network(len(nodes.nodes.paths))
+    try:
+        for number in range(TRIES):
+            run = nodes.begin(network, number, {})
+            run.end()
+            found = nodes.judged(run.where)
+            if (found[0], found[1].split("\n")[0]) == ("sound rounds 500 stop none", "within"):
+                return
+            if not nodes.was_late(run.where):
+                raise Wrong(found)
+    finally:
+        network.remove()
+    raise Skipped(f"this host wakes up its nodes too late: {found[0]}")

@@ -20,7 +20,7 @@ def run_ip(*words):
 
 
 class Network:
-    """A namespace for each node and one for the proxy, joined by a bridge; or one host, if namespaces are not allowed."""
+    """A namespace for each node and one for the proxy, joined by a bridge; one host, if namespaces are not allowed."""
 
     def __init__(self, count):
         self.names = [f"pals{os.getpid()}n{number}" for number in range(count)]
