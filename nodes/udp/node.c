@@ -23,7 +23,7 @@
 #include "records.h"
 #include "scenario.h"
 
-enum { BILLION = 1000000000, KINDS = PALS_NOT_CANONICAL + 1, LINGER = 2 };
+enum { BILLION = 1000000000, KINDS = PALS_NOT_CANONICAL + 1, LINGER = 2, MOST_SECONDS = 86400 };
 
 static options given;
 static int port;
@@ -228,12 +228,17 @@ static bool open_all(void)
     return true;
 }
 
-static int write_now(const char *seconds)
+static int write_now(const char *word)
 {
+    char *end = NULL;
     struct timespec t;
+    const int64_t seconds = (int64_t)strtoll(word, &end, 10);
+    if ((end == word) || (*end != '\0') || (seconds < 0) || (seconds > MOST_SECONDS)) {
+        (void)fprintf(stderr, "usage: node now SECONDS\n");
+        return 2;
+    }
     (void)clock_gettime(CLOCK_MONOTONIC, &t);
-    const int64_t from_now = (int64_t)strtoll(seconds, NULL, 10) * BILLION;
-    (void)printf("%" PRId64 "\n", ((int64_t)t.tv_sec * BILLION) + t.tv_nsec + from_now);
+    (void)printf("%" PRId64 "\n", (((int64_t)t.tv_sec + seconds) * BILLION) + t.tv_nsec);
     return 0;
 }
 

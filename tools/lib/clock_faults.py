@@ -13,6 +13,8 @@ from .times import in_ms
 Message = namedtuple("Message", "source target round took exact")
 # The rounds of a run are divided into at most so many windows, of at least so many rounds each.
 MOST_WINDOWS, LEAST_ROUNDS = 10, 5
+# Of so many nodes each is tried as the one whose clock is at fault.
+MOST_TRIED = 40
 
 
 def messages_of(lines, at_starts, nodes):
@@ -71,7 +73,15 @@ class Clocks:
         """The nodes of which each by its clock explains all messages, if no clocks within the skew do; else None."""
         if all(map(self.fits, self.windows.values())):
             return None
-        return [path for path in self.nodes.paths if all(self.fits(it, path) for it in self.windows.values())]
+        return [path for path in self.candidates() if all(self.fits(it, path) for it in self.windows.values())]
+
+    def candidates(self):
+        """The nodes that are tried as suspects: of many nodes those with a pair whose clocks are too far apart."""
+        if len(self.nodes.paths) <= MOST_TRIED:
+            return self.nodes.paths
+        apart = [pair for pair in self.pairs() if self.interval(*pair, self.all)[0] > 2 * self.most or
+                 self.interval(*pair, self.all)[1] < -2 * self.most]
+        return [path for path in self.nodes.paths if any(path in pair for pair in apart)]
 
     def interval(self, one, other, highest):
         """The least and the most by which the clock of `other` is ahead of that of `one`; None if messages in one of
