@@ -50,16 +50,19 @@ static void put_field(text *line, uint64_t number)
 
 uint32_t pals_line(char to[PALS_LINE], const pals_node *node, const pals_record *record, const char *link)
 {
-    static const char *const EVENTS[] = {"start ", "step ", "finish ", "send ", "arrive ", "", "stop early ",
-                                         "stop missed "};
+    static const char *const EVENTS[] = {"start ",      "step ",        "finish ", "send ",    "arrive ",
+                                         "",            "stop early ",  "stop missed ",        "hold ",
+                                         "restart ",    "# trap ",      "# unsent ",           "# stop clock "};
     static const char *const ARRIVED[] = {" kept", " ignored", " early", ""};
+    static const char *const TRAPS[] = {"", " overflow", " zero-divisor", " bad-state"};
     const bool of_link = (record->event == PALS_ARRIVED) || (record->event == PALS_STOP_EARLY) ||
-                         (record->event == PALS_STOP_MISSED);
+                         (record->event == PALS_STOP_MISSED) || (record->event == PALS_HELD) ||
+                         (record->event == PALS_UNSENT);
     text line = {to, 0};
     put(&line, EVENTS[record->event]);
     put(&line, of_link ? link : node->of->path);
     put_field(&line, record->round);
-    if (record->event == PALS_STEPPED) {
+    if ((record->event == PALS_STEPPED) || (record->event == PALS_TRAPPED)) {
         put_field(&line, record->step);
     }
     if (record->event != PALS_FINISHED) {
@@ -68,6 +71,25 @@ uint32_t pals_line(char to[PALS_LINE], const pals_node *node, const pals_record 
     if (record->event == PALS_ARRIVED) {
         put(&line, ARRIVED[record->arrived]);
     }
+    if (record->event == PALS_TRAPPED) {
+        put(&line, TRAPS[record->trap]);
+    }
+    return line.length;
+}
+
+uint32_t pals_design_line(char to[PALS_LINE], const pals_node *node)
+{
+    static const char DIGITS[] = "0123456789abcdef";
+    char digits[17];
+    text line = {to, 0};
+    for (uint32_t i = 0; i < 16U; i++) {
+        digits[i] = DIGITS[(node->of->design >> (60U - (4U * i))) & 15U];
+    }
+    digits[16] = '\0';
+    put(&line, "design ");
+    put(&line, node->of->path);
+    put(&line, " ");
+    put(&line, digits);
     return line.length;
 }
 

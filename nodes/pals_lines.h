@@ -33,6 +33,9 @@ enum { PALS_LINE = 8192 };
 
 /* Each call puts a line into `to`, without a line end and with a zero byte behind it, and gives its length. */
 
+/* The first line of a record: design PATH IDENTITY */
+uint32_t pals_design_line(char to[PALS_LINE], const pals_node *node);
+
 /* A record but PALS_ROW; `link` is the name of its link, PATH.PORT of the in port that it goes to. The cause of a
    missed message is left out, since no node knows it. */
 uint32_t pals_line(char to[PALS_LINE], const pals_node *node, const pals_record *record, const char *link);

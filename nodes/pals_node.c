@@ -1,10 +1,11 @@
 #include "pals_node.h"
+#include <stddef.h>
 
 /* ---------------------------------------------------------------------------------------------------- records */
 
 static void record(const pals_node *node, pals_event event, uint32_t link, uint64_t round, pals_arrived arrived)
 {
-    const pals_record made = {event, link, round, node->steps, node->reading, arrived};
+    const pals_record made = {event, link, round, node->steps, PALS_GOES, node->reading, arrived};
     node->hooks->record(node->user, node, &made);
 }
 
@@ -18,6 +19,9 @@ static void stop(pals_node *node, pals_event event, uint32_t link, uint64_t roun
 {
     node->phase = PALS_STOPPED;
     record(node, event, link, round, PALS_REFUSED);
+    if (node->hooks->stop != NULL) {
+        node->hooks->stop(node->user, node, event, link, round);
+    }
 }
 
 /* The clock does not go back. */
@@ -67,14 +71,41 @@ static bool is_last_round(const pals_node *node)
 
 /* --------------------------------------------------------------------------------------------------- messages */
 
+/* Sets a node before a round, which is its first one: all slots are empty, and the frame is the initial one. */
+static void begin_at(pals_node *node, uint64_t round)
+{
+    const pals_component *of = node->of;
+    pals_value *slot = node->memory.slots;
+    for (uint32_t l = 0; l < of->links; l++) {
+        for (uint32_t i = 0; i < of->link[l].rate; i++) {
+            slot[i] = PALS_ABSENT;
+        }
+        slot = &slot[of->link[l].rate];
+        node->memory.full[l] = false;
+    }
+    node->first = round;
+    node->count = round;
+    node->steps = 0;
+    node->sent = true;
+    node->degraded = false;
+    node->halted = false;
+    node->alarm = ((int64_t)round + 1) * of->period;
+    node->phase = is_last_round(node) ? PALS_DONE : PALS_WAITING;
+    of->init(node->memory.frame);
+}
+
 void pals_open(pals_node *node, const pals_component *of, const pals_memory *memory, const pals_hooks *hooks,
                void *user, uint64_t rounds)
 {
-    *node = (pals_node){of, hooks, user, *memory, rounds, 0, 0, PALS_WAITING, true, of->period, 0};
-    for (uint32_t l = 0; l < of->links; l++) {
-        memory->full[l] = false;
-    }
-    of->init(memory->frame);
+    *node = (pals_node){.of = of, .hooks = hooks, .user = user, .memory = *memory, .rounds = rounds};
+    begin_at(node, 0);
+}
+
+void pals_restart(pals_node *node, uint64_t round, int64_t reading)
+{
+    set_reading(node, reading);
+    begin_at(node, round);
+    record(node, PALS_RESTARTED, 0, round, PALS_KEPT);
 }
 
 /* Whether these are values of a link. */
@@ -127,7 +158,7 @@ pals_arrived pals_arrive(pals_node *node, uint32_t link, uint64_t round, const p
 static uint32_t missed(const pals_node *node)
 {
     uint32_t l = 0;
-    if (node->count == 0U) {
+    if (node->count == node->first) {
         return node->of->links;
     }
     while ((l < node->of->links) && node->memory.full[l]) {
@@ -155,7 +186,7 @@ static void take_ins(pals_node *node)
         node->memory.ins[i] = PALS_ABSENT;
     }
     for (uint32_t l = 0; l < of->links; l++) {
-        if (node->count > 0U) {
+        if (node->count > node->first) {
             feed(node, &of->link[l], slot);
         }
         slot = &slot[of->link[l].rate];
@@ -165,6 +196,17 @@ static void take_ins(pals_node *node)
         const pals_value value = node->hooks->read(node->user, of->input[i].number, node->count);
         feed(node, &of->input[i], &value);
     }
+}
+
+/* Records each link whose message is missing. Its slot still has the values of the last message, or absent ones. */
+static void hold(pals_node *node)
+{
+    for (uint32_t l = 0; l < node->of->links; l++) {
+        if (!node->memory.full[l]) {
+            record(node, PALS_HELD, node->of->link[l].number, node->count - 1U, PALS_KEPT);
+        }
+    }
+    node->degraded = true;
 }
 
 pals_answer pals_start(pals_node *node, int64_t reading)
@@ -180,10 +222,16 @@ pals_answer pals_start(pals_node *node, int64_t reading)
         return PALS_NOT_YET;
     }
     set_reading(node, reading);
-    const uint32_t lacks = missed(node);
-    if (lacks < of->links) {
-        stop(node, PALS_STOP_MISSED, of->link[lacks].number, node->count - 1U);
-        return PALS_MISSED;
+    if ((node->hooks->trusted != NULL) && !node->hooks->trusted(node->user)) {
+        stop(node, PALS_STOP_CLOCK, 0, node->count);
+        return PALS_OVER;
+    }
+    if (missed(node) < of->links) {
+        if (node->policy == PALS_STOPS) {
+            stop(node, PALS_STOP_MISSED, of->link[missed(node)].number, node->count - 1U);
+            return PALS_MISSED;
+        }
+        hold(node);
     }
     take_ins(node);
     for (uint32_t i = 0; i < (of->outs * of->rate); i++) {
@@ -217,33 +265,75 @@ static pals_phase behind_round(const pals_node *node)
     return is_last_round(node) ? PALS_DONE : PALS_WAITING;
 }
 
+/* Records a trap once. The trap stays in the frame: a halted component runs its rounds, and its outputs are absent. */
+static void note_trap(pals_node *node, int32_t trap)
+{
+    if ((trap == PALS_GOES) || node->halted) {
+        return;
+    }
+    const pals_record made = {PALS_TRAPPED, 0, node->count - 1U, node->steps, trap, node->reading, PALS_KEPT};
+    node->halted = true;
+    node->hooks->record(node->user, node, &made);
+    if (node->hooks->trap != NULL) {
+        node->hooks->trap(node->user, node, made.round, made.step, trap);
+    }
+}
+
+/* Passes the values of the root's out ports on, once the round is sent and all its steps are finished. */
+static void show_outputs(const pals_node *node)
+{
+    const pals_component *of = node->of;
+    if ((node->hooks->output == NULL) || !node->sent || (node->steps < of->rate)) {
+        return;
+    }
+    for (uint32_t o = 0; o < of->outputs; o++) {
+        const pals_value *values = &node->memory.outs[of->output[o].port * of->rate];
+        node->hooks->output(node->user, of->output[o].number, node->count - 1U, values, of->rate);
+    }
+}
+
 pals_answer pals_finish(pals_node *node)
 {
     const pals_component *of = node->of;
-    pals_value out[PALS_MOST_PORTS];
+    pals_value *out = node->memory.values;
     if (node->phase != PALS_RUNNING) {
         return PALS_NOT_RUNNING;
     }
-    /* A trap stays in the frame: a halted component goes on with its rounds, and its outputs are absent. */
-    (void)of->step(node->memory.frame, &node->memory.ins[node->steps * of->ins], out);
+    const int32_t trap = of->step(node->memory.frame, &node->memory.ins[node->steps * of->ins], out);
     for (uint32_t o = 0; o < of->outs; o++) {
         node->memory.outs[(o * of->rate) + node->steps] = out[o];
     }
+    note_trap(node, trap);
     node->steps += 1U;
     record_own(node, PALS_FINISHED);
     if (node->steps < of->rate) {
         node->phase = PALS_BETWEEN;
     } else {
         record_own(node, PALS_ROW);
+        show_outputs(node);
         node->phase = node->sent ? behind_round(node) : PALS_HOLDING;
     }
     return PALS_OK;
 }
 
-pals_answer pals_send(pals_node *node, int64_t reading)
+/* Sends the messages of the round in hand. */
+static void send_all(pals_node *node)
 {
     const pals_component *of = node->of;
-    pals_value values[PALS_MOST_RATE];
+    pals_value *values = node->memory.values;
+    for (uint32_t t = 0; t < of->targets; t++) {
+        const pals_target *target = &of->target[t];
+        for (uint32_t i = 0; i < of->rate; i++) {
+            values[i] = (i < of->sent) ? node->memory.outs[(target->port * of->rate) + i] : PALS_ABSENT;
+        }
+        if (!node->hooks->send(node->user, target->number, node->count - 1U, values, of->rate)) {
+            record(node, PALS_UNSENT, target->number, node->count - 1U, PALS_KEPT);
+        }
+    }
+}
+
+pals_answer pals_send(pals_node *node, int64_t reading)
+{
     if (!may_send(node)) {
         return PALS_NOT_FINISHED;
     }
@@ -252,15 +342,11 @@ pals_answer pals_send(pals_node *node, int64_t reading)
     }
     set_reading(node, reading);
     node->sent = true;
+    record_own(node, PALS_SENT);
+    send_all(node);
+    show_outputs(node);
     if (node->phase == PALS_HOLDING) {
         node->phase = behind_round(node);
-    }
-    record_own(node, PALS_SENT);
-    for (uint32_t t = 0; t < of->targets; t++) {
-        for (uint32_t i = 0; i < of->rate; i++) {
-            values[i] = (i < of->sent) ? node->memory.outs[(of->target[t].port * of->rate) + i] : PALS_ABSENT;
-        }
-        node->hooks->send(node->user, of->target[t].number, node->count - 1U, values, of->rate);
     }
     return PALS_OK;
 }

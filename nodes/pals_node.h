@@ -1,4 +1,4 @@
-/* One node: it runs one component of a design by its own clock, and tells what it does.
+/* One node: it runs one component of a design by its own clock, and records its actions.
 
    A node's loop is:   reading = clock;
                        for each message that has come: pals_arrive(node, link, round, values, count, reading);
@@ -28,6 +28,7 @@ typedef struct {
 /* A component, as its listing has it. Times are in nanoseconds. */
 typedef struct {
     const char *path;
+    uint64_t design;          /* the identity of the design: the first 64 bits of the SHA-256 of its listing */
     uint32_t rate;            /* k: how many steps a round has */
     uint32_t sent;            /* k': how many of them a message carries */
     int64_t period;           /* T */
@@ -42,6 +43,8 @@ typedef struct {
     const pals_source *link;  /* in the order of the component's in ports */
     const pals_source *input;
     const pals_target *target;
+    const pals_target *output; /* the root out ports that show the component, by their numbers */
+    uint32_t outputs;
     void (*init)(void *frame);
     int32_t (*step)(void *frame, const pals_value in[], pals_value out[]);
     const struct pals_names *names; /* for pals_lines alone, and may be NULL */
@@ -70,32 +73,51 @@ typedef enum { PALS_KEPT, PALS_IGNORED, PALS_EARLY, PALS_REFUSED } pals_arrived;
 /* What a node does next. */
 typedef enum { PALS_NOTHING, PALS_START, PALS_STEP, PALS_FINISH, PALS_SEND } pals_action;
 
-/* What stands in a record. PALS_ROW is behind the last finish of a round: the frame and the outs are then what the
-   round has left. */
+/* The event of a record. PALS_ROW follows the last finish of a round: the frame and the outs then have the values at
+   the end of the round. The events from PALS_HELD on are not actions of the theorem: a start with the last values of a
+   link whose message is missing, a restart at a round, a step that trapped, a message that the transport did not
+   accept, and a stop by a clock that is not trusted. */
 typedef enum {
-    PALS_STARTED, PALS_STEPPED, PALS_FINISHED, PALS_SENT, PALS_ARRIVED, PALS_ROW, PALS_STOP_EARLY, PALS_STOP_MISSED
+    PALS_STARTED, PALS_STEPPED, PALS_FINISHED, PALS_SENT, PALS_ARRIVED, PALS_ROW, PALS_STOP_EARLY, PALS_STOP_MISSED,
+    PALS_HELD, PALS_RESTARTED, PALS_TRAPPED, PALS_UNSENT, PALS_STOP_CLOCK
 } pals_event;
+
+/* The reaction of a node to a start that misses a message: it stops; or it takes the last values of the link and
+   continues. */
+typedef enum { PALS_STOPS, PALS_HOLDS } pals_policy;
 
 /* A record: a line of a trace. */
 typedef struct {
     pals_event event;
-    uint32_t link;        /* of an arrival and of a stop */
+    uint32_t link;        /* of an arrival, a stop, PALS_HELD and PALS_UNSENT */
     uint64_t round;       /* in these, the round of the message */
-    uint32_t step;        /* of PALS_STEPPED */
+    uint32_t step;        /* of PALS_STEPPED and PALS_TRAPPED */
+    int32_t trap;         /* of PALS_TRAPPED */
     int64_t reading;      /* none in PALS_FINISHED and PALS_ROW */
     pals_arrived arrived; /* of PALS_ARRIVED */
 } pals_record;
 
 typedef struct pals_node pals_node;
 
-/* What a node needs of what is round it. `user` is what pals_open was given. */
+/* The functions that a node calls. `user` is what pals_open was given. The last four may be NULL. */
 typedef struct {
-    /* Puts a message on its way. It has `count` values; those of steps behind k' are absent. */
-    void (*send)(void *user, uint32_t link, uint64_t round, const pals_value values[], uint32_t count);
+    /* Puts a message on its way, and returns whether the transport accepted it. It has `count` values; those of steps
+       after k' are absent. */
+    bool (*send)(void *user, uint32_t link, uint64_t round, const pals_value values[], uint32_t count);
     /* The value of an in port of the root in a round: called once, at the start of the round. */
     pals_value (*read)(void *user, uint32_t input, uint64_t round);
-    /* Takes a record; it is gone when the call ends. */
+    /* Takes a record, which is valid until the call ends. */
     void (*record)(void *user, const pals_node *node, const pals_record *record);
+    /* Takes the values of a root out port in a round, one for each step: called once a round, with the send, or after
+       the last step if steps run after it. */
+    void (*output)(void *user, uint32_t output, uint64_t round, const pals_value values[], uint32_t count);
+    /* A step trapped: the component is halted, and its outputs are absent from now on. */
+    void (*trap)(void *user, const pals_node *node, uint64_t round, uint32_t step, int32_t trap);
+    /* The node has stopped: PALS_STOP_EARLY or PALS_STOP_MISSED with the link and the round of the message, or
+       PALS_STOP_CLOCK with the round that was not started. */
+    void (*stop)(void *user, const pals_node *node, pals_event cause, uint32_t link, uint64_t round);
+    /* Whether the clock is synchronised: asked at each start. If it is not, the node stops. */
+    bool (*trusted)(void *user);
 } pals_hooks;
 
 /* The memory of a node, in the lengths that its component needs. */
@@ -105,6 +127,7 @@ typedef struct {
     bool *full;         /* one for each link */
     pals_value *ins;    /* rate * ins, step by step */
     pals_value *outs;   /* outs * rate, port by port */
+    pals_value *values; /* the larger of outs and rate: the values of a step, or of a message */
 } pals_memory;
 
 struct pals_node {
@@ -115,15 +138,23 @@ struct pals_node {
     uint64_t rounds;   /* how many it makes; 0: no end */
     uint64_t count;    /* how many it has started */
     uint32_t steps;    /* how many of the round in hand are finished */
+    uint64_t first;    /* the first round, which reads no messages: 0, or that of a restart */
+    pals_policy policy;
+    bool degraded;     /* whether a round was started with held values since the first one */
+    bool halted;       /* whether a trap was recorded */
     pals_phase phase;
     bool sent;         /* whether round count - 1 is sent; true before the first */
     int64_t alarm;     /* of round count */
     int64_t reading;   /* the last one */
 };
 
-/* A node before its first round. */
+/* Opens a node before its first round. Its policy is PALS_STOPS; set `policy` for another one. */
 void pals_open(pals_node *node, const pals_component *of, const pals_memory *memory, const pals_hooks *hooks,
                void *user, uint64_t rounds);
+
+/* Sets a node, in any phase, before a round that it begins as its first one: with the initial frame, without the
+   messages of the round before. Messages of rounds before it are ignored. All nodes have to restart at one round. */
+void pals_restart(pals_node *node, uint64_t round, int64_t reading);
 
 /* A message of a round has come on a link. It is refused where the link is none to this node, where it has another
    number of values, where a Boolean is neither 0 nor 1, and where the node has stopped. */

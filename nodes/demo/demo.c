@@ -66,7 +66,7 @@ static int copies_of(const char *link, uint64_t round)
     return (fault_of("twice", link, round) >= 0) ? 2 : 1;
 }
 
-static void on_send(void *user, uint32_t link, uint64_t round, const pals_value values[], uint32_t count)
+static bool on_send(void *user, uint32_t link, uint64_t round, const pals_value values[], uint32_t count)
 {
     const char *name = pals_link_of[link].name;
     /* The host needs a part of the bound to wake a node up. */
@@ -81,8 +81,10 @@ static void on_send(void *user, uint32_t link, uint64_t round, const pals_value 
     for (int copies = copies_of(name, round); copies > 0; copies--) {
         if (write(ends[link][0], &sent, sizeof sent) != (ssize_t)sizeof sent) {
             perror("write");
+            return false;
         }
     }
+    return true;
 }
 
 /* A step takes its time between the record of its beginning and that of its finish. */
@@ -96,7 +98,7 @@ static void on_record(void *user, const pals_node *node, const pals_record *reco
     }
 }
 
-static const pals_hooks HOOKS = {on_send, scenario_input, on_record};
+static const pals_hooks HOOKS = {.send = on_send, .read = scenario_input, .record = on_record};
 
 /* --------------------------------------------------------------------------------------------------- a node's loop */
 
@@ -162,6 +164,7 @@ _Noreturn static void run_node(uint32_t number, const char *folder)
         perror(path);
         exit(1);
     }
+    records_open(out, "", node);
     set_clock(node);
     if (fault_of("hasty", node->of->path, 0) >= 0) {
         hasty = *node->of;

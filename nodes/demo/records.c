@@ -14,6 +14,13 @@ static void write_row(FILE *out, const char *prefix, const pals_node *node, uint
     }
 }
 
+void records_open(FILE *out, const char *prefix, const pals_node *node)
+{
+    char line[PALS_LINE];
+    (void)pals_design_line(line, node);
+    (void)fprintf(out, "%s%s\n", prefix, line);
+}
+
 void records_write(FILE *out, const char *prefix, const pals_node *node, const pals_record *record)
 {
     char line[PALS_LINE];

@@ -5,6 +5,9 @@
 #include <stdio.h>
 #include "pals_node.h"
 
+/* Writes the first line, with the design of the node. */
+void records_open(FILE *out, const char *prefix, const pals_node *node);
+
 /* Writes the lines of a record, each with `prefix` before it. */
 void records_write(FILE *out, const char *prefix, const pals_node *node, const pals_record *record);
 

@@ -8,12 +8,14 @@
 #define MS INT64_C(1000000)
 
 static char last[PALS_LINE];
-static uint32_t records, sends;
+static uint32_t records, sends, stops;
+static bool accepts = true, synchronised = true;
 
-static void on_send(void *user, uint32_t link, uint64_t round, const pals_value values[], uint32_t count)
+static bool on_send(void *user, uint32_t link, uint64_t round, const pals_value values[], uint32_t count)
 {
-    assert((user == NULL) && (link == 1U) && (round < 3U) && (count == 1U) && values[0].present);
+    assert((user == NULL) && (link == 1U) && (round < 6U) && (count == 1U) && values[0].present);
     sends++;
+    return accepts;
 }
 
 static pals_value on_read(void *user, uint32_t input, uint64_t round)
@@ -36,7 +38,21 @@ static void on_record(void *user, const pals_node *node, const pals_record *reco
     records++;
 }
 
-static const pals_hooks HOOKS = {on_send, on_read, on_record};
+static void on_stop(void *user, const pals_node *node, pals_event cause, uint32_t link, uint64_t round)
+{
+    (void)user;
+    assert((node->phase == PALS_STOPPED) && (link == 0U) && (round < 6U) && (cause != PALS_HELD));
+    stops++;
+}
+
+static bool is_trusted(void *user)
+{
+    (void)user;
+    return synchronised;
+}
+
+static const pals_hooks HOOKS = {
+    .send = on_send, .read = on_read, .record = on_record, .stop = on_stop, .trusted = is_trusted};
 
 static pals_arrived arrive(pals_node *node, uint32_t link, uint64_t round, uint32_t count, int64_t reading)
 {
@@ -60,6 +76,7 @@ static pals_node *opened(uint64_t rounds)
 {
     records = 0;
     sends = 0;
+    stops = 0;
     return pals_open_node(0, &HOOKS, NULL, rounds);
 }
 
@@ -104,13 +121,70 @@ static void a_message_that_is_missed(void)
 {
     pals_node *n = opened(0);
     assert((pals_poll(n, 17 * MS) == 18 * MS) && (pals_start(n, 18 * MS) == PALS_MISSED));
-    assert(says("stop missed p.a.i 0 18000000") && (n->phase == PALS_STOPPED));
+    assert(says("stop missed p.a.i 0 18000000") && (n->phase == PALS_STOPPED) && (stops == 1U));
     records = 0;
     assert((pals_poll(n, 40 * MS) == PALS_NEVER) && (arrive(n, 0, 0, 1, 40 * MS) == PALS_REFUSED) && (records == 0U));
 }
 
+/* A node that holds takes the last values of the link, and says so in its record. */
+static void a_value_that_is_held(void)
+{
+    pals_node *n = opened(0);
+    n->policy = PALS_HOLDS;
+    assert((pals_poll(n, 17 * MS) == 18 * MS) && (pals_start(n, 18 * MS) == PALS_OK) && n->degraded);
+    assert(!n->memory.ins[0].present && (n->count == 2U) && (stops == 0U));
+    assert((pals_poll(n, 19 * MS) == 27 * MS) && (arrive(n, 0, 1, 1, 20 * MS) == PALS_KEPT));
+    assert((pals_poll(n, 28 * MS) == 36 * MS) && (n->memory.ins[0].number == 5));
+    records = 0;
+    assert((pals_start(n, 36 * MS) == PALS_OK) && (records == 2U) && (n->memory.ins[0].number == 5));
+    assert(n->memory.ins[0].present && n->degraded);
+}
+
+/* A restart begins at a round with the initial frame, and needs no message of the round before. */
+static void a_restart(void)
+{
+    pals_node *n = opened(0);
+    assert((pals_poll(n, 17 * MS) == 18 * MS) && (pals_start(n, 18 * MS) == PALS_MISSED));
+    pals_restart(n, 4, 20 * MS);
+    assert(says("restart p.a 4 20000000") && waits(n, PALS_START, 45 * MS));
+    assert((arrive(n, 0, 0, 1, 21 * MS) == PALS_IGNORED) && (pals_poll(n, 45 * MS) == 46 * MS));
+    assert(says("p.a s x=1") && !n->degraded && (arrive(n, 0, 4, 1, 47 * MS) == PALS_KEPT));
+    assert((arrive(n, 0, 5, 1, 48 * MS) == PALS_EARLY));
+}
+
+static void a_message_that_is_not_accepted(void)
+{
+    pals_node *n = opened(1);
+    accepts = false;
+    assert((pals_poll(n, 9 * MS) == 10 * MS) && (pals_poll(n, 10 * MS) == PALS_NEVER) && (sends == 1U));
+    assert(says("# unsent p.b.i 0 10000000") && (n->phase == PALS_DONE));
+    accepts = true;
+}
+
+static void a_clock_that_is_not_trusted(void)
+{
+    pals_node *n = opened(2);
+    synchronised = false;
+    assert((pals_start(n, 9 * MS) == PALS_OVER) && (stops == 1U) && (n->phase == PALS_STOPPED));
+    assert(says("# stop clock p.a 0 9000000") && (pals_poll(n, 40 * MS) == PALS_NEVER));
+    synchronised = true;
+}
+
+static void links(void)
+{
+    uint32_t count = 0;
+    const uint32_t *found = pals_links_of(0, &count);
+    assert((count == 2U) && (found[0] == 0U) && (found[1] == 1U) && (pals_link_of[0].rate == 1U));
+    assert((pals_links_of(7, &count) == NULL) && (count == 0U));
+}
+
 int main(void)
 {
+    a_value_that_is_held();
+    a_restart();
+    a_message_that_is_not_accepted();
+    a_clock_that_is_not_trusted();
+    links();
     a_round_call_by_call();
     messages();
     a_message_that_is_missed();

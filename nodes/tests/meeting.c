@@ -13,13 +13,14 @@ static pals_node *nodes[MOST_NODES];
 static messages flying;
 static bool stopped;
 
-static void on_send(void *user, uint32_t link, uint64_t round, const pals_value values[], uint32_t count)
+static bool on_send(void *user, uint32_t link, uint64_t round, const pals_value values[], uint32_t count)
 {
     const pals_node *node = nodes[pals_link_of[link].source];
     const int64_t due = node->reading + scenario_delay(link, round, pals_network_least);
     const message sent = message_of(due, link, round, values, count);
     (void)user;
     messages_add(&flying, &sent);
+    return true;
 }
 
 static void on_record(void *user, const pals_node *node, const pals_record *record)
@@ -31,7 +32,7 @@ static void on_record(void *user, const pals_node *node, const pals_record *reco
     stopped = stopped || (record->event == PALS_STOP_EARLY) || (record->event == PALS_STOP_MISSED);
 }
 
-static const pals_hooks HOOKS = {on_send, scenario_input, on_record};
+static const pals_hooks HOOKS = {.send = on_send, .read = scenario_input, .record = on_record};
 
 /* Hands to a node what is due on one link. */
 static void take_link(pals_node *node, uint32_t link, int64_t reading)

@@ -31,7 +31,7 @@ static int64_t clock_of(uint32_t number)
     return later(0, now + skew[number]);
 }
 
-static void on_send(void *user, uint32_t link, uint64_t round, const pals_value values[], uint32_t count)
+static bool on_send(void *user, uint32_t link, uint64_t round, const pals_value values[], uint32_t count)
 {
     const bool strays = (wild > 0) && (random_in(0, 9) == 0);
     const int64_t least = strays ? 0 : pals_network_least;
@@ -39,6 +39,7 @@ static void on_send(void *user, uint32_t link, uint64_t round, const pals_value 
     const message sent = message_of(now + takes, link, round, values, count);
     (void)user;
     messages_add(&flying, &sent);
+    return true;
 }
 
 static void on_record(void *user, const pals_node *node, const pals_record *record)
@@ -49,7 +50,7 @@ static void on_record(void *user, const pals_node *node, const pals_record *reco
     records_write(stdout, prefix, node, record);
 }
 
-static const pals_hooks HOOKS = {on_send, scenario_input, on_record};
+static const pals_hooks HOOKS = {.send = on_send, .read = scenario_input, .record = on_record};
 
 /* A time from that at which the clock of a node reads a target to the last one that the bounds allow. */
 static int64_t time_for(uint32_t number, int64_t target)

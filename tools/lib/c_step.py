@@ -28,8 +28,8 @@ class Body:
     The stack's places are locals s0, s1, ..: the verifier gives each instruction its height. A jump is a goto, which
     goes forward and into no block; a loop is a block that its LoopNext leaves."""
 
-    def __init__(self, component):
-        self.component, self.code = component, component.code
+    def __init__(self, component, lines=None):
+        self.component, self.code, self.text_lines = component, component.code, lines
         verified = Verified(component)
         self.heights, self.loops, self.ends = verified.heights, verified.loops, verified.ends
         self.lines, self.depth, self.slots, self.stack = [], 1, set(), 0
@@ -38,6 +38,9 @@ class Body:
         while place < len(self.code):
             if place in self.labels:
                 self.lines.append(f"L{place}:")
+            if self.text_lines and place in self.text_lines and self.code[place][0] not in ("Store", "Emit"):
+                number, text = self.text_lines[place]
+                self.add(f"/* line {number}: {text} */")
             place = self.at(place)
 
     def targets(self):
@@ -55,9 +58,12 @@ class Body:
         self.lines.append("    " * self.depth + text)
 
     def put(self, place, statement):
-        """A statement, with its instruction as its comment."""
-        comment = instruction_text(self.component, self.code[place])
-        self.add(f"{statement:{WIDTH}} /* {place} {comment} */")
+        """A statement, with its instruction as its comment, or with the line of the design's text."""
+        comment = f"{place} {instruction_text(self.component, self.code[place])}"
+        if self.text_lines is not None:
+            here = place in self.text_lines and self.code[place][0] in ("Store", "Emit")
+            comment = f"line {self.text_lines[place][0]}" if here else ""
+        self.add(f"{statement:{WIDTH}} /* {comment} */" if comment else statement)
 
     def trapping(self, place, call):
         """A call that may trap."""
@@ -167,9 +173,9 @@ def step_header(component):
         f"int32_t {name}_step({name}_frame *f, const pals_value in[], pals_value out[]);", "", "#endif", ""])
 
 
-def step_source(component):
-    """The source of a component's step code."""
-    name, body = c_name(component.path), Body(component)
+def step_source(component, lines=None):
+    """The source of a component's step code. Its comments name instructions, or lines of the design's text."""
+    name, body = c_name(component.path), Body(component, lines)
     names, ins, outs = component.variables, list(enumerate(component.ins)), list(enumerate(component.outs))
     written = [f"    out[{at}] = o_{it.name};" for at, it in outs]
     return "\n".join([

@@ -13,6 +13,7 @@ RULES = {
     "unsent-steps": "a component that sends fewer steps than it makes",
     "no-source": "a port that nothing comes into",
     "no-input": "a root in port for which the scenario has no value",
+    "shared-input": "a root in port that several components read",
     "unread-port": "a port that nothing takes, or that no step reads",
     "unset-port": "an out port that no step sends on",
     "unread-variable": "a variable that no step reads, and no property of the scenario",

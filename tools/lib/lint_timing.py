@@ -12,6 +12,7 @@ def find(model, scenario):
     yield from sources(model)
     yield from takers(model)
     yield from inputs(model, scenario)
+    yield from shared_inputs(model)
 
 
 def steps(model):
@@ -146,4 +147,22 @@ def inputs(model, scenario):
                 "no-input", port.name.text, port.name.offset,
                 f"the scenario has no value for the root's in port {port.name.text}",
                 f'give some, as "inputs": {{"{port.name.text}": [..]}}: element r is the value of round r',
+            )
+
+
+def shared_inputs(model):
+    """Root in ports that several components read: on nodes of their own each would sample a value of its own."""
+    readers = {}
+    for thread, port in model.in_ports():
+        found = model.came_from(f"{thread.path}.{port.name.text}")
+        if found and not found.thread:
+            readers.setdefault(found.port, {})[thread.path] = None
+    for port in model.root_ports("in"):
+        paths = list(readers.get(port.name.text.lower(), ()))
+        if len(paths) > 1:
+            yield Found(
+                "shared-input", port.name.text, port.name.offset,
+                f"{' and '.join(paths)} read the root's in port {port.name.text}: the composition has one value for "
+                f"all",
+                "let one component sample it and send it to the others, or give all nodes the same sample",
             )

@@ -8,10 +8,11 @@ each line has an earliest time. Its reading and the last time at which it may ha
 from collections import namedtuple
 
 from .bundles import Refused
+from .raw_arrivals import arrivals_in, merged, with_raw_arrivals
 from .records import line_of, owner
 from .times import in_ms
 
-# What was found: the index of the line in the trace, the rule, and a sentence.
+# What was found: the place of the line (its index in the trace, or NODE:LINE of a record), the rule, and a sentence.
 Outside = namedtuple("Outside", "index rule sentence")
 # A send or a step with the latest time at which it can have happened, the earliest one, and its reading.
 Moment = namedtuple("Moment", "earliest latest reading")
@@ -20,12 +21,12 @@ Moment = namedtuple("Moment", "earliest latest reading")
 class Bounds:
     """What was found, the first of it by its line; and how many arrivals were found at a start alone."""
 
-    def __init__(self, nodes, trace):
+    def __init__(self, nodes, lines):
         self.nodes, self.bounds = nodes, nodes.bounds
         self.sends, self.steps, self.begun = {}, {}, {}
         self.earliest = dict.fromkeys(nodes.paths, 0)
         self.found_at_starts = 0
-        self.lines = list(journal_of(trace))
+        self.lines = list(lines)
         self.at_starts = self.taken_at_starts()
         self.outside = next(filter(None, (self.take(index, line) for index, line in self.lines)), None)
 
@@ -85,10 +86,12 @@ class Bounds:
         return None
 
     def check_stop(self, index, line, path):
-        """A missed stop: whether its message is slow, or the node late. An early one tells no more than its arrival."""
+        """A stop: whether its message is slow, or the node late. At an early one the node had not started the round."""
         sent = self.sends.get((line.what, line.round))
         if line.end == "early":
-            return None
+            late = self.earliest[path] > self.alarm(line.round) + self.bounds.skew - 1
+            return Outside(index, "late", f"{path} had not started round {line.round} when a message of this round "
+                           f"arrived") if late else None
         if sent and self.earliest[path] > sent.latest + self.bounds.slowest:
             return Outside(index, "slow", f"the message of round {line.round} to {line.what} has not come "
                            f"{in_ms(line.reading - sent.reading)} behind its send by the two clocks: {self.declared()}")
@@ -137,3 +140,16 @@ def journal_of(trace):
             yield index, line
         elif begun:
             raise Refused(f"line {index} of the trace is none of a journal; pals audit tells why")
+
+
+def lines_of_trace(trace, design, nodes):
+    """The lines of a trace with their indices; arrivals are where their nodes recorded them, if the comments of the
+    design have their readings."""
+    lines, arrivals = list(journal_of(trace)), arrivals_in(design)
+    return with_raw_arrivals(lines, arrivals, nodes) if arrivals else lines
+
+
+def lines_of_records(records, nodes):
+    """The lines of records in one order, each with the node and the number of its line."""
+    return merged({path: [(f"{path}:{line.at}", line) for line in record.lines] for path, record in records.items()},
+                  nodes)

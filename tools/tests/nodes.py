@@ -12,6 +12,7 @@ import tempfile
 from lib.bundles import Bundle
 from lib.joining import Joined
 from lib.nodes_of import nodes_of
+from lib.raw_arrivals import comments_of
 from lib.records import read_record
 from tests.common import TOP, WITHIN, Skipped, Wrong, built, page, tool
 
@@ -58,8 +59,8 @@ def compilers():
 
 def compiled(compiler, flags, source, include, where):
     """The object of a source, at a path. Whatever the compiler says is wrong."""
-    command = [compiler, *STRICT, *flags, "-I", NODES, "-I", os.path.join(NODES, "demo"), "-I", include, "-c", "-o",
-               where, source]
+    command = [compiler, *STRICT, *flags, "-I", NODES, "-I", os.path.join(NODES, "demo"), "-I",
+               os.path.join(NODES, "udp"), "-I", include, "-c", "-o", where, source]
     ran = subprocess.run(command, stdout=subprocess.PIPE, stderr=subprocess.STDOUT, timeout=WITHIN, check=False)
     if ran.returncode or ran.stdout:
         raise Wrong(f"{compiler} says of {source}: {ran.stdout.decode()[:2000]}")
@@ -92,13 +93,13 @@ class NodesInC:
         whole = os.path.join(self.path, "whole.c")
         with open(whole, "w", encoding="ascii") as file:
             file.write("".join(f'#include "{name}"\n' for name in c_of(listing, self.path)))
-        self.object = compiled(compiler, flags, whole, self.path, os.path.join(self.path, "whole.o"))
+        self.objects = [compiled(compiler, flags, whole, self.path, os.path.join(self.path, "whole.o"))]
 
     def program(self, main, *more):
         """The program of a main and of what more it needs."""
         objects = [object_of(self.compiler, tuple(self.flags), name) for name in (*OWN, *HOST, *more, main)]
         path = os.path.join(self.path, os.path.basename(main)[:-2])
-        subprocess.run([self.compiler, *self.flags, "-o", path, self.object, *objects], check=True, timeout=WITHIN)
+        subprocess.run([self.compiler, *self.flags, "-o", path, *self.objects, *objects], check=True, timeout=WITHIN)
         return Program(path)
 
 
@@ -145,13 +146,31 @@ def design_nodes(text, root=None):
     return nodes_of(Bundle("the design", text.encode()), root)
 
 
-def joined(nodes, output):
-    """The records in the output of several nodes, joined."""
+def records_in(nodes, output):
+    """The texts of the records in the output of several nodes."""
     own = {path: [] for path in nodes.paths}
     for line in output.split("\n")[:-1]:
         path, _, rest = line.partition(" ")
-        own[path].append(rest)
-    return Joined(nodes, {path: read_record("\n".join(lines), path, nodes) for path, lines in own.items()})
+        own[path].append(f"{rest}\n")
+    return {path: "".join(lines) for path, lines in own.items()}
+
+
+def joined(nodes, output):
+    """The records in the output of several nodes, joined."""
+    return Joined(nodes, {path: read_record(text, path, nodes) for path, text in records_in(nodes, output).items()})
+
+
+def recorded_within(text, nodes, output):
+    """The status and the text of tools/bounds for the records in the output of several nodes."""
+    with tempfile.TemporaryDirectory() as where:
+        design = os.path.join(where, "design.aadl")
+        for path, record in [("design.aadl", text), *records_in(nodes, output).items()]:
+            with open(os.path.join(where, path), "w", encoding="ascii") as file:
+                file.write(record)
+        status, written, said = tool("bounds", where, design)
+    if said:
+        raise Wrong(said)
+    return status, written.decode()
 
 
 def audited(text, scenario, trace, root="Top.impl"):
@@ -164,7 +183,8 @@ def within(text, trace):
     """The status and the text of tools/bounds for a trace."""
     path = os.path.join(folder(), "trace.pals")
     with open(path, "w", encoding="ascii") as file:
-        file.write(text + "%%%\n" + json.dumps({"trace": trace.lines()}))
+        comments = "".join(f"{line}\n" for line in comments_of(trace.raw_arrivals()))
+        file.write(text + comments + "%%%\n" + json.dumps({"trace": trace.lines()}))
     status, written, said = tool("bounds", path)
     if said:
         raise Wrong(said)

@@ -5,10 +5,11 @@ import re
 import subprocess
 import tempfile
 
+from lib.bundles import Refused
 from lib.joining import Joined
 from lib.records import read_record
-from tests.common import WITHIN, Skipped, Wrong, expect, page
-from tests.nodes import NodesInC, audited, compilers, design_nodes, folder, scenario_lines, within
+from tests.common import WITHIN, Skipped, Wrong, expect, page, tool
+from tests.nodes import NodesInC, audited, compilers, design_nodes, folder, scenario_lines
 
 SLOWER, ROUNDS, TRIES = 10, 8, 4
 # The faults of a run of the turn controller, and what the audit has to say; of a line that it names which one it is.
@@ -21,13 +22,13 @@ FAULTS = {
     "hasty p.m": ("wrong release", r"send p\.m \d \d+"),
     "hasty p.l": ("wrong release", r"send p\.l \d \d+"),
     "wrong p.m.l 2": ("wrong row", r"p\.m s sum=-?\d+"),
-    f"ahead p.m {9_000_000 * SLOWER}": ("wrong due", r"arrive p\.[lrt]\.target \d \d+ early"),
+    f"ahead p.m {9_000_000 * SLOWER}": ("the clock of p.m is ahead", None),
 }
 
 
-def slower(text, line):
+def slower(text, line, times=SLOWER):
     """A text with the times of some of its lines made longer."""
-    return re.sub(line, lambda match: re.sub(r"\d+", lambda it: str(int(it[0]) * SLOWER), match[0]), text)
+    return re.sub(line, lambda match: re.sub(r"\d+", lambda it: str(int(it[0]) * times), match[0]), text)
 
 
 class Demo:
@@ -50,17 +51,22 @@ class Demo:
         return where, ran
 
     def end(self, where, ran):
-        """The trace of a run that has ended."""
+        """The trace of a run that has ended, or why there is none."""
         expect(ran.wait(WITHIN), 0, "the demonstration's status")
         records = {}
         for path in self.nodes.paths:
             with open(os.path.join(where, path), encoding="ascii") as file:
                 records[path] = read_record(file.read(), path, self.nodes)
-        return Joined(self.nodes, records)
+        try:
+            return Joined(self.nodes, records)
+        except Refused as why:
+            return str(why)
 
 
 def said(demo, trace):
     """What the audit says of a trace, the line's index left out, and the line that it names."""
+    if isinstance(trace, str):
+        return "the clock of p.m is ahead" if "the clock of p.m is ahead" in trace else trace, None
     verdict = audited(demo.text, demo.given, trace)[1].strip()
     words = verdict.split()
     if words[0] != "wrong":
@@ -81,17 +87,23 @@ def test_the_demonstration():
             wanted, form = left[fault]
             if verdict == wanted and (form is None or re.fullmatch(form, line)):
                 del left[fault]
-                check_more(demo, fault, trace)
+                check_more(demo, fault, where, trace)
             elif not verdict.startswith("sound "):
-                raise Wrong(f"the fault {fault!r} gives {verdict}, {line}\n{trace.lines()}")
+                raise Wrong(f"the fault {fault!r} gives {verdict}, {line}")
         if not left:
             return
     raise Skipped(f"this host wakes up its nodes too late: {', '.join(left)}")
 
 
-def check_more(demo, fault, trace):
-    """What else a fault shows: a second copy is left out, and a clock that is ahead is out of the bounds."""
-    expect(trace.left_out, int(fault.startswith("twice")), f"second copies of {fault!r}")
-    if fault.startswith("ahead"):
-        status, found = within(demo.text, trace)
-        expect((status, found.split()[2]), (1, "fast"), f"the bounds of {fault!r}")
+def check_more(demo, fault, where, trace):
+    """What else a fault shows: a second copy is left out, and a clock that is ahead is named."""
+    if not fault.startswith("ahead"):
+        expect(trace.left_out, int(fault.startswith("twice")), f"second copies of {fault!r}")
+        return
+    design = os.path.join(folder(), "demo.aadl")
+    with open(design, "w", encoding="ascii") as file:
+        file.write(demo.text)
+    status, found, _ = tool("bounds", where, design)
+    lines = found.decode().split("\n")
+    expect((status, lines[0].split()[2]), (1, "fast"), f"the bounds of {fault!r}")
+    expect(any("likely at fault: the clock of p.m, which is ahead of the time" in it for it in lines), True, lines)

@@ -4,14 +4,19 @@ import json
 import os
 import random
 import tempfile
+from collections import Counter
 
 from lib.bundles import Bundle, Refused
 from lib.joining import Joined
 from lib.nodes_of import nodes_of
-from lib.records import before, read_record
+from lib.platform_bounds import Bounds, lines_of_records
+from lib.raw_arrivals import comments_of
+from lib.records import read_record
 from tests.common import TOP, expect, page, tool
-from tests.nodes import MORE, audited
+from tests.nodes import MORE, audited, pals
 
+
+WORLDS = 300 if MORE else 30
 # Two rounds of the two counters. The message of p.a is taken at the very reading of p.b's start, behind it.
 A = """start p.a 0 9000000
 finish p.a 0
@@ -33,10 +38,6 @@ finish p.b 1
 row 1 p.b s x=3
 send p.b 1 19000000
 """
-# How many orders of these lines keep each node's own, and each arrival behind its send.
-ALL_ORDERS = 350
-
-
 def counters():
     """The text and the nodes of the two counters."""
     text = page("examples/two_counters.aadl")
@@ -47,11 +48,18 @@ def joined(of_a, of_b, rounds=None):
     """The joined records of the two counters."""
     nodes = counters()[1]
     records = {"p.a": read_record(of_a, "p.a", nodes), "p.b": read_record(of_b, "p.b", nodes)}
-    return Joined(nodes, records if rounds is None else {path: before(it, rounds) for path, it in records.items()})
+    return Joined(nodes, records, rounds)
+
+
+def as_recorded(of_a, of_b):
+    """The lines of two records in one order, with each arrival at its own reading."""
+    nodes = counters()[1]
+    records = {"p.a": read_record(of_a, "p.a", nodes), "p.b": read_record(of_b, "p.b", nodes)}
+    return [" ".join(line.words) for _, line in lines_of_records(records, nodes)]
 
 
 def any_order(source, journal, nodes):
-    """An order of lines that keeps each node's own, and each arrival behind its send; no more than that."""
+    """An order of lines that keeps each node's own, and each arrival after its send; no more than that."""
     left, sent, order = {}, set(), []
     for line in journal:
         path = nodes.links[line.what][1] if line.kind == "arrive" else line.what
@@ -65,21 +73,20 @@ def any_order(source, journal, nodes):
     return order
 
 
-def test_sends_as_late_as_may_be():
-    """The joined trace is sound. Of the orders that keep less, those are that have the start in front of the send."""
+def test_any_order_is_sound():
+    """The joined trace is sound, without delays. So is every order that keeps each node's own and each arrival after
+    its send, since arrivals are at the starts that read them."""
     text, nodes = counters()
     trace, given, source, orders = joined(A, B), {"rounds": 2}, random.Random(7), set()
     expect(audited(text, given, trace), (0, "sound rounds 2 stop none\n"), "the joined trace")
-    expect(trace.delays, {"p.a.i": [1000000, 4000000], "p.b.i": [0, 4000000]}, "the delays")
-    while len(orders) < (ALL_ORDERS if MORE else 200):
+    expect(trace.delays, {}, "the delays")
+    for _ in range(60):
         trace.journal = any_order(source, joined(A, B).journal, nodes)
-        lines = trace.lines()
-        if tuple(lines) in orders:
-            continue
-        orders.add(tuple(lines))
-        good = lines.index("start p.b 0 10000000") < lines.index("send p.a 0 10000000")
-        wanted = "sound rounds 2 stop none\n" if good else f"wrong {lines.index('start p.b 0 10000000')} due\n"
-        expect(audited(text, given, trace)[1], wanted, f"the order {lines}")
+        orders.add(tuple(trace.lines()))
+    for lines in orders:
+        given["trace"] = list(lines)
+        expect(pals(["audit", "Top.impl"], text, given), (0, "sound rounds 2 stop none\n"), f"the order {lines}")
+    expect(len(orders) > 20, True, f"{len(orders)} orders")
 
 
 def of_example(name):
@@ -100,12 +107,15 @@ def of_example(name):
 
 
 def test_a_trace_comes_back_from_its_nodes():
-    """The trace of an example, taken apart by its nodes, is joined to one that is as sound, with the same delays."""
+    """The trace of an example, taken apart by its nodes, is joined to one that is as sound, without delays."""
     text, given, nodes, records = of_example("examples/turn_trace.pals")
-    trace = Joined(nodes, {path: read_record("\n".join(lines), path, nodes) for path, lines in records.items()})
-    expect(sorted(trace.lines()), sorted(given["trace"]), "the lines")
-    expect({link: trace.delays[link][: len(delays)] for link, delays in given["delays"].items()}, given["delays"],
-           "the delays of messages that came")
+    trace = Joined(nodes, {path: read_record("".join(f"{line}\n" for line in lines), path, nodes)
+                           for path, lines in records.items()})
+    own = [line for line in trace.lines() if not line.startswith("arrive")]
+    expect(sorted(own), sorted(line for line in given["trace"] if not line.startswith("arrive")), "the lines")
+    expect(sorted(f"arrive {link} {number} {reading} kept" for (link, number), reading in trace.arrivals.items()),
+           sorted(line for line in given["trace"] if line.startswith("arrive")), "the recorded arrivals")
+    expect(trace.delays, {}, "the delays of messages within the bounds")
     expect(audited(text, given, trace), (0, "sound rounds 2 stop none\n"), "the joined trace")
 
 
@@ -117,7 +127,7 @@ def test_which_stop_is_kept():
     trace = joined(a, b)
     expect(trace.lines()[-1], "stop missed p.a.i 0 18000000 in-transit", "the stop")
     expect([line for line in trace.lines() if line.startswith("stop")], trace.lines()[-1:], "one stop")
-    expect(trace.delays["p.a.i"], [7000001, 4000000], "a message that never came is due behind the stop")
+    expect(trace.delays["p.a.i"], [7000001, 1000000], "a message that never came is due behind the stop")
     expect(audited(text, {"rounds": 3}, trace), (0, "sound rounds 1 stop p.a.i 0\n"), "the stop is sound")
     trace = joined(a, B.partition("send p.b 0")[0])
     expect(trace.lines()[-1], "stop missed p.a.i 0 18000000 not-sent", "a message that was not sent")
@@ -153,12 +163,15 @@ def test_join_as_a_program():
         status, written, said = tool("join", folder, example)
         bundle = Bundle("joined", written)
         fields = list(json.loads(bundle.scenario))
-        expect((status, said[:6], fields), (0, "join: ", ["rounds", "delays", "trace"]), said)
-        expect(bundle.design, Bundle("example", page("examples/two_counters.pals").encode()).design, "the design")
+        expect((status, said[:6], fields), (0, "join: ", ["rounds", "trace"]), said)
+        comments = b"-- arrived p.a.i 0 12000000\n-- arrived p.b.i 0 10000000\n"
+        expect(bundle.design, Bundle("example", page("examples/two_counters.pals").encode()).design + comments,
+               "the design")
         status, written, _ = tool("join", "--rounds", "1", folder, example)
         expect((status, json.loads(Bundle("joined", written).scenario)["rounds"]), (0, 1), "rounds")
         for wrong, words in (("start p.a 0 1\n", "p.b, line 1"), ("stop early p.b.i 0 9\nfinish p.b 0\n", "line 2"),
-                             ("arrive p.b.i 7 9 kept\n", "no send of it"), ("start p.b 0 _\n", "no line of the node")):
+                             ("arrive p.b.i 7 9 kept\n", "no round can be audited"),
+                             ("start p.b 0 _\nfinish p.b 0\n", "not a line of this node")):
             record("p.b", wrong)
             status, written, said = tool("join", folder, example)
             expect((status, written, words in said), (1, b"", True), said)
@@ -177,7 +190,7 @@ def bounds_of(text, trace):
 def test_bounds():
     """What is outside of the bounds is found by its first line, at the ends of the bounds and one nanosecond past."""
     text = counters()[0]
-    lines = joined(A, B).lines()
+    lines = as_recorded(A, B)
     cases = [("start p.b 0 10000000", "start p.b 0 10999998", None),
              ("start p.b 0 10000000", "start p.b 0 10999999", "late"),
              ("send p.b 0 11000000", "send p.b 0 13999998", None),
@@ -205,7 +218,8 @@ def test_a_sound_trace_out_of_bounds():
     text = counters()[0]
     trace = joined(A.replace("arrive p.a.i 0 12000000", "arrive p.a.i 0 17500000"), B)
     expect(audited(text, {"rounds": 2}, trace), (0, "sound rounds 2 stop none\n"), "the audit")
-    status, found = bounds_of(text, trace.lines())
+    comments = "".join(f"{line}\n" for line in comments_of(trace.raw_arrivals()))
+    status, found = bounds_of(text + comments, trace.lines())
     expect((status, found.split()[-1]), (1, "slow"), "the bounds")
 
 
@@ -214,6 +228,63 @@ def test_a_record_that_is_no_sound_trace_in_any_order():
     try:
         joined(A.replace("send p.a 0 10000000\n", ""), B)
     except Refused as why:
-        expect("p.b.i" in str(why), True, str(why))
+        expect(str(why), "no round can be audited: the record of p.a lacks lines of round 0", "why")
     else:
         expect("joined", "refused", "an arrival without its send")
+
+
+def records_of_world(nodes, events, report):
+    """The records of the nodes of a timed list of events, and the rows of its report."""
+    texts, count, step, sent, now = {path: [] for path in nodes.paths}, Counter(), Counter(), Counter(), {}
+    rows = {}
+    for line in report.split("\n")[:-1]:
+        if line.startswith("round "):
+            number = line.split(" ")[1]
+        else:
+            rows.setdefault(int(number), []).append(line)
+    for kind, what, *rest in events:
+        path = nodes.links[what][1] if kind == "arrive" else what
+        if kind == "pass":
+            now = dict(zip(nodes.paths, rest[0]))
+        elif kind == "arrive":
+            texts[path].append(f"arrive {what} {rest[0]} {now[path]} kept")
+        elif kind == "start":
+            texts[path].append(f"start {path} {count[path]} {now[path]}")
+            count[path], step[path] = count[path] + 1, 0
+        elif kind == "step":
+            step[path] += 1
+            texts[path].append(f"step {path} {count[path] - 1} {step[path]} {now[path]}")
+        elif kind == "send":
+            texts[path].append(f"send {path} {sent[path]} {now[path]}")
+            sent[path] += 1
+        else:
+            texts[path].append(f"finish {path} {count[path] - 1}")
+            if step[path] + 1 == nodes.rates[path]:
+                own = next(line for line in rows[count[path] - 1] if line.startswith(f"{path} "))
+                texts[path].append(f"row {count[path] - 1} {own}")
+    return {path: read_record("".join(f"{line}\n" for line in lines), path, nodes) for path, lines in texts.items()}
+
+
+def test_worlds_that_the_program_accepts_are_sound():
+    """Random worlds, which the proved program accepts, are sound without delays as they are joined, and within the
+    bounds as they were recorded."""
+    text = page("examples/turn_controller.aadl").replace("Network => 1 ms", "Network => 0 ms")
+    nodes, put_off = nodes_of(Bundle("the design", text.encode()), None), 0
+    with tempfile.TemporaryDirectory() as folder:
+        design, given = os.path.join(folder, "d.aadl"), os.path.join(folder, "s.json")
+        for path, content in ((design, text), (given, '{"rounds": 5, "inputs": {"goal": [4, 9]}}')):
+            with open(path, "w", encoding="ascii") as file:
+                file.write(content)
+        for seed in range(WORLDS):
+            status, written, said = tool("world", "--random", "--seed", str(seed), design, given)
+            expect((status, said), (0, ""), "tools/world")
+            scenario = json.loads(written)
+            status, report = pals(["world", "Top.impl"], text, scenario)
+            expect(status, 0, report)
+            records = records_of_world(nodes, scenario["events"], report)
+            trace = Joined(nodes, records, 5)
+            expect((trace.delays, trace.notes), ({}, []), f"the delays of seed {seed}")
+            expect(audited(text, scenario, trace), (0, "sound rounds 5 stop none\n"), f"the world of seed {seed}")
+            expect(Bounds(nodes, lines_of_records(records, nodes)).outside, None, f"the bounds of seed {seed}")
+            put_off += sum(trace.sent(key) > reading for key, reading in trace.arrivals.items())
+    expect(put_off > 0, True, "some arrivals read less than their sends")

@@ -103,6 +103,10 @@ def test_the_bound_is_that_of_the_page():
 # A change of the train's supervision, and what is found beside the dead link and the steps that are not sent.
 CHANGES = [
     ("no source", " c2: port limit -> supervisor.limit;\n", "", ["no-source", "unread-port"]),
+    ("shared", " supervisor: thread Supervisor.impl;\nconnections\n",
+     " supervisor: thread Supervisor.impl; spare: thread Supervisor.impl;\nconnections\n c4: port limit -> spare.limit;"
+     "\n c5: port odometer.speed -> spare.speed {Timing => Delayed; PALS_Profile::Input_Adaptor => \"at 3\";};\n",
+     ["shared-input"]),
     ("no brake", "brake!(speed > limit)", "", ["unread-port", "unread-port", "unset-port"]),
     ("no scenario value", None, '%%%\n{"rounds": 2, "inputs": {"limit": [null]}}', ["no-input"]),
     ("unread", "states s: initial complete state;\ntransitions s -[on dispatch]-> s {brake",

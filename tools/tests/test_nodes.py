@@ -2,11 +2,12 @@
 
 import random
 
+from lib.bundles import Refused
 from lib.listing import read_listing
 from lib.random_designs import DesignMaker, design_text, scenario
 from tests.common import expect, page
 from tests.nodes import (CHECKED, MORE, NodesInC, audited, compilers, design_nodes, joined, listing_of, pals,
-                         program_of, within)
+                         program_of, recorded_within, within)
 
 DESIGNS = 1000 if MORE else 100
 
@@ -16,6 +17,13 @@ def test_the_calls_of_a_node():
     for compiler in compilers():
         calls = program_of(page("examples/two_counters.listing"), "tests/calls.c", compiler, CHECKED)
         expect(calls.run_text(""), "", "the calls")
+
+
+def test_outputs_and_traps():
+    """Root outputs are passed on when the round is sent, and a trap is reported once."""
+    for compiler in compilers():
+        hooks = program_of(page("nodes/tests/operators.listing"), "tests/hooks.c", compiler, CHECKED)
+        expect(hooks.run_text(""), "", "the hooks")
 
 
 def test_a_node_that_has_finished_more_steps_than_it_sends():
@@ -93,23 +101,29 @@ class Design:
     def check_world(self):
         """Within the bounds the trace of the nodes is sound and has no stop, and tools/bounds finds nothing."""
         given = self.scenario(1, 4, 10)
-        trace = joined(self.nodes, self.world.run(given, str(self.random.randrange(1, 2**40))))
+        output = self.world.run(given, str(self.random.randrange(1, 2**40)))
+        trace = joined(self.nodes, output)
         wanted = f"sound rounds {given['rounds']} stop none\n"
         expect(self.check_trace(given, trace), wanted, f"a world within the bounds: {given}\n{self.text}")
-        status, found = within(self.text, trace)
-        expect(status, 0, f"the bounds of {given}: {found}\n{self.text}")
+        expect((trace.delays, trace.notes), ({}, []), f"the delays of {given}\n{self.text}")
+        for status, found in (within(self.text, trace), recorded_within(self.text, self.nodes, output)):
+            expect(status, 0, f"the bounds of {given}: {found}\n{self.text}")
 
     def check_wild_world(self):
-        """Out of the bounds the trace is sound too, with a stop or without; or a clock that is ahead makes an arrival
-        that reads less than its send, which no delay makes due."""
+        """Out of the bounds the trace is sound too, with a stop or without. If no trace can show a message, which is
+        read before its send by the two clocks, the rounds before it are sound, and the records break the bounds."""
         given, wild = self.scenario(4, 10), self.random.choice((1, 3, 10))
-        trace = joined(self.nodes, self.world.run(given, str(self.random.randrange(1, 2**40)), str(wild)))
-        status, verdict = audited(self.text, given, trace)
-        if status != 0:
-            _, number, rule = verdict.split()
-            kind = trace.lines()[int(number)].split()[0]
-            expect((rule, kind), ("due", "arrive"), f"{verdict} of {given}\n{self.text}")
-            expect(within(self.text, trace)[0], 1, f"the bounds where a clock is ahead: {given}\n{self.text}")
+        output = self.world.run(given, str(self.random.randrange(1, 2**40)), str(wild))
+        try:
+            trace = joined(self.nodes, output)
+        except Refused as why:
+            trace, notes = None, [str(why)]
+        if trace:
+            self.check_trace({**given, "rounds": trace.rounds or given["rounds"]}, trace)
+            notes = trace.notes
+        if notes:
+            status, found = recorded_within(self.text, self.nodes, output)
+            expect(status, 1, f"the bounds of {given}: {found}, {notes}\n{self.text}")
 
 
 def test_designs_of_the_repository():

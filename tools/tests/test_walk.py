@@ -15,8 +15,8 @@ typedef struct { uint32_t link; uint64_t round; pals_value values[PALS_MOST_RATE
 static int64_t read_clock(void) { return 0; }
 static bool next_message(message *m) { (void)m; return false; }
 static void sleep_until(int64_t wake) { (void)wake; }
-static void on_send(void *user, uint32_t link, uint64_t round, const pals_value values[], uint32_t count)
-{ (void)user; (void)link; (void)round; (void)values; (void)count; }
+static bool on_send(void *user, uint32_t link, uint64_t round, const pals_value values[], uint32_t count)
+{ (void)user; (void)link; (void)round; (void)values; (void)count; return true; }
 static pals_value on_read(void *user, uint32_t input, uint64_t round)
 { (void)user; (void)input; (void)round; return (pals_value){0, false}; }
 static void on_record(void *user, const pals_node *node, const pals_record *record)
@@ -61,6 +61,8 @@ def test_the_walk_of_the_page():
         how = {"shell": True, "cwd": where, "stdout": subprocess.PIPE, "stderr": subprocess.STDOUT, "timeout": WITHIN}
         ran = subprocess.run(command, check=False, **how)
         # Of a host that wakes its nodes up too late the bounds are not kept.
+        if command.startswith("tools/join ") and b"no round can be audited" in ran.stdout:
+            raise Skipped(f"this host wakes up its nodes too late: {ran.stdout.decode()}")
         wanted = (0, 1) if command.startswith("tools/bounds ") else (0,)
         expect(ran.returncode in wanted, True, f"{command}: {ran.stdout.decode()}")
         said[command] = ran.stdout.decode()
