@@ -62,11 +62,11 @@ class Asked:
             raise Refused(f"./pals: {error.strerror}") from error
         return (ran.returncode if ran.returncode >= 0 else 128 - ran.returncode), ran.stdout
 
-    def explain(self, text):
-        """Writes the remarks on an answer to standard error."""
+    def explain(self, text, strict):
+        """Writes the remarks on an answer to standard error, and gives the status of `explain`."""
         command = " ".join(word for word in self.words[:2] if word == self.words[0] or word == "--loose")
         with contextlib.redirect_stdout(sys.stderr):
-            explain(self.bundle, text.decode("utf-8", "replace"), command, passes=False)
+            return explain(self.bundle, text.decode("utf-8", "replace"), command, passes=False, strict=strict)
 
 
 def on_terminal():
@@ -74,15 +74,17 @@ def on_terminal():
     return sys.stderr is not None and sys.stderr.isatty()
 
 
-def ask(words, explains):
-    """Runs the program, writes its bytes, explains them where that is wanted, and gives its status."""
+def ask(words, explains, strict=False):
+    """Runs the program, writes its bytes, explains them where that is wanted, and gives its status. With `strict` the
+    status is 1 instead of 0 if a component halts."""
     asked = Asked(words)
     status, text = asked.run()
     sys.stdout.buffer.write(text)
     sys.stdout.flush()
     if explains:
         try:
-            asked.explain(text)
+            explained = asked.explain(text, strict)
+            status = explained if strict and not status else status
         except Refused as why:
             print(f"pals: {why}", file=sys.stderr)
     return status
