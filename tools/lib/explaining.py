@@ -5,7 +5,7 @@ import sys
 from . import explain_accepted, explain_refused, explain_runs
 from .bundles import Refused, divider_at
 from .kinds import Answer
-from .show import show_found, visible
+from .show import show, show_found, visible
 from .traps import rounds_words, traps_of
 
 SHOW = {
@@ -46,7 +46,7 @@ def explain(bundle, text, command, passes=True, strict=False):
     if found.kind in SHOW:
         SHOW[found.kind](bundle, found)
     elif found.kind in ("usage", "unread"):
-        print(f"{visible(bundle.path)}:1:1: {visible(found.lines[0])}")
+        show(bundle, (1, 1), found.lines[0], rule=found.kind)
     halts = show_traps(bundle, text) if found.kind in WITH_TRAPS else 0
     return 1 if strict and halts and not found.status else found.status
 
