@@ -5,6 +5,7 @@ import json
 import multiprocessing
 import os
 import random
+import re
 import signal
 from collections import namedtuple
 
@@ -15,11 +16,19 @@ from .rows import rounds_in
 
 # What a campaign is of: the program, the root, the design, the scenario without inputs, the ports with their values,
 # the rounds, the seed, and how a scenario is judged: by `watch`, or by the rows of another design, of a command, or of
-# a file, by their rounds.
-Plan = namedtuple("Plan", "program root design scenario ports rounds seed against expected rows")
+# a file, by their rounds. Then the paths of its components, and whether a scenario is false if one of them halts.
+Plan = namedtuple("Plan", "program root design scenario ports rounds seed against expected rows paths strict",
+                  defaults=((), False))
 # A scenario that is false: what is false of it, and its first false round.
 Falsified = namedtuple("Falsified", "name round")
+# What is false of a scenario, or None, and the first round in which a component halts, or None.
+Judged = namedtuple("Judged", "false halted")
+# The scenarios in which a component halts: how many, and the number and the round of the first one.
+Halts = namedtuple("Halts", "count number round")
+NONE_HALT = Halts(0, None, None)
 
+# The property that no component halts, and how many properties a scenario may have.
+NO_TRAP, MOST_PROPERTIES = "no_trap", 64
 # How many scenarios a processor is handed at once.
 CHUNK = 16
 # What a worker works on: the plan, and whether scenarios are taken in order.
@@ -65,16 +74,50 @@ def made_of(plan, inputs, rounds):
 
 
 def judge(plan, inputs, rounds):
-    """What is false of a scenario, or None."""
-    scenario = json.dumps(made_of(plan, inputs, rounds)).encode()
+    """What is false of a scenario, and the round in which a component halts."""
+    scenario = made_of(plan, inputs, rounds)
     if any(it is not None for it in (plan.against, plan.expected, plan.rows)):
-        return compare(plan, scenario)
-    status, text = ask_program(plan.program, ["watch", plan.root], joined(plan.design, scenario))
-    last = text.rstrip("\n").rpartition("\n")[2]
-    found = WATCHED.fullmatch(last)
-    if status not in (0, 1) or not found:
+        found = compare(plan, json.dumps(scenario).encode())
+    else:
+        found = watch(plan, scenario)
+    if plan.strict and found.halted is not None and (found.false is None or found.halted <= found.false.round):
+        return found._replace(false=Falsified(NO_TRAP, found.halted))
+    return found
+
+
+def watch(plan, scenario):
+    """The verdicts on the properties of a scenario, and on one more, that no component has halted."""
+    properties, name = dict(scenario.get("properties") or {}), NO_TRAP
+    while name in properties:
+        name += "_"
+    if plan.paths and len(properties) < MOST_PROPERTIES:
+        scenario = {**scenario, "properties": {**properties, name: none_halted(list(plan.paths))}}
+    status, text = ask_program(plan.program, ["watch", plan.root], joined(plan.design, json.dumps(scenario).encode()))
+    last = WATCHED.fullmatch(text.rstrip("\n").rpartition("\n")[2])
+    if status not in (0, 1) or not last:
         raise Refused(f"pals watch {plan.root} ended with {status}: {text[:120].strip()}")
-    return Falsified(found["name"], int(found["round"])) if status else None
+    if not status:
+        return Judged(None, None)
+    halted = re.search(rf"(?m)^{name} false$", text)
+    false = Falsified(last["name"], int(last["round"]))
+    if false.name == name:
+        other = re.search(rf"(?m)^(?!{name} )(\w+) false$", text)
+        false = Falsified(other[1], round_before(text, other.start())) if other else None
+    return Judged(false, round_before(text, halted.start()) if halted else None)
+
+
+def none_halted(paths):
+    """The formula that none of some components has halted, as flat as it can be."""
+    if len(paths) == 1:
+        return ["not", ["halted", paths[0]]]
+    middle = len(paths) // 2
+    return ["and", none_halted(paths[:middle]), none_halted(paths[middle:])]
+
+
+def round_before(text, at):
+    """The round to which a line of verdicts belongs."""
+    start = text.rfind("round ", 0, at)
+    return int(text[start:at].split("\n")[0].split(" ")[1])
 
 
 def joined(design, scenario):
@@ -83,17 +126,18 @@ def joined(design, scenario):
 
 
 def compare(plan, scenario):
-    """The first round whose row is another one with the other design, by the command or in the file; or None."""
+    """The first round whose row is another one with the other design, by the command or in the file."""
     words = ["sync", plan.root]
     found = rows_by(plan.program, words, joined(plan.design, scenario))
+    halted = next((at for at, lines in enumerate(found) if any(" halted(" in line for line in lines)), None)
     if plan.rows is not None:
         pairs = zip(found, plan.rows)
-        return first_false(not set(wanted) <= set(lines) for lines, wanted in pairs)
+        return Judged(first_false(not set(wanted) <= set(lines) for lines, wanted in pairs), halted)
     if plan.expected is not None:
         wanted = rows_by(plan.expected, [], joined(plan.design, scenario))
     else:
         wanted = rows_by(plan.program, words, joined(plan.against, scenario))
-    return first_false(one != two for one, two in itertools.zip_longest(found, wanted))
+    return Judged(first_false(one != two for one, two in itertools.zip_longest(found, wanted)), halted)
 
 
 def rows_by(program, words, bundle):
@@ -111,30 +155,37 @@ def first_false(differ):
 
 
 def try_chunk(numbers):
-    """The first scenario of some numbers that is false, and how many were tried."""
-    plan, make = WORK["plan"], by_number if WORK["in_order"] else at_random
+    """The first scenario of some numbers that is false, how many were tried, and in which of them a component halts."""
+    plan, make, halts = WORK["plan"], by_number if WORK["in_order"] else at_random, NONE_HALT
     for tried, number in enumerate(numbers, 1):
         found = judge(plan, make(plan, number), plan.rounds)
-        if found:
-            return tried, number, found
-    return len(numbers), None, None
+        if found.halted is not None:
+            halts = added(halts, Halts(1, number, found.halted))
+        if found.false:
+            return tried, halts, (number, found.false)
+    return len(numbers), halts, None
+
+
+def added(one, more):
+    """The sum of two counts of scenarios; the first one is that of the first count."""
+    return more if not one.count else one._replace(count=one.count + more.count)
 
 
 def run_campaign(plan, count, in_order, tell, jobs=None):
-    """Tries scenarios until one is false: its number and what is false of it, or None. The least such number is found
-    whatever the processors are, since answers are looked at in order."""
+    """Tries scenarios until one is false: its number and what is false of it, or None, and in how many a component
+    halts. The least such number is found with any number of processors, since answers are taken in order."""
     chunks = (range(first, min(first + CHUNK, count)) for first in range(0, count, CHUNK))
-    tried = 0
+    tried, halts = 0, NONE_HALT
     with multiprocessing.get_context("fork").Pool(jobs or os.cpu_count(), begin, (plan, in_order)) as pool:
         try:
-            for done, number, found in pool.imap(try_chunk, chunks):
-                tried += done
+            for done, halted, found in pool.imap(try_chunk, chunks):
+                tried, halts = tried + done, added(halts, halted)
                 tell(tried)
                 if found:
-                    return number, found
+                    return found, halts
         finally:
             pool.terminate()
-    return None
+    return None, halts
 
 
 def begin(plan, in_order):

@@ -22,7 +22,8 @@ def show_check(bundle, answer):
     ignored = {line[len("ignored ") :].lower() for line in answer.lines if line.startswith("ignored ")} - told
     for name, offset in associations(bundle.design):
         if name.lower() in ignored:
-            show(bundle, bundle.place(offset), why_ignored(name), "see docs/language.md, Properties")
+            show(bundle, bundle.place(offset), why_ignored(name), "see docs/language.md, Properties",
+                 rule="ignored-property", level="warning")
 
 
 def show_watch(bundle, answer):
@@ -37,7 +38,7 @@ def show_watch(bundle, answer):
     false = sorted(set(others) - {last["name"]})
     show(bundle, place, f"{last['name']} is false first in round {last['round']}", "; ".join(answer.lines[at:end]),
          f"false in some round too: {', '.join(false)}" if false else "",
-         "sync shows the round's row; see docs/monitors.md")
+         "sync shows the round's row; see docs/monitors.md", rule="property")
 
 
 def show_budget(bundle, answer):
@@ -57,4 +58,4 @@ def show_budget(bundle, answer):
              f"the longest execution, {in_ms(most)}, is what they may take",
              f"with {fits} nanoseconds an instruction it would fit, and {nanos} are given" if fits else "",
              f"or move components to another processor, or give PALS_Profile::Execution an upper end of {in_ms(total)}",
-             "see docs/budgets.md")
+             "see docs/budgets.md", rule="processor-over")

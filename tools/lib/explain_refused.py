@@ -35,9 +35,9 @@ def show_text(bundle, answer):
     """A text that is not in the language."""
     name, place = answer.parts["name"], place_in(answer.parts)
     told = tell(bundle, name, offset_in(bundle, place))
-    show(bundle, place, told.what, *told.more, f"see docs/language.md, {name}")
+    show(bundle, place, told.what, *told.more, f"see docs/language.md, {name}", rule=name)
     if told.culprit is not None and bundle.place(told.culprit)[0] != place[0]:
-        show(bundle, bundle.place(told.culprit), "this is likely the place to mend")
+        show(bundle, bundle.place(told.culprit), "this is likely the place to mend", rule=name, level="note")
 
 
 def show_fault(bundle, answer):
@@ -49,7 +49,7 @@ def show_fault(bundle, answer):
     told = fault_sentences(reader, number, name, offset_in(bundle, place)) or [
         sentence(sentences.FAULTS.get(number, "the package is refused"), [name]), advice().get(("faults", number))]
     see = f"see docs/checks.md, faults of the package, {number} {found['name']}"
-    show(bundle, place, *told, see)
+    show(bundle, place, *told, see, rule=found["name"])
     if reader:
         show_related(bundle, reader, number, (name, offset_in(bundle, place)))
 
@@ -81,15 +81,17 @@ def show_related(bundle, reader, number, what):
     name, offset = what
     if number == 1:
         for impl in reader.declared.roots():
-            show(bundle, bundle.place(impl.name.offset), f"{impl.name.text} may be a root")
+            show(bundle, bundle.place(impl.name.offset), f"{impl.name.text} may be a root", rule="related",
+                 level="note")
     if number == 3:
         first = reader.first_of(name, offset)
         if first is not None:
-            show(bundle, bundle.place(first), f"{name} is declared here first")
+            show(bundle, bundle.place(first), f"{name} is declared here first", rule="related", level="note")
     if number == 7:
         other = reader.other_source(offset)
         if other:
-            show(bundle, bundle.place(other.name.offset), f"{other.name.text} goes into the same port")
+            show(bundle, bundle.place(other.name.offset), f"{other.name.text} goes into the same port", rule="related",
+                 level="note")
 
 
 def show_findings(bundle, answer):
@@ -104,7 +106,8 @@ def show_findings(bundle, answer):
             sentence(sentences.FINDINGS.get(number, found["name"]), details)]
         follows = FOLLOWS if misspelt and number in BY_PROPERTY else ""
         see = f"see docs/checks.md, findings on the instance, {number} {found['name']}"
-        show(bundle, place, what, *more, follows or ("" if more else do.get(("findings", number))), see)
+        show(bundle, place, what, *more, follows or ("" if more else do.get(("findings", number))), see,
+             rule=found["name"])
 
 
 def show_likely(bundle):
@@ -113,7 +116,8 @@ def show_likely(bundle):
     for name, offset in associations(bundle.design):
         if likely(name):
             count += 1
-            show(bundle, bundle.place(offset), f"{name} is ignored; {likely(name)} is likely meant")
+            show(bundle, bundle.place(offset), f"{name} is ignored; {likely(name)} is likely meant",
+                 rule="misspelt-property", level="warning")
     return count
 
 
@@ -129,5 +133,5 @@ def show_scenario(bundle, answer):
         offset = place_of(bundle, "rounds" if name == "TooBig" else about)
         offset = offset_of(bundle, why.offset) if why.offset is not None else offset
     what, *more = told or [sentence(sentences.SCENARIO_FAULTS.get(name, "the scenario is refused"), [about])]
-    show(bundle, bundle.place(offset), what, *more, f"see docs/scenario.md, Refusals, {name}")
+    show(bundle, bundle.place(offset), what, *more, f"see docs/scenario.md, Refusals, {name}", rule=name)
 

@@ -17,7 +17,7 @@ def show_event(bundle, answer):
     form = form[len(details) == 3] if isinstance(form, tuple) else form
     place = bundle.place(place_of(bundle, f"events/{found['index']}"))
     see = f"see docs/nodes.md, {found['name']}"
-    show(bundle, place, f"event {found['index']}: {sentence(form, details)}", see)
+    show(bundle, place, f"event {found['index']}: {sentence(form, details)}", see, rule=found["name"])
 
 
 def show_stop(bundle, answer):
@@ -27,11 +27,12 @@ def show_stop(bundle, answer):
     what = sentence(sentences.STOPS[cause], words[2:4])
     if words[4] != "_":
         place = bundle.place(place_of(bundle, f"delays/{words[2]}"))
-        show(bundle, place, f"at the reading {in_ms(words[4])}: {what}", "see docs/nodes.md, Stops of a run")
+        show(bundle, place, f"at the reading {in_ms(words[4])}: {what}", "see docs/nodes.md, Stops of a run",
+             rule="stop")
         return
     index = len([line for line in answer.lines if parsed(line)]) - (1 if cause == "early" else 0)
     place = bundle.place(place_of(bundle, f"events/{index}"))
-    show(bundle, place, f"event {index}: {what}", "see docs/nodes.md, Stops")
+    show(bundle, place, f"event {index}: {what}", "see docs/nodes.md, Stops", rule="stop")
 
 
 def show_ended(bundle, answer):
@@ -39,7 +40,7 @@ def show_ended(bundle, answer):
     found = answer.parts
     place = bundle.place(place_of(bundle, f"clocks/{found['path']}"))
     what = sentence(sentences.CLOCK_ENDED, [found["path"], found["target"]])
-    show(bundle, place, what, "see docs/nodes.md, Clocks by lists")
+    show(bundle, place, what, "see docs/nodes.md, Clocks by lists", rule="clock-ended")
 
 
 def show_wrong(bundle, answer):
@@ -47,7 +48,8 @@ def show_wrong(bundle, answer):
     found = answer.parts
     place = bundle.place(place_of(bundle, f"trace/{found['index']}"))
     what = sentences.TRACE_RULES.get(found["rule"], "the trace is wrong here")
-    show(bundle, place, f"line {found['index']} of the trace: {what}", f"see docs/traces.md, {found['rule']}")
+    show(bundle, place, f"line {found['index']} of the trace: {what}", f"see docs/traces.md, {found['rule']}",
+         rule=found["rule"])
 
 
 def show_code(bundle, answer):
@@ -58,4 +60,4 @@ def show_code(bundle, answer):
     what = f"the step code of {path} would have {int(answer.parts['number']):,} instructions, and 4,096 are the most"
     show(bundle, bundle.place(offset), what,
          "split its transitions over several threads, or its work over several steps",
-         "see docs/step_code.md")
+         "see docs/step_code.md", rule="code")

@@ -5,7 +5,8 @@ import sys
 from . import explain_accepted, explain_refused, explain_runs
 from .bundles import Refused, divider_at
 from .kinds import Answer
-from .show import visible
+from .show import show, show_found, visible
+from .traps import rounds_words, traps_of
 
 SHOW = {
     "text": explain_refused.show_text,
@@ -23,12 +24,15 @@ SHOW = {
 }
 # Answers that are passed on.
 PASSED = {"check", "rows", "watch", "budget", "sound", "ring", "design", "listing"}
+# Answers in which components may be halted.
+WITH_TRAPS = {"rows", "stop", "watch", "sound"}
 # Commands whose answer may be empty: a world in which no round is finished, and nothing is sent.
 MAY_BE_EMPTY = {"world", "world --loose"}
 
 
-def explain(bundle, text, command, passes=True):
-    """Writes the remarks on an answer, behind itself where it is passed on, and gives its status."""
+def explain(bundle, text, command, passes=True, strict=False):
+    """Writes the remarks on an answer, after the answer itself if it is passed on, and gives its status. With `strict`
+    the status is 1 instead of 0 if a component halts."""
     found = Answer(text)
     if found.kind == "empty" and command not in MAY_BE_EMPTY:
         raise Refused("an empty answer: nothing was checked; was the program given the bundle, and did it run?")
@@ -42,5 +46,16 @@ def explain(bundle, text, command, passes=True):
     if found.kind in SHOW:
         SHOW[found.kind](bundle, found)
     elif found.kind in ("usage", "unread"):
-        print(f"{visible(bundle.path)}:1:1: {visible(found.lines[0])}")
-    return found.status
+        show(bundle, (1, 1), found.lines[0], rule=found.kind)
+    halts = show_traps(bundle, text) if found.kind in WITH_TRAPS else 0
+    return 1 if strict and halts and not found.status else found.status
+
+
+def show_traps(bundle, text):
+    """Writes a remark on each component that halts; how many do."""
+    traps = traps_of(bundle, text)
+    for it in traps.found:
+        show_found(bundle, it)
+    if rounds_words(traps):
+        print(rounds_words(traps))
+    return len(traps.found)

@@ -8,6 +8,7 @@ import sys
 from .bundles import Refused, bundle_of
 from .command import Misused
 from .explaining import explain
+from .formats import explained_as
 from .model import declared_in
 from .names import choice
 from .page import TOP
@@ -62,11 +63,15 @@ class Asked:
             raise Refused(f"./pals: {error.strerror}") from error
         return (ran.returncode if ran.returncode >= 0 else 128 - ran.returncode), ran.stdout
 
-    def explain(self, text):
-        """Writes the remarks on an answer to standard error."""
-        command = " ".join(word for word in self.words[:2] if word == self.words[0] or word == "--loose")
+    @property
+    def command(self):
+        """The command, with --loose if it is that of `world`."""
+        return " ".join(word for word in self.words[:2] if word == self.words[0] or word == "--loose")
+
+    def explain(self, text, strict):
+        """Writes the remarks on an answer to standard error, and gives the status of `explain`."""
         with contextlib.redirect_stdout(sys.stderr):
-            explain(self.bundle, text.decode("utf-8", "replace"), command, passes=False)
+            return explain(self.bundle, text.decode("utf-8", "replace"), self.command, passes=False, strict=strict)
 
 
 def on_terminal():
@@ -74,15 +79,26 @@ def on_terminal():
     return sys.stderr is not None and sys.stderr.isatty()
 
 
-def ask(words, explains):
-    """Runs the program, writes its bytes, explains them where that is wanted, and gives its status."""
+def ask(words, explains, strict=False):
+    """Runs the program, writes its bytes, explains them where that is wanted, and gives its status. With `strict` the
+    status is 1 instead of 0 if a component halts."""
     asked = Asked(words)
     status, text = asked.run()
     sys.stdout.buffer.write(text)
     sys.stdout.flush()
     if explains:
         try:
-            asked.explain(text)
+            explained = asked.explain(text, strict)
+            status = explained if strict and not status else status
         except Refused as why:
             print(f"pals: {why}", file=sys.stderr)
     return status
+
+
+def ask_as(form, words, strict):
+    """Runs the program, writes what `explain` remarks on its answer in a format, and gives the status."""
+    asked = Asked(words)
+    status, text = asked.run()
+    written, explained = explained_as(form, asked.bundle, text.decode("utf-8", "replace"), asked.command, strict)
+    sys.stdout.write(written)
+    return explained if strict and not status else status

@@ -132,67 +132,95 @@ class Grammar(Declarations):
         self.take(":")
         self.reference()
         self.take("in")
-        self.whole()
+        low = self.whole()
         self.take("..")
-        self.whole()
+        high = self.whole()
         self.take(")")
         self.leave()
         if not self.sees("{"):
             self.take("{")
-        return tree.For(variable, self.block())
+        return tree.For(variable, low, high, self.block())
 
     def whole(self):
         """A whole number with its sign."""
-        self.may("-")
-        self.take(WHOLE)
+        sign = -1 if self.may("-") else 1
+        return sign * number_of(self.take(WHOLE))
 
     def expression(self):
         """An expression with its logical operators."""
         offset, reads, chains, words = self.offset(), [], [], []
-        self.relation(reads, chains)
+        root = self.relation(reads, chains)
         while self.sees(*LOGICAL):
-            word = word_of(self.next()).lower()
+            at, word = self.offset(), word_of(self.next()).lower()
             second = {"and": "then", "or": "else"}.get(word)
             if second and self.may(second):
                 word = f"{word} {second}"
             words.append(word)
-            self.relation(reads, chains)
-        return tree.Expr(reads, [tree.Chain(words, offset)] + chains if words else chains, offset)
+            root = tree.Binary(word, at, root, self.relation(reads, chains))
+        return tree.Expr(reads, [tree.Chain(words, offset)] + chains if words else chains, offset, root)
 
     def relation(self, reads, chains):
         """A comparison, or a sum alone."""
-        self.sum(reads, chains)
-        if self.may(*COMPARING):
-            self.sum(reads, chains)
+        left = self.sum(reads, chains)
+        sign = self.may(*COMPARING)
+        return binary(sign, left, self.sum(reads, chains)) if sign else left
 
     def sum(self, reads, chains):
-        """Terms that are added."""
-        self.may("+", "-")
-        self.term(reads, chains)
-        while self.may("+", "-"):
-            self.term(reads, chains)
+        """Terms that are added; a sign before them is that of the first term."""
+        sign = self.may("+", "-")
+        found = self.term(reads, chains)
+        if sign:
+            found = tree.Unary(word_of(sign), sign.offset, found)
+        sign = self.may("+", "-")
+        while sign:
+            found = binary(sign, found, self.term(reads, chains))
+            sign = self.may("+", "-")
+        return found
 
     def term(self, reads, chains):
         """Factors that are multiplied."""
-        self.factor(reads, chains)
-        while self.may(*MULTIPLYING):
-            self.factor(reads, chains)
+        found = self.factor(reads, chains)
+        sign = self.may(*MULTIPLYING)
+        while sign:
+            found = binary(sign, found, self.factor(reads, chains))
+            sign = self.may(*MULTIPLYING)
+        return found
 
     def factor(self, reads, chains):
         """What stands alone, or behind `abs` or `not`."""
-        self.may("abs", "not")
-        if self.may(WHOLE, "true", "false"):
-            return
+        before = self.may("abs", "not")
+        found = self.operand(reads, chains)
+        return tree.Unary(word_of(before).lower(), before.offset, found) if before else found
+
+    def operand(self, reads, chains):
+        """A literal, a name, or an expression in brackets."""
+        literal = self.may(WHOLE, "true", "false")
+        if literal:
+            word = word_of(literal).lower()
+            value = word == "true" if literal.kind == "word" else number_of(literal)
+            return tree.Literal(value, literal.offset)
         if self.sees("("):
             inner = self.bracketed(self.expression)
             reads.extend(inner.reads)
             chains.extend(inner.chains)
-            return
+            return inner.root
         name = self.name()
         fresh = bool(self.may("'"))
         if fresh:
             self.take("fresh")
         reads.append(tree.Read(name, fresh))
+        return reads[-1]
+
+
+def binary(sign, left, right):
+    """An operator between two operands."""
+    return tree.Binary(word_of(sign).lower(), sign.offset, left, right)
+
+
+def number_of(token):
+    """The value of a whole number; one that is too long for any reader counts as the greatest."""
+    digits = word_of(token).replace("_", "")
+    return int(digits) if len(digits) < 1_000 else 10**1_000
 
 
 def read(text):

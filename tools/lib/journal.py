@@ -38,6 +38,8 @@ class Run:
         self.lanes, self.period = [], None
         # All links, and the source of each, where a design tells them.
         self.links, self.source = set(), lambda link: None
+        # The components that traps have halted.
+        self.halts = []
 
 
 def node_of(link):

@@ -2,7 +2,7 @@
 
 import json
 
-from . import lint_behaviours, lint_timing
+from . import lint_behaviours, lint_outputs, lint_timing, lint_values
 from .found import Found
 from .properties import ignored
 
@@ -20,6 +20,11 @@ RULES = {
     "unset-variable": "a variable that no step sets",
     "unreached-state": "a state that no way leads to",
     "untaken-transition": "a transition that is never taken",
+    "zero-divisor": "a divisor that may be 0 when it is first used",
+    "constant-condition": "a condition that is always true or always false",
+    "shadowed-transition": "a transition that is never taken, as an earlier guard is true whenever its own is",
+    "shadowed-branch": "a branch that is never taken, as an earlier condition is true whenever its own is",
+    "partial-output": "an out port that some paths through a step do not set, read as if each step set it",
     "mixed-operators": "`and`, `or` and `xor` beside each other without brackets",
     "misspelt-property": "a property that means nothing, and is near to one that does",
     "ignored-property": "a property that means nothing where it stands",
@@ -28,7 +33,9 @@ RULES = {
 
 def lint(model, scenario=None):
     """All findings of a design below its root: misspelt properties first, then the others by their place."""
-    found = [*properties(model), *lint_timing.find(model, scenario), *lint_behaviours.find(model, watched(scenario))]
+    impls = lint_behaviours.implementations(model)
+    found = [*properties(model), *lint_timing.find(model, scenario), *lint_behaviours.find(impls, watched(scenario)),
+             *lint_values.find(impls), *lint_outputs.find(model, impls)]
     return sorted(found, key=lambda it: (it.rule != "misspelt-property", it.offset, list(RULES).index(it.rule)))
 
 

@@ -9,12 +9,17 @@ FAMILIES = {"and": "and", "and then": "and", "or": "or", "or else": "or", "xor":
 MOST_SHOWN = 8
 
 
-def find(model, watched):
-    """All of it; `watched` has the variables that a scenario's properties look at, with their paths, in lower case."""
+def implementations(model):
+    """The threads that have a behaviour, by the names of their implementations in lower case."""
     impls = {}
     for thread in model.by_path.values():
         if thread.impl and behaviour_of(thread.impl):
             impls.setdefault(thread.impl.name.text.lower(), []).append(thread)
+    return impls
+
+
+def find(impls, watched):
+    """All of it; `watched` has the variables that a scenario's properties look at, with their paths, in lower case."""
     used = {}
     for threads in impls.values():
         behaviour = behaviour_of(threads[0].impl)

@@ -56,6 +56,7 @@ class Picture:
         self.draw_axis()
         self.draw_bars()
         self.draw_messages()
+        self.draw_halts()
         if self.run.end:
             self.draw_end()
         said = wide(self.run.end.text) if self.run.end else 0
@@ -245,6 +246,20 @@ class Picture:
         if lane:
             self.sheet.dot("ring", (x, self.y(lane)), max(half, 9), end.text)
         self.sheet.text(LEFT_PAD, self.top - 48, end.text, "red")
+
+    def draw_halts(self):
+        """A red cross at each step that a trap has ended, or at the first step after it that is drawn."""
+        for halt in self.run.halts:
+            event = next((it for it in self.run.events if it.kind in ("start", "step") and it.what == halt.path and
+                          (it.round, it.step) >= (halt.round, halt.step or 0)), None)
+            if event is None:
+                continue
+            x, y = self.x(event.at), self.y(event.what)
+            since = "" if event.round == halt.round else f" since round {halt.round}"
+            words = f"halted{since}: {halt.kind}"
+            self.sheet.dot("ring", (x, y), 9, f"{halt.path} {words}")
+            self.cross(x, y, f"{halt.path} {words}")
+            self.sheet.text(x + 12, y - self.high / 2 - 3, words, "red small", rank=1)
 
     def draw_heading(self):
         """The title, a word where some rounds alone would be drawn larger, and the legend; gives their width."""

@@ -24,6 +24,7 @@ STYLE = f"""
 .halted {{fill: #f6c6cd; stroke: {WRONG}; stroke-width: 1}}
 .holds {{stroke: #1d7a55; stroke-width: 3}}
 .fails {{fill: {WRONG}}}
+.halt {{stroke: {WRONG}; stroke-width: 2; stroke-dasharray: 4 2}}
 """
 
 
@@ -94,15 +95,17 @@ def merged(pieces):
 class Plot:
     """Draws signals over rounds."""
 
-    def __init__(self, signals, title):
+    def __init__(self, signals, title, halts=()):
         self.signals, self.title = signals, title
+        self.halts = {halt.path: halt for halt in halts}
         ends = [end for signal in signals for piece in (signal.pieces[:1] + signal.pieces[-1:]) for end in piece[:2]]
         self.first, self.last = int(min(ends, default=0)), max(ends, default=1)
         rounds = max(self.last - self.first, 1)
         self.width = min(max(LEAST_WIDTH, PER_ROUND * rounds), MOST_WIDTH)
         self.left = 24 + max([wide(signal.name) for signal in signals] + [40]) + 96
         self.scale = self.width / rounds
-        self.sheet = Sheet("plot", STYLE, ["grid", "frame", "state", "truth", "halted", "holds", "fails", "steps"])
+        layers = ["grid", "frame", "state", "truth", "halted", "holds", "fails", "steps", "halt"]
+        self.sheet = Sheet("plot", STYLE, layers)
 
     def x(self, at):
         """Where a time, in rounds, stands."""
@@ -111,15 +114,28 @@ class Plot:
     def draw(self):
         """The whole picture."""
         self.sheet.text(24, 24, self.title, "title")
+        if self.halts:
+            words = ", ".join(f"{it.path} in round {it.round} ({it.kind})" for it in list(self.halts.values())[:3])
+            more = f" and {len(self.halts) - 3} more" if len(self.halts) > 3 else ""
+            self.sheet.text(24 + wide(self.title) * 1.2 + 12, 24, f"halted: {words}{more}", "red")
         bottom = TOP
         for signal in self.signals:
             height = HEIGHTS[signal.kind]
             self.sheet.text(24, bottom + height / 2 + 4, signal.name)
             self.sheet.box("frame", (self.left, bottom), (self.width, height))
             getattr(self, f"draw_{signal.kind}")(signal, bottom, height)
+            self.draw_halt(signal, bottom, height)
             bottom += height + GAP
         self.draw_axis(bottom - GAP)
         return self.sheet.whole(max(self.left + self.width + 40, wide(self.title) * 1.2 + 24), bottom + 24, self.title)
+
+    def draw_halt(self, signal, top, height):
+        """A red line in the strip of a variable where its component halts."""
+        halt = self.halts.get(signal.name.rpartition(".")[0])
+        if halt and self.first <= halt.round <= self.last:
+            x = self.x(halt.round)
+            self.sheet.line("halt", [(x, top), (x, top + height)], f"{halt.path} halts in round {halt.round}")
+            self.sheet.text(x + 4, top + height - 4, "halted", "small red", rank=1)
 
     def draw_axis(self, bottom):
         """The numbers of rounds, above and below, each at its round's beginning."""

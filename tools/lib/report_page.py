@@ -20,6 +20,7 @@ from .rows import Report
 from .show import show_found
 from .svg import plain
 from .timetable import Timetable, processors_of
+from .traps import halted_in, rounds_words, short, traps_of
 
 HERE = os.path.dirname(os.path.abspath(__file__))
 # A table of more cells and a timeline of more events than these have some rounds alone.
@@ -76,6 +77,7 @@ class Page:
 
     def __init__(self, study, model, names=()):
         self.study, self.model, self.names, self.chips, self.parts = study, model, list(names), [], []
+        self.traps = self.find_traps()
 
     def whole(self):
         """The text of the page."""
@@ -101,6 +103,23 @@ class Page:
             links="".join(f'<a href="#{name}">{plain(title)}</a>' for name, title, _ in self.parts),
             sections="\n".join(made for _, _, made in self.parts),
         )
+
+    def find_traps(self):
+        """The traps of all answers: those of one component in one round only once."""
+        found = {}
+        for place in ("sync", "vote", "fuse", "run", "watch"):
+            text = self.text_of(place)
+            traps = traps_of(self.study.bundle, text, self.study.root) if text is not None else None
+            for remark, halt in zip(traps.found, traps.halts) if traps else ():
+                found.setdefault((halt.path, halt.round), (remark, halt))
+            if place == "watch" and traps and not found and rounds_words(traps):
+                self.chip("bad", rounds_words(traps))
+        return list(found.values())
+
+    @property
+    def halts(self):
+        """Whether a component halts."""
+        return bool(self.traps)
 
     def chip(self, kind, words):
         """A word at the top of the page."""
@@ -142,11 +161,15 @@ class Page:
         for place, (words, status, text) in self.study.told.items():
             if status:
                 parts.append(lines(self.explained(text, place), f"What pals {' '.join(words)} says"))
+        if self.traps:
+            many = f"{len(self.traps)} components halted by traps"
+            self.chip("bad", short(self.traps[0][1]) if len(self.traps) == 1 else many)
+            parts.append(lines(self.said(lambda: [show_found(self.study.bundle, it) for it, _ in self.traps]), "Traps"))
         if found:
             self.chip("plain", f"{len(found)} likely not meant")
             parts.append(note(f"Accepted and likely not meant: {len(found)}. docs/tools.md has the rules."))
             parts.append(lines(self.said(lambda: [show_found(self.study.bundle, it) for it in found]), "Lint"))
-        return parts or [note("Nothing is refused, and nothing was found that is likely not meant.")]
+        return parts or [note("Nothing is refused, no component halts, and nothing is likely not meant.")]
 
     def said(self, work):
         """What some work writes."""
@@ -181,7 +204,9 @@ class Page:
         report, watched = self.report_of("sync"), self.report_of("watch")
         signals = chosen(signals_of(report), self.names) if report else []
         signals = [it for it in signals + (verdicts_of(watched) if watched else []) if it.pieces]
-        return [pane(Plot(signals, "Values over the rounds").draw(), "Values over the rounds")] if signals else None
+        halts = halted_in(report) if report else []
+        drawn = Plot(signals, "Values over the rounds", halts)
+        return [pane(drawn.draw(), "Values over the rounds")] if signals else None
 
     def rows(self):
         """The rows of the composition, and of replicas and plants where the scenario has some."""
@@ -224,6 +249,7 @@ class Page:
             cut(drawn, (taken[0], taken[-1]))
             told_of = f"The rounds {taken[0]} to {taken[-1]} of {len(rounds)}"
             words = note(f"{told_of}: tools/timeline --rounds draws others.")
+        drawn.halts = [halt for _, halt in self.traps]
         svg = Picture(drawn, f"pals {' '.join(told.words)}, {AXES[drawn.axis]}").draw()
         return [words, Template(ZOOM).substitute(pane=pane(svg, "Run of the nodes; + and - zoom"))]
 

@@ -1,6 +1,13 @@
 """Remarks on a bundle: a place, what is to be said of it, the line with a caret, and further lines."""
 
+import contextlib
 import re
+from collections import namedtuple
+
+# One remark: its file, line and column from 1, the column also in letters, its rule and level, and its sentences.
+Remark = namedtuple("Remark", "path line column letter rule level what more")
+# Where remarks are collected instead of written, or None.
+COLLECTED = []
 
 # How many bytes of a line are shown.
 MOST_SHOWN = 160
@@ -13,10 +20,26 @@ def visible(text):
     return CONTROL.sub(lambda it: f"\\x{ord(it[0]):02x}" if ord(it[0]) < 256 else f"\\u{ord(it[0]):04x}", text)
 
 
-def show(bundle, place, what, *more):
+@contextlib.contextmanager
+def collecting():
+    """Collects the remarks of some work in a list, instead of writing them."""
+    found = []
+    COLLECTED.append(found)
+    try:
+        yield found
+    finally:
+        COLLECTED.pop()
+
+
+def show(bundle, place, what, *more, rule="", level="error"):
     """Writes one remark."""
     line, column = place
     path, number = bundle.file_and_line(line)
+    if COLLECTED:
+        letter = len(bundle.line(line)[: column - 1].decode("utf-8", "replace")) + 1
+        told = [it for it in more if it]
+        COLLECTED[-1].append(Remark(path, number, column, letter, rule, level, what, told))
+        return
     print(visible(f"{path}:{number}:{column}: {what}"))
     text = bundle.line(line)
     if text:
@@ -31,4 +54,6 @@ def show(bundle, place, what, *more):
 
 def show_found(bundle, found):
     """Writes a finding on what is accepted."""
-    show(bundle, bundle.place(found.offset), f"{found.what} ({found.rule})", *found.more)
+    what = found.what if COLLECTED else f"{found.what} ({found.rule})"
+    show(bundle, bundle.place(found.offset), what, *found.more, rule=found.rule,
+         level="error" if found.rule == "trap" else "warning")

@@ -40,7 +40,7 @@ class Shrink:
             raise Enough
         self.tries += 1
         cut = {name: values[:rounds] for name, values in inputs.items()}
-        found = judge(self.plan, cut, rounds) if rounds else None
+        found = judge(self.plan, cut, rounds).false if rounds else None
         taken = found is not None and found.name == self.name
         if taken:
             self.rounds = found.round + 1

@@ -25,10 +25,15 @@ Assign = namedtuple("Assign", "target value")
 Send = namedtuple("Send", "target value")
 # Branches are pairs of a condition and actions.
 If = namedtuple("If", "branches otherwise")
-For = namedtuple("For", "variable body")
-# An expression: the names that it reads, and its chains of logical operators, those in brackets included.
-Expr = namedtuple("Expr", "reads chains offset")
+For = namedtuple("For", "variable low high body")
+# An expression: the names that it reads, its chains of logical operators, those in brackets included, and its operands
+# and operators as a tree of Literal, Read, Unary and Binary.
+Expr = namedtuple("Expr", "reads chains offset root")
 Read = namedtuple("Read", "name fresh")
+Literal = namedtuple("Literal", "value offset")
+# An operator: its word in lower case, its place, and its operands.
+Unary = namedtuple("Unary", "word offset inner")
+Binary = namedtuple("Binary", "word offset left right")
 # The operators of one chain, in order.
 Chain = namedtuple("Chain", "words offset")
 
@@ -54,6 +59,26 @@ def exprs_in(transition):
             yield act.value
         elif isinstance(act, If):
             yield from (condition for condition, _ in act.branches)
+
+
+def nodes_in(node):
+    """All operands and operators of an expression's tree, outer ones before inner ones."""
+    todo = [node]
+    while todo:
+        node = todo.pop()
+        yield node
+        todo.extend([node.inner] if isinstance(node, Unary) else
+                    [node.right, node.left] if isinstance(node, Binary) else [])
+
+
+def spine(node):
+    """The first operand of operators that are read from the left, and these operators from the first one on. A long
+    sum is as deep as it is long, so whoever walks a tree takes it in this form."""
+    operators = []
+    while isinstance(node, Binary):
+        operators.append(node)
+        node = node.left
+    return node, operators[::-1]
 
 
 def behaviour_of(impl):

@@ -118,6 +118,16 @@ CHANGES = [
      ["unreached-state"]),
     ("untaken", "s {brake!(speed > limit)}", "s {brake!(speed > limit)}; s -[limit > 3]-> s {brake!(true)}",
      ["untaken-transition"]),
+    ("divisor", "speed > limit", "1 / limit > speed", ["zero-divisor"]),
+    ("tested divisor", "speed > limit", "limit != 0 and then 1 / limit > speed", []),
+    ("constant", "{brake!(speed > limit)}", "{if (1 > 2) brake!(true) end if; brake!(speed > limit)}",
+     ["constant-condition"]),
+    ("shadowed", "{brake!(speed > limit)}", "{if (speed > limit) brake!(true) elsif (speed > 9 and speed > limit) "
+     "brake!(false) else brake!(limit > 3) end if}", ["shadowed-branch"]),
+    ("shadowed transition", "states s: initial complete state;\ntransitions s -[on dispatch]-> s {brake",
+     "states s: initial complete state; t: state;\ntransitions t -[speed > 2]-> s; t -[speed > 3]-> s; "
+     "t -[otherwise]-> s; s -[on dispatch]-> t {brake", ["shadowed-transition"]),
+    ("partial", "speed!(v)};", "if (v > 3) speed!(v) end if};", ["partial-output"]),
     ("mixed", "speed > limit", "speed > limit or limit > 0 and speed > 1", ["mixed-operators"]),
     ("one kind", "speed > limit", "speed > limit and then limit > 0 and speed > 1", []),
     ("misspelt", "Dispatch_Protocol => Periodic;\nend Supervisor",

@@ -1,0 +1,127 @@
+"""The installation: it runs without sources, as a user who owns nothing, with its manual page and completions."""
+
+import os
+import shutil
+import subprocess
+import tempfile
+
+from lib import manual
+from lib.bundles import Refused, read
+from lib.installing import Installation
+from lib.program import found_by_pals
+from lib.version import VERSION
+from tests.common import TOP, WITHIN, Skipped, expect, page, tool
+
+DESIGN = os.path.join(TOP, "examples/two_counters.aadl")
+
+
+def ran(*words, given=b"", **more):
+    """The status and the text of a command."""
+    done = subprocess.run(words, input=given, stdout=subprocess.PIPE, stderr=subprocess.STDOUT, timeout=WITHIN,
+                          check=False, **more)
+    return done.returncode, done.stdout.decode("utf-8", "replace")
+
+
+def installed(folder):
+    """Installs into a folder; left out if no program is there."""
+    try:
+        found_by_pals()
+    except Refused as why:
+        raise Skipped(str(why)) from why
+    expect(tool("install", "--prefix", folder)[:2], (0, f"{folder}/bin/pals\n".encode()), "install")
+    return os.path.join(folder, "bin/pals")
+
+
+def test_an_installation_runs_without_sources():
+    """It answers by the copied program, also for a user who owns nothing; it refuses to build; it is removed whole."""
+    with tempfile.TemporaryDirectory() as folder:
+        os.chmod(folder, 0o755)
+        pals = installed(os.path.join(folder, "usr"))
+        shutil.copy(DESIGN, os.path.join(folder, "two.aadl"))
+        os.chmod(os.path.join(folder, "two.aadl"), 0o644)
+        before = sorted(os.walk(os.path.join(folder, "usr")))
+        other = ["setpriv", "--reuid=65534", "--regid=65534", "--clear-groups"]
+        other = other if os.geteuid() == 0 and shutil.which("setpriv") else []
+        clean = {"PATH": "/usr/bin:/bin", "HOME": "/nonexistent"}
+        status, text = ran(*other, pals, "check", f"{folder}/two.aadl", env=clean, cwd="/")
+        expect((status, text.startswith("accepted\n")), (0, True), text)
+        expect(ran(*other, pals, "lint", f"{folder}/two.aadl", env=clean, cwd="/"), (0, ""), "lint")
+        expect(ran(*other, pals, "--version", env=clean)[1].split(",")[0].split()[:2], ["pals", VERSION], "its version")
+        expect(ran(pals, "build", env=clean)[0], 1, "build")
+        expect(sorted(os.walk(os.path.join(folder, "usr"))), before, "nothing is written")
+        program = os.path.join(folder, "usr/lib/pals/program/pals")
+        with open(program, "ab") as file:
+            file.write(b"x")
+        expect(ran(pals, "--program", env=clean)[0], 127, "a program that is not the one of its record")
+        expect(tool("install", "--prefix", os.path.join(folder, "usr"))[0], 0, "a second installation")
+        expect(tool("install", "--remove", "--prefix", os.path.join(folder, "usr"))[0], 0, "remove")
+        expect([names for _, _, names in os.walk(os.path.join(folder, "usr")) if names], [], "what is left")
+
+
+def test_foreign_files_are_not_replaced():
+    """A folder or a program of another origin is not replaced or removed; an odd word is a wrong use."""
+    with tempfile.TemporaryDirectory() as folder:
+        os.makedirs(os.path.join(folder, "lib/pals"))
+        for words in ([], ["--remove"]):
+            status, _, said = tool("install", *words, "--prefix", folder)
+            expect((status, said.count("\n")), (1, 1), said)
+        expect(tool("install", "--prefix")[0], 2, "no folder")
+        expect(tool("install", "x")[0], 2, "a stray word")
+        try:
+            Installation(folder, folder).remove()
+            expect(True, False, "an error")
+        except Refused:
+            pass
+
+
+def test_the_manual_has_each_command():
+    """Each section of docs/commands.txt is in the manual, which troff takes without a warning."""
+    text = page("docs/commands.txt")
+    made = manual.manual(text, VERSION)
+    names = [name for name, _ in manual.sections_of(text)]
+    expect([name for name in names[1:] if f".SS {manual.roff(name)}\n" not in made], [], "sections")
+    expect("./pals" in made, False, "the installed name")
+    if shutil.which("groff"):
+        expect(ran("groff", "-man", "-Tutf8", "-ww", "-z", given=made.encode()), (0, ""), "groff")
+
+
+def test_completions():
+    """Each command and tool is offered, with its options; each shell that is installed takes its file."""
+    known = manual.options(page("docs/commands.txt"), os.path.join(TOP, "tools"))
+    expect({"check", "lint", "report", "install", "build"} <= set(known), True, "commands and tools")
+    expect("--loose" in known["world"] and "--trace" in known["run"] and "--quiet" in known["lint"], True, "options")
+    with tempfile.TemporaryDirectory() as folder:
+        for name, make in (("bash", manual.bash), ("zsh", manual.zsh), ("fish", manual.fish)):
+            path = os.path.join(folder, f"pals.{name}")
+            with open(path, "w", encoding="utf-8") as file:
+                file.write(make(known))
+            if shutil.which(name):
+                expect(ran(name, "-n", path), (0, ""), name)
+        asked = "COMP_WORDS=(pals lint --qu); COMP_CWORD=2; _pals; echo ${COMPREPLY[@]}"
+        if shutil.which("bash"):
+            expect(ran("bash", "-c", f"source {folder}/pals.bash; {asked}"), (0, "--quiet\n"), "bash")
+
+
+def test_the_package():
+    """The package has the program and its page, and depends on python3."""
+    if not shutil.which("dpkg-deb"):
+        raise Skipped("dpkg-deb is not installed")
+    try:
+        found_by_pals()
+    except Refused as why:
+        raise Skipped(str(why)) from why
+    with tempfile.TemporaryDirectory() as folder:
+        status, text = ran(os.path.join(TOP, "packaging/build-deb"), folder)
+        expect(status, 0, text)
+        listed = ran("dpkg-deb", "-c", text.strip())[1]
+        for path in ("./usr/bin/pals", "./usr/lib/pals/program/pals", "./usr/share/man/man1/pals.1.gz"):
+            expect(f" {path}" in listed, True, path)
+        fields = ran("dpkg-deb", "-f", text.strip(), "Version", "Depends")[1]
+        expect(f"Version: {VERSION}\n" in fields and "python3" in fields, True, fields)
+
+
+def test_the_version_is_in_one_place():
+    """The changes begin with the version of the file VERSION, and the hooks and the action exist."""
+    expect(page("CHANGELOG.md").split("\n## ")[1].split("\n")[0], VERSION, "CHANGELOG.md")
+    for name in ("Containerfile", "github/action.yml", "git/pre-commit", "git/pre-commit-hooks.yaml"):
+        expect(bool(read(os.path.join(TOP, "packaging", name))), True, name)

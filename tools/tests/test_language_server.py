@@ -1,0 +1,184 @@
+"""The language server, by a client that speaks the protocol; and its reader on texts that are cut or changed."""
+
+import glob
+import json
+import os
+import random
+import subprocess
+import sys
+import time
+
+from lib.bundles import read
+from lib.cursor import Fault
+from lib.edited import Edited
+from lib.grammar import package_of
+from lib.grammar import read as read_design_tree
+from lib.language_server import Server, completions, diagnostics
+from lib.recovering import read_all
+from tests.common import TOP, WITHIN, Skipped, built, expect, page
+from tests.test_traps import LAW
+
+URI = "file:///two.aadl"
+TEXT = page("examples/two_counters.aadl")
+DESIGNS = [it for it in sorted(glob.glob(f"{TOP}/examples/*.aadl")) if package_of(read(it))]
+SLOWEST = 2.0
+
+
+class Client:
+    """A client of a server in a process of its own."""
+
+    def __init__(self):
+        words = [sys.executable, os.path.join(TOP, "tools/language_server")]
+        self.process = subprocess.Popen(words, stdin=subprocess.PIPE, stdout=subprocess.PIPE, stderr=subprocess.PIPE)
+        self.number = 0
+
+    def __enter__(self):
+        return self
+
+    def __exit__(self, *_):
+        self.process.kill()
+        self.process.communicate()
+
+    def write(self, data):
+        """Writes the body of a message."""
+        self.process.stdin.write(b"Content-Length: %d\r\n\r\n" % len(data) + data)
+        self.process.stdin.flush()
+
+    def notify(self, method, params):
+        """Sends a notification."""
+        self.write(json.dumps({"jsonrpc": "2.0", "method": method, "params": params}).encode())
+
+    def read(self):
+        """The next message of the server."""
+        length = int(self.process.stdout.readline().split(b":")[1])
+        self.process.stdout.readline()
+        return json.loads(self.process.stdout.read(length))
+
+    def ask(self, method, **params):
+        """The answer to a request; the messages before it are passed over."""
+        self.number += 1
+        self.write(json.dumps({"jsonrpc": "2.0", "id": self.number, "method": method, "params": params}).encode())
+        while True:
+            found = self.read()
+            if found.get("id") == self.number:
+                return found
+
+    def change(self, text):
+        """Changes the text, and gives the diagnostics."""
+        self.notify("textDocument/didChange", {"textDocument": {"uri": URI}, "contentChanges": [{"text": text}]})
+        return self.read()["params"]["diagnostics"]
+
+    def at(self, method, text, needle, more=0):
+        """Asks something at a place of a text."""
+        offset = text.index(needle) + more
+        position = {"line": text.count("\n", 0, offset), "character": offset - text.rfind("\n", 0, offset) - 1}
+        return self.ask(f"textDocument/{method}", textDocument={"uri": URI}, position=position)["result"]
+
+
+def opened(client, text):
+    """Opens a text; gives its diagnostics."""
+    client.ask("initialize", capabilities={})
+    client.notify("initialized", {})
+    client.notify("textDocument/didOpen", {"textDocument": {"uri": URI, "text": text}})
+    return client.read()["params"]["diagnostics"]
+
+
+def test_a_session():
+    """Diagnostics with a fix, definition, description, completion, outline, and an orderly end."""
+    wrong = TEXT.replace("o!(x)", "o!(xx)", 1)
+    with Client() as client:
+        found = opened(client, wrong)
+        expect([(it["message"].split("\n")[0], it["severity"]) for it in found], [("unknown variable or port xx", 1)], "")
+        fix = client.ask("textDocument/codeAction", textDocument={"uri": URI}, range=found[0]["range"],
+                         context={"diagnostics": found})["result"][0]
+        expect(fix["edit"]["changes"][URI], [{"range": found[0]["range"], "newText": "x"}], "the fix")
+        expect(client.change(TEXT), [], "no fault")
+        place = client.at("definition", TEXT, "x + i")
+        line = TEXT.split("\n")[place["range"]["start"]["line"]]
+        expect(line[place["range"]["start"]["character"] :].startswith("x: Base_Types::Integer"), True, line)
+        expect("variable" in client.at("hover", TEXT, "x + i")["contents"]["value"], True, "description")
+        labels = [it["label"] for it in client.at("completion", TEXT, "x + i")]
+        expect("x" in labels and "abs" in labels and "thread" not in labels, True, str(labels))
+        outline = client.ask("textDocument/documentSymbol", textDocument={"uri": URI})["result"]
+        tree = package_of(TEXT.encode())
+        expect({it["name"] for it in outline}, {it.name.text for it in [*tree.types, *tree.impls]}, "outline")
+        expect(client.ask("textDocument/rename")["error"]["code"], -32601, "an unknown method")
+        expect(client.ask("textDocument/hover")["error"]["code"], -32603, "a request without its fields")
+        client.write(b"{")
+        expect(client.read()["error"]["code"], -32700, "no JSON")
+        expect(client.ask("shutdown")["result"], None, "shutdown")
+        client.notify("exit", {})
+        expect((client.process.wait(WITHIN), client.process.stderr.read()), (0, b""), "the end")
+
+
+def test_all_errors_in_one_run():
+    """Three syntax errors are three diagnostics, each at its token; a trap that lint finds is a warning."""
+    wrong = TEXT.replace("out data port", "out dta port", 1).replace("Period => 9 ms;", "Period = 9 ms;")
+    wrong = wrong.replace("{x := x + i + 1; ", "{x := x + ; ", 1)
+    lines = wrong.split("\n")
+    wanted = [next(at for at, line in enumerate(lines) if word in line) for word in ("dta", "x + ;", "Period = ")]
+    found = [it["range"]["start"]["line"] for it in diagnostics(Edited(wrong)) if it["code"] == "Syntax"]
+    expect(found, wanted, "lines of the errors")
+    design = LAW.partition("%%%\n")[0]
+    expect([(it["code"], it["severity"]) for it in diagnostics(Edited(design))], [("zero-divisor", 2)], "a warning")
+    characters = Edited('-- \U0001f600 x\n').position(len('-- \U0001f600'.encode()))
+    expect(characters, {"line": 0, "character": 5}, "characters of UTF-16")
+
+
+def test_readable_texts_have_their_tree():
+    """On the examples the reader that recovers has no error and the tree of the grammar; else its first error."""
+    for path in DESIGNS:
+        data = read(path)
+        package, _, faults = read_all(data)
+        tree = package_of(data)
+        expect((faults, package.types, package.impls), ([], tree.types, tree.impls), path)
+        for end in range(0, len(data), 97):
+            faults = read_all(data[:end])[2]
+            try:
+                read_design_tree(data[:end])
+                first = None
+            except Fault as fault:
+                first = fault.number
+            tokens = read_all(data[:end])[1]
+            expect(bool(faults) and faults[0][0] is tokens[first] or faults[0][0] == tokens[first], True, f"{path} {end}")
+
+
+def test_cut_and_changed_texts():
+    """Each prefix of the examples through the protocol, and changed texts: an answer, and none takes long."""
+    step, count = (1, 10_000) if "--more" in sys.argv else (53, 150)
+    with Client() as client:
+        opened(client, "")
+        for path in DESIGNS:
+            text = read(path).decode()
+            for end in range(0, len(text), step):
+                begun = time.monotonic()
+                client.change(text[:end])
+                expect(time.monotonic() - begun < SLOWEST, True, f"{path} {end}")
+        expect(client.ask("shutdown")["result"], None, "shutdown")
+        client.notify("exit", {})
+        expect((client.process.wait(WITHIN), client.process.stderr.read()), (0, b""), "no traceback")
+    chance, texts = random.Random("changes"), [read(it).decode() for it in DESIGNS]
+    for _ in range(count):
+        text = list(chance.choice(texts))
+        for _ in range(chance.randint(1, 4)):
+            at = chance.randrange(len(text))
+            text[at : at + chance.randint(0, 9)] = chance.choice(["", ";", "end", "{", "**}", '"', "x.y", "->", "\x00"])
+        edited = Edited("".join(text))
+        diagnostics(edited)
+        completions(edited, chance.randrange(len(edited.data) + 1))
+
+
+def test_formatting():
+    """A text is formatted by the program; one with comments is not, and the editor is informed."""
+    built()
+    sent = []
+    server = Server(sent.append, "0")
+    params = {"textDocument": {"uri": URI}}
+    server.take(URI, "-- a comment\n" + TEXT)
+    expect((server.on_formatting(params), "comments" in sent[-1]["params"]["message"]), (None, True), "comments")
+    plain = "\n".join(line.partition("--")[0] for line in TEXT.split("\n"))
+    server.take(URI, plain.replace(";", " ;"))
+    edits = server.on_formatting(params)
+    if edits is None:
+        raise Skipped(sent[-1]["params"]["message"])
+    expect(package_of(edits[0]["newText"].encode()) is not None and " ;" not in edits[0]["newText"], True, "the text")
