@@ -10,13 +10,31 @@ from .page import TOP
 PALS = os.path.join(TOP, "pals")
 BUILT = os.path.join(TOP, "crates", "pals_cli", "out", "pals_cli")
 CARRIED = os.path.join(TOP, "prebuilt", "out", "pals")
+BUILT_CODE = os.path.join(TOP, "crates", "pals_code", "out", "pals_code")
+CARRIED_CODE = os.path.join(TOP, "prebuilt", "out", "pals_code")
 
 
 def program_at(path=None):
     """The program that is asked: a file, or else the one that ./pals would run. One that is compiled anew for each
     answer is not asked."""
-    if path is None:
-        path = stands()
+    return executable(stands() if path is None else path)
+
+
+def code_program_at(path=None):
+    """The program that writes listings: a file, or else the one that ./pals code would run."""
+    if path is not None:
+        return executable(path)
+    said = ask_program(PALS, ["--version", "code"], b"")[1]
+    if "built and proved here" in said:
+        return BUILT_CODE
+    if "of prebuilt/" not in said:
+        raise Refused("pals_code is not built: ./pals build builds it, and --code FILE names one")
+    ask_program(PALS, ["code", "Root.impl"], b"")
+    return executable(CARRIED_CODE)
+
+
+def executable(path):
+    """The path of a program, if it can be run."""
     if not (os.path.isfile(path) and os.access(path, os.X_OK)):
         raise Refused(f"{path} is no program that can be run")
     return os.path.abspath(path)
