@@ -25,6 +25,12 @@ class Facts:
     def __contains__(self, variable):
         return variable in self.ranges or variable in self.strides
 
+    def hold(self, variable, value):
+        """Whether a value is one that a variable may have."""
+        low, high = self.ranges.get(variable, (value, value))
+        divisor, rest = self.strides.get(variable, (1, 0))
+        return low <= value <= high and (value - rest) % divisor == 0
+
 
 class Circuit:
     """The graph of a query: a latch for each bit of the state and one that is set when an assumption has failed; an
@@ -65,6 +71,10 @@ class Circuit:
             return [int(first)]
         return [(first >> at) & 1 for at in range(self.width(variable))]
 
+    def first_bit(self, name, bit):
+        """The first value of a bit of the state, by its name."""
+        return self.firsts.get((name, bit), 0)
+
     def width(self, variable):
         """How many bits a number has."""
         bounds = self.machine.bounds.get(variable, (LEAST, GREATEST))
@@ -74,8 +84,10 @@ class Circuit:
     def make_latches(self):
         """Makes the latches of the state; they are 0 at first, so a latch whose first bit is 1 is stored negated."""
         graph, terms = self.graph, self.terms
+        self.firsts = {}
         for variable in self.kept:
             first = self.first_bits(variable)
+            self.firsts.update({(terms.name(variable), at): bit for at, bit in enumerate(first)})
             if variable in self.constant:
                 self.bits[variable] = first[0] if terms.sort(variable) == "B" else graph.short(first)
                 continue

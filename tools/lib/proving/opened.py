@@ -2,10 +2,10 @@
 
 import json
 
-from ..bundles import DIVIDER, Refused, bundle_of
+from ..bundles import DIVIDER, Refused, bundle_of, read, without_mark
 from ..answers import WATCHED
 from ..lint import scenario_of
-from ..listing import read_listing
+from ..listing import GREATEST, LEAST, read_listing
 from ..model import declared_in, root_of
 from ..program import ask_program, code_program_at, program_at
 from ..ranges import named_ranges, values_of
@@ -18,22 +18,20 @@ OPTIONS = ("--root", "--program", "--code")
 class Opened:
     """A design and its scenario, with the programs that are asked about them."""
 
-    def __init__(self, files, options):
-        self.bundle = bundle_of(*files)
-        self.design = self.bundle.design if self.bundle.design.endswith(b"\n") else self.bundle.design + b"\n"
-        self.program, self.code = program_at(options.get("--program")), code_program_at(options.get("--code"))
-        declared = declared_in(self.design)
-        if declared is None:
-            raise Refused(f"{files[0]}: not a text of the language; ./pals check reports the position")
-        self.declared = declared
-        self.root = root_of(declared, options.get("--root")).name.text
-        self.listing_text = listing_of(self.code, self.root, self.design)
-        self.listing = read_listing(self.listing_text)
+    def __init__(self, design, scenario, options, where):
+        self.design, self.given = design if design.endswith(b"\n") else design + b"\n", scenario
+        self.declared = declared_in(self.design)
+        if self.declared is None:
+            raise Refused(f"{where}: not a text of the language; ./pals check reports the position")
+        self.root = root_of(self.declared, options.get("--root")).name.text
+        self.program = program_at(options.get("--program"))
+        code = code_program_at(options.get("--code"))
+        self.listing = read_listing(listing_of(code, self.root, self.design))
         self.machine = Machine(self.listing)
 
     def scenario(self):
-        """The scenario, which has to be an object."""
-        found = scenario_of(self.bundle.scenario)
+        """The scenario, which has to be an object; an empty one if there is none."""
+        found = scenario_of(self.given) if self.given.strip() else {}
         if not isinstance(found, dict):
             raise Refused("the scenario is not a JSON object")
         return found
@@ -41,7 +39,15 @@ class Opened:
     def values(self, words):
         """The values of the inputs that the words of --input name, by port."""
         ports = list(self.machine.inputs)
-        return {name: values_of(word) for name, word in named_ranges(words, ports, "in port of the root").items()}
+        found = {name: values_of(word) for name, word in named_ranges(words, ports, "in port of the root").items()}
+        for name, values in found.items():
+            boolean = self.machine.inputs[name][0] == "Boolean"
+            for part in values.parts:
+                if (hasattr(part, "first") if boolean else isinstance(getattr(part, "value", None), bool)):
+                    raise Refused(f"{name} takes {'true and false' if boolean else 'whole numbers'}, or null")
+                if hasattr(part, "first") and not LEAST <= part.first <= part.last <= GREATEST:
+                    raise Refused(f"a value of {name} has more than 64 bits")
+        return found
 
     def watch(self, scenario):
         """The first false property and its round by `pals watch`, or None. It runs the proved program."""
@@ -55,6 +61,14 @@ class Opened:
         """The status and the text of a command of the program on the design and a scenario."""
         data = self.design + DIVIDER + b"\n" + json.dumps(scenario).encode()
         return ask_program(self.program, [command, self.root], data)
+
+
+def opened_files(files, options):
+    """The design and the scenario in one file or in two. A design has no scenario if its file has only it."""
+    if len(files) == 1 and files[0].endswith(".aadl"):
+        return Opened(without_mark(read(files[0])), b"", options, files[0])
+    bundle = bundle_of(*files)
+    return Opened(bundle.design, bundle.scenario, options, files[0])
 
 
 def listing_of(code, root, design):

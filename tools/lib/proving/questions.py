@@ -67,14 +67,23 @@ class Questions:
                   if it in self.machine.next and found != (WIDEST if self.terms.sort(it) == "I" else EITHER)}
         exact = {it: aligned(found, strides[it]) if it in strides else found for it, found in ranges.items()}
         for facts in (Facts({**self.inputs, **exact}, strides), Facts({**self.inputs, **ranges})):
-            query = Query([], [self.allowed], facts, leaves=True)
-            result = first_of([induction(self.circuit(query), FACTS_SECONDS)], tell)
+            result = first_of([induction(self.circuit(self.facts_query(facts)), FACTS_SECONDS)], tell)
             if result.verdict == "false":
                 raise Fault("a round leaves a range or a stride that the tool has found")
             if result.verdict == "proved":
-                self.facts = facts
+                self.take_facts(facts)
                 return len(ranges) + len(facts.strides)
         return 0
+
+    def facts_query(self, facts):
+        """The query whether a round leaves some ranges or strides."""
+        return Query([], [self.allowed], facts, leaves=True)
+
+    def take_facts(self, facts):
+        """Assumes ranges and strides from now on. The first value of each variable has to keep them."""
+        if not all(facts.hold(it, int(self.terms.constant(first))) for it, first in self.machine.first.items()):
+            raise Fault("a first value lies outside its range")
+        self.facts = facts
 
     def query(self, name, paths, lemmas):
         """The query whether a property can be false, with the components of some paths."""
