@@ -84,12 +84,19 @@ def read_certificate(data):
         if found["form"] != FORM:
             raise Refused(f"the form of the certificate is not {FORM}")
         texts = (found["root"], found["design"], *found["inputs"])
-        parts = (found["ranges"].items(), found["strides"].items(), *found["steps"])
-        if not all(isinstance(it, str) for it in texts) or not parts:
-            raise Refused("the certificate is incomplete")
+        if not all(isinstance(it, str) for it in texts) or not isinstance(found["steps"], list):
+            raise Refused("a part of the certificate has another kind")
     except (ValueError, TypeError, KeyError, AttributeError, UnicodeDecodeError, RecursionError) as why:
         raise Refused("this is not a certificate") from why
     return found
+
+
+def forms_in(data):
+    """The formulas of the steps of a certificate, by the names of properties."""
+    try:
+        return {it["property"]: it["formula"] for it in data["steps"] if it["property"] is not None}
+    except (KeyError, TypeError) as why:
+        raise Refused("a step of the certificate has no property") from why
 
 
 def facts_in(questions, data):
@@ -104,8 +111,16 @@ def facts_in(questions, data):
     return facts
 
 
-def check_steps(questions, data, tell=lambda text: None):
+def check_certificate(questions, data, tell=lambda text: None):
     """Checks the steps of a certificate; gives the names of the properties that they show."""
+    try:
+        return check_steps(questions, data, tell)
+    except (KeyError, TypeError, ValueError, AttributeError) as why:
+        raise Refused(f"the certificate has a part that has no meaning: {str(why)[:60]}") from why
+
+
+def check_steps(questions, data, tell):
+    """The same, for a certificate whose parts have a meaning."""
     shown = []
     facts = facts_in(questions, data)
     if (data["ranges"] or data["strides"]) and (not data["steps"] or data["steps"][0]["property"] is not None):

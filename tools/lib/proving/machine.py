@@ -16,14 +16,14 @@ class Frame:
 
 class Machine:
     """A transition system: `first` and `next` of each variable of its state, and the `inputs` of the root by name
-    (kind, presence, value). `frames` has each component after the round by its path. `bounds` has the least and the
-    greatest value of each Integer variable by its type, `owner` the path of the component that computes a variable,
-    `goals` the conditions of each branch, end, trap and adaptor group."""
+    (kind, presence, value). `frames` has each component after the round by its path, `sends` what its out ports have in
+    each step. `bounds` has the least and the greatest value of each Integer variable by its type, `owner` the path of
+    the component that computes a variable, `goals` the conditions of each branch, end, trap and adaptor group."""
 
     def __init__(self, design):
         self.design, self.terms = design, Terms()
         self.first, self.next, self.bounds, self.owner, self.inputs = {}, {}, {}, {}, {}
-        self.frames, self.goals, self.cuts = {}, {}, []
+        self.frames, self.sends, self.goals = {}, {}, {}
         for it in design.inputs:
             number, port = it.target
             kind = design.components[number].ins[port].kind
@@ -63,7 +63,6 @@ class Machine:
         before = (state, halted, *slots, *held)
         read = [self.values_read(number, port) for port in range(len(ins))]
         outs, fresh, budget = [], [terms.truth(False) for _ in ins], [0]
-        shown = [(terms.truth(False), terms.zero(it.kind)) for it in component.outs]
         for at in range(component.rate):
             fresh = [places[at][0] for places in read]
             held = [terms.ite(places[at][0], places[at][1], old) for places, old in zip(read, held)]
@@ -71,11 +70,9 @@ class Machine:
             stops = terms.any(halted, step.trap)
             self.note(component, step, halted, stops)
             outs.append([(terms.all(terms.no(stops), present), value) for present, value in step.outs])
-            shown = outs[-1]
             state = terms.ite(stops, state, step.state)
             slots = [terms.ite(stops, old, new) for old, new in zip(slots, step.slots)]
             halted = stops
-            self.cuts += [it for it in (state, *slots, *held) if not terms.constant(it)]
         self.next.update(zip(before, (state, halted, *slots, *held)))
         for port in range(len(component.outs)):
             for at, (present, value) in enumerate(self.messages.get((number, port), ())):
@@ -83,7 +80,8 @@ class Machine:
         self.frames[path] = Frame(state, halted, {it.name: slots[at] for at, it in enumerate(component.variables)},
                                   dict(zip((it.name for it in ins), held)),
                                   dict(zip((it.name for it in ins), fresh)),
-                                  dict(zip((it.name for it in component.outs), shown)))
+                                  dict(zip((it.name for it in component.outs), outs[-1])))
+        self.sends[path] = outs
 
     def note(self, component, step, halted, stops):
         """Notes what a step may do, for coverage: a branch or an end counts if the step completes."""

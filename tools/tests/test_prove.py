@@ -1,0 +1,158 @@
+"""Properties for all inputs: those of the examples, a false twin of each proved one, and certificates."""
+
+import json
+import os
+import re
+import tempfile
+
+from lib.bundles import read
+from tests.common import EXAMPLES, HERE, Wrong, built, expect, script, tool
+from tests.proving import needed
+
+PACER, WHEEL, CRUISER, MAIN, LEFT, TAIL = ("controller.pacer", "c.wheel", "c.cruiser", "p.m", "p.l", "p.t")
+DEAF = ["var", PACER, "deaf", "=", 6]
+# For each design the words for its inputs, properties that are proved, and false ones with the least round.
+CRUISE = (os.path.join(EXAMPLES, "cruise_control.aadl"), ["raw=0..100000", "wanted=0..100000"], {
+    "low": ["var", CRUISER, "drive", ">=", 0], "high": ["var", CRUISER, "drive", "<=", 1000],
+    "runs": ["not", ["halted", CRUISER]], "smooth": ["var", WHEEL, "smooth", "<=", 99999],
+}, {"never_full": (["var", CRUISER, "drive", "<", 150], 15), "low_twin": (["var", CRUISER, "drive", "!=", 0], 0),
+    "high_twin": (["var", CRUISER, "drive", "<=", 20], 3), "smooth_twin": (["var", WHEEL, "smooth", "<=", 90000], 2)})
+TURN = (os.path.join(EXAMPLES, "turn_controller.aadl"), ["goal=-60..60"], {
+    "left": ["and", ["var", LEFT, "a", "<=", 60], ["var", LEFT, "a", ">=", -60]],
+    "tail": ["and", ["var", TAIL, "a", "<=", 60], ["var", TAIL, "a", ">=", -60]],
+    "sum": ["and", ["var", MAIN, "sum", "<=", 180], ["var", MAIN, "sum", ">=", -180]],
+    "runs": ["not", ["halted", MAIN]],
+}, {"lags": (["var", MAIN, "sum", "<", 100], 16), "left_twin": (["var", LEFT, "a", "<=", 8], 9),
+    "tail_twin": (["var", TAIL, "a", "<=", 11], 3), "sum_twin": (["var", MAIN, "sum", ">", -9], 3)})
+PACEMAKER = (os.path.join(EXAMPLES, "pacemaker.aadl"), [], {
+    "deaf_by_pace": ["or", ["var", PACER, "deaf", "=", 0], ["since", ["var", PACER, "deaf", "<", 6], DEAF]],
+    "rests": ["not", ["and", DEAF, ["previous", ["var", PACER, "deaf", ">", 0]]]],
+    "waits": ["or", ["not", DEAF], ["previous", ["var", PACER, "waited", "=", 19]]],
+}, {"unaided": (["historically", ["not", DEAF]], 19),
+    "waits_twin": (["or", ["not", DEAF], ["previous", ["var", PACER, "waited", "=", 18]]], 19),
+    "rests_twin": (["not", ["and", ["var", PACER, "deaf", "=", 5], ["previous", DEAF]]], 20)})
+VAULT = (os.path.join(HERE, "tests", "vault.aadl"), ["key=0..9999"], {
+    "held": ["var", "p.bolt", "held", ">=", 0], "wanted": ["var", "p.dial", "wanted", "<", 9973],
+    "opens_held": ["or", ["var", "p.bolt", "opened", "=", 0], ["once", ["var", "p.bolt", "held", ">=", 2]]],
+}, {"shut": (["var", "p.bolt", "opened", "=", 0], 4)})
+LINE = re.compile(r"(\w+) (proved|false in round (\d+)|unknown)\b.*")
+
+
+def prove(folder, model, properties, *words):
+    """What the tool writes for properties of a design: its status, and the verdict and the round of each."""
+    path = os.path.join(folder, "asked.json")
+    with open(path, "w", encoding="ascii") as file:
+        json.dump({"rounds": 1, "properties": properties}, file)
+    programs = [] if "--program" in words else ["--program", built()]
+    status, text, said = tool("prove", *programs, "--code", built("pals_code"), "--to", folder, *words, model, path)
+    found = {}
+    for line in text.decode().splitlines():
+        match = LINE.fullmatch(line)
+        if match is None:
+            raise Wrong(f"a line of prove: {line}")
+        found[match[1]] = "proved" if match[2] == "proved" else match[3] and int(match[3])
+    return status, found, said
+
+
+def check_design(model, inputs, proved, false):
+    """Each property has its answer, and each false one a scenario that `watch` finds false."""
+    needed("berkeley-abc")
+    words = [word for it in inputs for word in ("--input", it)]
+    with tempfile.TemporaryDirectory() as folder:
+        forms = {**proved, **{name: form for name, (form, _) in false.items()}}
+        wanted = {**dict.fromkeys(proved, "proved"), **{name: number for name, (_, number) in false.items()}}
+        status, found, said = prove(folder, model, forms, *words)
+        expect((found, status), (wanted, 1), f"the properties of {model}: {said}")
+        for name, (_, number) in false.items():
+            made = json.loads(read(os.path.join(folder, f"{name}.json")))
+            expect(made["rounds"], number + 1, f"the rounds of the scenario of {name}")
+
+
+def test_prove_cruise_control():
+    """The properties of the cruise control."""
+    check_design(*CRUISE)
+
+
+def test_prove_turn_controller():
+    """The properties of the turn controller."""
+    check_design(*TURN)
+
+
+def test_prove_pacemaker():
+    """The properties of the pacemaker."""
+    check_design(*PACEMAKER)
+
+
+def test_prove_vault():
+    """The keys that open the lock are found."""
+    check_design(*VAULT)
+
+
+def test_certificates_are_checked():
+    """A certificate is checked by another solver; one with a literal, a range or a lemma changed is rejected."""
+    needed("berkeley-abc", "cadical")
+    model, _, proved, _ = PACEMAKER
+    with tempfile.TemporaryDirectory() as folder:
+        path = os.path.join(folder, "certificate.json")
+        status, _, said = prove(folder, model, proved, "--certificate", path)
+        expect(status, 0, said)
+        check = ("prove", "--program", built(), "--code", built("pals_code"), "--check")
+        status, text, said = tool(*check, path, model)
+        expect((status, [line.split()[0] for line in text.decode().splitlines()]), (0, sorted(proved)), said)
+        expect(tool(*check, path, TURN[0])[0], 1, "the certificate of another design")
+        made = json.loads(read(path))
+        for change in changes(made):
+            with open(path, "w", encoding="ascii") as file:
+                json.dump(change, file)
+            status, text, said = tool(*check, path)
+            expect((status != 0, "Traceback" in said), (True, False), f"a certificate that is wrong: {said}")
+
+
+def changes(made):
+    """Certificates that are wrong."""
+    for number, step in enumerate(made["steps"]):
+        clauses = step["clauses"]
+        if clauses:
+            flipped = [it[1:] if it.startswith("-") else "-" + it for it in clauses[0]]
+            others = [flipped] + clauses[1:]
+            yield with_step(made, number, clauses=others)
+        if step["property"] is not None:
+            yield with_step(made, number, formula=["halted", PACER])
+            yield with_step(made, number, lemmas=["unaided"])
+    yield {**made, "ranges": {**made["ranges"], "controller.pacer.waited": [0, 19]}}
+    yield {**made, "ranges": {"nothing": [0, 19]}}
+    yield {**made, "steps": made["steps"][1:]}
+    yield {**made, "steps": [{}]}
+    yield {"form": made["form"]}
+
+
+def with_step(made, number, **fields):
+    """A certificate with some fields of a step changed."""
+    steps = list(made["steps"])
+    steps[number] = {**steps[number], **fields}
+    return {**made, "steps": steps}
+
+
+def test_prove_reports_what_watch_does_not_confirm():
+    """If the program does not find a false property false, the tool has a fault, and says so with status 3."""
+    needed("berkeley-abc")
+    model, _, _, false = PACEMAKER
+    with tempfile.TemporaryDirectory() as folder:
+        program = os.path.join(folder, "pals")
+        script(program, 'cat >/dev/null; echo "watch rounds 1 first none"')
+        status, found, said = prove(folder, model, {"unaided": false["unaided"][0]}, "--program", program)
+        expect((status, found, "has a fault" in said), (3, {}, True), said)
+
+
+def test_prove_rejects_wrong_words():
+    """Wrong words, values and formulas end with their status and one line."""
+    needed("berkeley-abc")
+    with tempfile.TemporaryDirectory() as folder:
+        model, proved = PACEMAKER[0], PACEMAKER[2]
+        for words, wanted in ((["--input", "beat=0..1"], 1), (["--input", "none=0..1"], 1), (["--only", "no"], 1),
+                              (["--seconds", "x"], 2), (["--what"], 2)):
+            status, _, said = prove(folder, model, proved, *words)
+            expect((status, "Traceback" in said), (wanted, False), f"{words}: {said}")
+        for properties in ({}, {"p": ["halted", "no"]}, {"p": ["until", ["halted", PACER]]}):
+            expect(prove(folder, model, properties)[0], 1, f"{properties}")
+        expect(tool("prove")[0], 2, "no words")
