@@ -1,6 +1,7 @@
 """The values of terms: for tests of the translation, and for what a scenario covers."""
 
 from ..listing import GREATEST, LEAST
+from .properties import EXACT
 from .terms import compared, computed, quotient
 
 
@@ -33,6 +34,15 @@ def number_of(op, x, y):
     if op in ("quot", "mod", "rem") and y == 0:
         return 0
     return (computed(op, x, y) + 2**63) % 2**64 - 2**63
+
+
+def expression_value(form, read):
+    """The value of an expression of a formula; `read` gives that of a variable or a port."""
+    if form[0] == "number":
+        return form[1]
+    if form[0] in EXACT:
+        return computed(EXACT[form[0]], *(expression_value(it, read) for it in form[1:]))
+    return read(form)
 
 
 class Run:

@@ -49,17 +49,17 @@ class Opened:
                     raise Refused(f"a value of {name} has more than 64 bits")
         return found
 
-    def watch(self, scenario):
+    def watch(self, scenario, design=None):
         """The first false property and its round by `pals watch`, or None. It runs the proved program."""
-        status, text = self.ask("watch", scenario)
+        status, text = self.ask("watch", scenario, design)
         last = WATCHED.fullmatch(text.rstrip("\n").rpartition("\n")[2])
         if status not in (0, 1) or last is None:
             raise Refused(f"pals watch {self.root} ended with {status}: {text[:120].strip()}")
         return (last["name"], int(last["round"])) if status else None
 
-    def ask(self, command, scenario):
-        """The status and the text of a command of the program on the design and a scenario."""
-        data = self.design + DIVIDER + b"\n" + json.dumps(scenario).encode()
+    def ask(self, command, scenario, design=None):
+        """The status and the text of a command of the program on the design, or a copy of it, and a scenario."""
+        data = (self.design if design is None else design) + DIVIDER + b"\n" + json.dumps(scenario).encode()
         return ask_program(self.program, [command, self.root], data)
 
 

@@ -27,6 +27,11 @@ def compared(op, x, y):
     return {"eq": x == y, "lt": x < y, "le": x <= y}[op]
 
 
+def compared_words(op, x, y):
+    """The result of any of the six comparisons."""
+    return not compared(FLIPPED[op], x, y) if op in FLIPPED else compared(op, x, y)
+
+
 class Terms:
     """The table of terms. A term is its number; the parts of a term have lower numbers."""
 
