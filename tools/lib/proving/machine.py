@@ -18,7 +18,7 @@ class Machine:
     """A transition system: `first` and `next` of each variable of its state, and the `inputs` of the root by name
     (kind, presence, value). `frames` has each component after the round by its path, `sends` what its out ports have in
     each step. `bounds` has the least and the greatest value of each Integer variable by its type, `owner` the path of
-    the component that computes a variable, `goals` the conditions of each branch, end, trap and adaptor group."""
+    the component that computes a variable, `goals` the conditions of each branch, move, trap and adaptor group."""
 
     def __init__(self, design):
         self.design, self.terms = design, Terms()
@@ -84,15 +84,13 @@ class Machine:
         self.sends[path] = outs
 
     def note(self, component, step, halted, stops):
-        """Notes what a step may do, for coverage: a branch or an end counts if the step completes."""
+        """Notes what a step may do, for coverage: a move or a branch counts if the step completes."""
         terms, path = self.terms, component.path
-        for place, way, when in step.branches:
-            self.goals.setdefault((path, "branch", place, way), []).append(terms.all(terms.no(stops), when))
-        for end, taken in step.ends:
-            key = (path, "end", component.states[end].name, "")
-            self.goals.setdefault(key, []).append(terms.all(terms.no(stops), taken.when))
-        for place, when in step.traps:
-            self.goals.setdefault((path, "trap", place, ""), []).append(terms.all(terms.no(halted), when))
+        found = [((path, "branch", place, side), terms.no(stops), when) for place, side, when in step.branches]
+        found += [((path, "move", place, ""), terms.no(stops), when) for place, when in step.moves]
+        found += [((path, "trap", place, ""), terms.no(halted), when) for place, when in step.traps]
+        for key, here, when in found:
+            self.goals.setdefault(key, []).append(terms.all(here, when))
 
     def values_read(self, number, port):
         """The presence and the value that each step of a round reads at an in port."""

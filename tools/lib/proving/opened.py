@@ -9,6 +9,8 @@ from ..listing import GREATEST, LEAST, read_listing
 from ..model import declared_in, root_of
 from ..program import ask_program, code_program_at, program_at
 from ..ranges import named_ranges, values_of
+from ..rows import Report
+from .evaluate import Run
 from .machine import Machine
 
 # Options that each command of this package takes, each with a word.
@@ -49,6 +51,29 @@ class Opened:
                     raise Refused(f"a value of {name} has more than 64 bits")
         return found
 
+    def component(self, path):
+        """The component of a path."""
+        return next(it for it in self.listing.components if it.path == path)
+
+    def position(self, offset):
+        """The line and the column of an offset in the design, from 1."""
+        before = self.design[:offset]
+        return before.count(b"\n") + 1, offset - before.rfind(b"\n")
+
+    def agrees(self, rows, inputs):
+        """Whether rows of `sync` have the states, the halts and the values that the machine has at some inputs."""
+        run, names = Run(self.machine, inputs), {self.machine.terms.name(it): it for it in self.machine.next}
+        for row in Report(rows).rows:
+            run.step()
+            for it in row.components:
+                component, halted = self.component(it.path), run.state[names[f"{it.path} halted"]]
+                state = component.states[run.state[names[f"{it.path} state"]]].name
+                values = {var.name: shown(var.kind, run.state[names[f"{it.path}.{var.name}"]])
+                          for var in component.variables}
+                if it.state.startswith("halted(") != halted or values != it.values or not halted and state != it.state:
+                    return False
+        return True
+
     def watch(self, scenario, design=None):
         """The first false property and its round by `pals watch`, or None. It runs the proved program."""
         status, text = self.ask("watch", scenario, design)
@@ -61,6 +86,11 @@ class Opened:
         """The status and the text of a command of the program on the design, or a copy of it, and a scenario."""
         data = (self.design if design is None else design) + DIVIDER + b"\n" + json.dumps(scenario).encode()
         return ask_program(self.program, [command, self.root], data)
+
+
+def shown(kind, value):
+    """A value as `sync` writes it."""
+    return str(bool(value)).lower() if kind == "Boolean" else str(int(value))
 
 
 def opened_files(files, options):

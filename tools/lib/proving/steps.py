@@ -24,12 +24,13 @@ class Step:
     """One step of a component as terms, from its state, its variables, its held inputs and the fresh ports.
 
     `state`, `slots` and `outs` hold the results (of an out port whether it is present, and its value), `trap` whether
-    the step traps, `ends` the paths with the states that they end in, `branches` the conditions of each jump."""
+    the step traps, `ends` the paths with the states that they end in; `branches`, `moves` and `traps` the conditions
+    under which it takes each side of a `JumpZero`, executes each `Jump` and `End`, and traps at each place."""
 
     def __init__(self, terms, component, before, held, fresh, budget):
         self.terms, self.component, self.held, self.fresh, self.budget = terms, component, held, fresh, budget
         self.loops = Verified(component).loops
-        self.traps, self.ends, self.waiting, self.branches = [], [], {}, []
+        self.traps, self.ends, self.waiting, self.branches, self.moves = [], [], {}, [], []
         state, slots = before
         none = [(terms.truth(False), terms.zero(port.kind)) for port in component.outs]
         start = [*slots, *[terms.number(0)] * component.loops]
@@ -112,11 +113,12 @@ class Step:
     def execute(self, place, path, name, *operands):
         """Executes an instruction that is not part of a loop."""
         terms = self.terms
-        if name == "Jump":
-            self.reach(operands[0], path)
-            return
-        if name == "End":
-            self.ends.append((operands[0], path))
+        if name in ("Jump", "End"):
+            self.moves.append((place, path.when))
+            if name == "Jump":
+                self.reach(operands[0], path)
+            else:
+                self.ends.append((operands[0], path))
             return
         if name == "JumpZero":
             test = terms.as_bool(path.stack.pop())
