@@ -112,6 +112,22 @@ class Circuit:
                 after = [after] if self.terms.sort(variable) == "B" else graph.wide(after, self.width(variable))
                 self.nexts += [bit ^ first for bit, first in zip(after, self.first_bits(variable))]
         self.nexts.append(good ^ 1)
+        self.prune()
+
+    def prune(self):
+        """Drops the latches and the gates that no output depends on."""
+        graph = self.graph
+        parts = {node: (one >> 1, two >> 1) for node, one, two in graph.gates}
+        parts.update((node, (after >> 1,)) for (node, _), after in zip(graph.latches, self.nexts))
+        needed, todo = set(), [it >> 1 for it in self.outputs]
+        while todo:
+            node = todo.pop()
+            if node not in needed:
+                needed.add(node)
+                todo += parts.get(node, ())
+        kept = [(latch, after) for latch, after in zip(graph.latches, self.nexts) if latch[0] in needed]
+        graph.latches, self.nexts = [latch for latch, _ in kept], [after for _, after in kept]
+        graph.gates = [gate for gate in graph.gates if gate[0] in needed]
 
     def in_range(self, variable, bits):
         """Whether a value lies in the range of a variable, and has its stride."""

@@ -11,9 +11,9 @@ from ..bundles import Refused
 
 ENGINE = "berkeley-abc"
 INSTALL = "apt install berkeley-abc (Debian and Ubuntu) installs it"
-# How a graph is made smaller before the inductive engine reads it.
-REDUCED = "strash; scorr; dc2"
-# Seconds that the engine gets beyond its own limit before it is ended.
+# How a graph is made smaller before the inductive engine reads it, and the gates from which on one step takes too long.
+REDUCED, LARGE_REDUCED, LARGE = "strash; scorr; dc2", "strash; dc2", 10_000
+# Seconds that the engine gets at most beyond its own limit before it is ended.
 GRACE = 5
 INVARIANT = re.compile(r"Invariant F\[\d+\] : (\d+) clauses with (\d+) flops")
 ASSERTED = re.compile(r"Output (\d+) of .* was asserted in frame (\d+)")
@@ -41,7 +41,7 @@ class Job:
 
     def __init__(self, circuit, name, script, seconds):
         self.circuit, self.path = circuit, f"{circuit.stem}.{name}"
-        self.begun, self.limit = time.monotonic(), seconds + GRACE
+        self.begun, self.limit = time.monotonic(), seconds + min(GRACE, 1 + seconds)
         script = f"read {circuit.stem}.aig; {script}; print_status; write_cex -a {self.path}.cex"
         with open(f"{self.path}.out", "wb") as out:
             # The engine has a group of its own, so that an interrupt reaches only the tool, which ends it.
@@ -86,9 +86,10 @@ class Job:
         return [row.strip() for row in rows]
 
 
-def induction(circuit, seconds, options=""):
+def induction(circuit, seconds):
     """A job that proves by property-directed reachability."""
-    return Job(circuit, "pdr", f"{REDUCED}; pdr {options} -T {max(1, round(seconds))}", seconds)
+    reduced = REDUCED if len(circuit.graph.gates) < LARGE else LARGE_REDUCED
+    return Job(circuit, "pdr", f"{reduced}; pdr -T {max(1, round(seconds))}", seconds)
 
 
 def bounded(circuit, seconds):

@@ -7,10 +7,10 @@ from .terms import quotient
 WIDEST = (LEAST, GREATEST)
 EITHER = (0, 1)
 # A bound moves this often before it goes on to the next threshold, and this often in all before it goes to the end.
-MOVES, MOST_MOVES = 4, 60
+MOVES, MOST_MOVES = 4, 40
 NARROWING = 40
 # How deep conditions refine the values under them, and how many terms a pass evaluates in refined environments.
-DEEPEST, MOST_REFINED = 40, 200_000
+DEEPEST, MOST_REFINED = 40, 20_000
 # A disjunction of more conditions than this refines nothing.
 MOST_SIDES = 8
 
@@ -50,6 +50,7 @@ class Intervals:
         self.machine, self.terms = machine, machine.terms
         self.ranges = dict(inputs)
         self.state = list(machine.next)
+        self.below = {it: self.terms.below([after]) for it, after in machine.next.items()}
         self.order = self.terms.below(machine.next.values())
         for variable, first in machine.first.items():
             value = int(self.terms.constant(first))
@@ -65,24 +66,22 @@ class Intervals:
         constants = [self.terms.constant(it) for it in self.order if self.terms.sort(it) == "I"]
         for number in ends + [it for it in constants if it is not None]:
             found |= {number - 1, number, number + 1, -number - 1, -number, 1 - number}
-        for bits in range(1, 64):
+        for bits in (8, 16, 32):
             found |= {2**bits - 1, -(2**bits)}
         return sorted(it for it in found if LEAST <= it <= GREATEST)
 
     def widen(self):
         """Runs rounds on ranges until no range grows; a bound that keeps growing goes to a threshold."""
-        moves = dict.fromkeys(self.state, 0)
-        grown = True
+        moves, grown = dict.fromkeys(self.state, 0), set(self.state)
         while grown:
-            grown = False
-            found = self.round()
-            for variable in self.state:
-                old, new = self.ranges[variable], hull(self.ranges[variable], found[variable])
-                if new == old:
-                    continue
-                grown = True
-                moves[variable] += 1
-                self.ranges[variable] = self.widened(old, new, moves[variable])
+            found, changed = self.round(grown), set()
+            for variable, after in found.items():
+                old, new = self.ranges[variable], hull(self.ranges[variable], after)
+                if new != old:
+                    changed.add(variable)
+                    moves[variable] += 1
+                    self.ranges[variable] = self.widened(old, new, moves[variable])
+            grown = changed
 
     def widened(self, old, new, moves):
         """A range that has grown so often."""
@@ -101,23 +100,26 @@ class Intervals:
 
     def narrow(self):
         """Runs rounds that make ranges smaller: what a round gives of closed ranges is closed."""
+        shrunk = set(self.state)
         for _ in range(NARROWING):
-            found, shrunk = self.round(), False
-            for variable in self.state:
+            found, shrunk = self.round(shrunk), set()
+            for variable, after in found.items():
                 first = int(self.terms.constant(self.machine.first[variable]))
-                new = meet(self.ranges[variable], hull((first, first), found[variable]))
-                shrunk = shrunk or new != self.ranges[variable]
+                new = meet(self.ranges[variable], hull((first, first), after))
+                if new != self.ranges[variable]:
+                    shrunk.add(variable)
                 self.ranges[variable] = new
             if not shrunk:
                 return
 
-    def round(self):
-        """The ranges of the variables after a round."""
+    def round(self, changed):
+        """The ranges after a round of the variables that depend on changed ones."""
         self.spent = 0
         self.base = Environment({}, 0)
-        for term in self.order:
+        affected = [it for it in self.state if not changed.isdisjoint(self.below[it])]
+        for term in sorted(set().union(*(self.below[it] for it in affected))):
             self.range_of(term, self.base)
-        return {it: self.range_of(after, self.base) for it, after in self.machine.next.items()}
+        return {it: self.range_of(self.machine.next[it], self.base) for it in affected}
 
     def range_of(self, term, under):
         """The range of a term in an environment; None if no value is possible. Truth values are 0 and 1."""

@@ -9,7 +9,7 @@ from .intervals import EITHER, WIDEST, Intervals
 from .properties import Formulas, paths_in
 from .strides import aligned, strides_of
 
-# The seconds that a part of the components gets, as a part of the time of a property, and for ranges and strides.
+# The part of a property's seconds for a query on some components, and the seconds for ranges and strides.
 PART, FACTS_SECONDS = 0.2, 20
 
 
