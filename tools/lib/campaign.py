@@ -22,6 +22,8 @@ Plan = namedtuple("Plan", "program root design scenario ports rounds seed agains
 # A scenario that is false: what is false of it, and its first false round.
 Falsified = namedtuple("Falsified", "name round")
 
+# How many scenarios are tried to make a false one small.
+MOST_TRIES = 2_000
 # How many scenarios a processor is handed at once.
 CHUNK = 16
 # What a worker works on: the plan, and whether scenarios are taken in order.
@@ -157,6 +159,8 @@ class Shrink:
 
     def take(self, inputs, rounds):
         """Takes a scenario where it is false too, cut behind its first false round."""
+        if self.tries >= MOST_TRIES:
+            return False
         self.tries += 1
         cut = {name: values[:rounds] for name, values in inputs.items()}
         found = judge(self.plan, cut, rounds) if rounds else None
@@ -167,7 +171,7 @@ class Shrink:
         return True
 
     def smallest(self):
-        """The scenario when nothing makes it smaller; it has its inputs and its rounds."""
+        """The scenario when nothing makes it smaller, or enough was tried; it has its inputs and its rounds."""
         while self.fewer_rounds() or self.simpler_values():
             pass
         inputs = {}

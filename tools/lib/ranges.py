@@ -110,10 +110,12 @@ class Values:
         return any(part.has(value) for part in self.parts)
 
     def simpler(self, value):
-        """The values that are simpler than one, the simplest first: none, those that come first, half as much."""
+        """The values that are simpler than one, the simplest first: none, those that come first, half as much, and
+        then nearer and nearer to it, so that a number which has to be large is found in few steps."""
         options = [None, False, 0, self.take(0)]
         if isinstance(value, int) and not isinstance(value, bool):
-            options += [value // 2, value - 1 if value > 0 else value + 1]
+            sign, size = (-1, -value) if value < 0 else (1, value)
+            options += [value // 2, *(value - sign * (size >> bits) for bits in range(1, size.bit_length()))]
         taken = []
         for option in options:
             if self.has(option) and not same(option, value) and not any(same(option, it) for it in taken):
