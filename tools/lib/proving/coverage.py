@@ -70,9 +70,9 @@ class Coverage:
                 self.left = []
             elif result.verdict == "open" or not self.take(result.inputs, result.rounds + 1):
                 break
-        for key in list(self.left):
-            if key in self.left:
-                self.one(key, max(remaining() / len(self.left), 1), tell)
+        while self.left and remaining() > 0:
+            self.one(self.left[0], max(remaining() / len(self.left), 1), tell)
+        self.unknown += self.left
 
     def one(self, key, seconds, tell):
         """Asks for one goal."""

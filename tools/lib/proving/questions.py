@@ -9,8 +9,8 @@ from .intervals import EITHER, WIDEST, Intervals
 from .properties import Formulas, paths_in
 from .strides import aligned, strides_of
 
-# The part of a property's seconds for a query on some components, and the seconds for ranges and strides.
-PART, FACTS_SECONDS = 0.2, 20
+# The part of a property's seconds for a query on some components, and for each try of ranges and strides.
+PART = 0.2
 
 
 class Fault(Exception):
@@ -60,14 +60,14 @@ class Questions:
         made.write()
         return made
 
-    def find_facts(self, tell=lambda: None):
+    def find_facts(self, seconds, tell=lambda: None):
         """Guesses ranges and strides of the state and shows that no round leaves them; gives how many there are."""
         guess, strides = Intervals(self.machine, self.inputs).ranges, strides_of(self.machine)
         ranges = {it: found for it, found in guess.items()
                   if it in self.machine.next and found != (WIDEST if self.terms.sort(it) == "I" else EITHER)}
         exact = {it: aligned(found, strides[it]) if it in strides else found for it, found in ranges.items()}
         for facts in (Facts({**self.inputs, **exact}, strides), Facts({**self.inputs, **ranges})):
-            result = first_of([induction(self.circuit(self.facts_query(facts)), FACTS_SECONDS)], tell)
+            result = first_of([induction(self.circuit(self.facts_query(facts)), max(PART * seconds, 1))], tell)
             if result.verdict == "false":
                 raise Fault("a round leaves a range or a stride that the tool has found")
             if result.verdict == "proved":
