@@ -167,8 +167,9 @@ class Program:
         for number in range(len(self.names)):
             found += self.steps(number)
         for name, it in zip(self.names, self.design.components):
-            found += [f"        for (int i = 0; i < {it.sent}; i++) {{ old_{name}[{port}][i] = out_{name}[i][{port}]; }}"
-                      for port in range(len(it.outs))]
+            for port in range(len(it.outs)):
+                moved = f"old_{name}[{port}][i] = out_{name}[i][{port}];"
+                found.append(f"        for (int i = 0; i < {it.sent}; i++) {{ {moved} }}")
         return found + ["        if (shows) { show(r); continue; }", *checks, *self.updates, "    }", "    return -1;",
                         "}"]
 
@@ -181,7 +182,8 @@ class Program:
             if source is None:
                 reads.append(f"            in[{port}] = PALS_ABSENT;")
             else:
-                sources.append(f"            static const pals_source s{port} = {{0, {port}, {rate}, {source}, false}};")
+                made = f"{{0, {port}, {rate}, {source}, false}}"
+                sources.append(f"            static const pals_source s{port} = {made};")
                 reads.append(f"            in[{port}] = pals_read(&s{port}, {it.rate}, (uint32_t)i, {message});")
         return [f"        for (int i = 0; i < {it.rate}; i++) {{", f"            pals_value in[{max(1, len(it.ins))}];",
                 *sources, *reads, f"            {name}_step(&f_{name}, in, out_{name}[i]);", "        }"]

@@ -18,7 +18,8 @@ from tests.proving import made
 from tests.test_formulas import Texts
 
 ROUNDS, NUMBERS = 9, 12
-KINDS = {"Integer": ("-5..9,null", "0..3,9223372036854775807,null", "-2..2"), "Boolean": ("true,false,null", "true,false")}
+KINDS = {"Integer": ("-5..9,null", "0..3,9223372036854775807,null", "-2..2"),
+         "Boolean": ("true,false,null", "true,false")}
 
 
 def campaign_of(seed, folder):
@@ -69,8 +70,8 @@ def test_wrong_compiled_code_is_found():
                 with open(os.path.join(EXAMPLES, "pacemaker.aadl"), "rb") as file:
                     design = file.read()
                 scenario = {"rounds": 20, "properties": {"q": ["halted", "controller.pacer"]}}
-                plan = Plan(built(), "Pacemaker.impl", design, scenario, {"beat": values_of("true,false")}, 20, "0", None,
-                            None, None)
+                ports = {"beat": values_of("true,false")}
+                plan = Plan(built(), "Pacemaker.impl", design, scenario, ports, 20, "0", None, None, None)
                 listing = read_listing(listing_of(design.decode() + "\n", "Pacemaker.impl"))
                 try:
                     Fast(plan, listing, folder).compare(range(20))
@@ -89,8 +90,8 @@ def test_parts_of_a_campaign():
         path = os.path.join(folder, "s.json")
         with open(path, "w", encoding="ascii") as file:
             json.dump({"rounds": 30}, file)
-        words = ["--fast", "--program", built(), "--code", built("pals_code"), "--count", "3000", "--compare", "5", "--jobs",
-                 "2", "--property", "rare: controller.pacer.waited <= 13 or controller.sensor.before",
+        words = ["--fast", "--program", built(), "--code", built("pals_code"), "--count", "3000", "--compare", "5",
+                 "--jobs", "2", "--property", "rare: controller.pacer.waited <= 13 or controller.sensor.before",
                  os.path.join(EXAMPLES, "pacemaker.aadl"), path]
         status, text, said = tool("campaign", *words)
         expect((status, json.loads(text)["rounds"]), (1, 14), said)

@@ -39,7 +39,8 @@ READ = {
     "2 * p.l.a <= 3": ["compare", "<=", ["*", ["number", 2], ["variable", "p.l", "a"]], ["number", 3]],
 }
 WRONG = ("", "p.l.a", "p.l.a <= ", "p.l.b <= 3", "p.x.a <= 3", "(p.l.a <= 3", "p.l.a <= 3)", "p.l.a <= 3 p.l.halted",
-         "p.l in t", "p.l in mv", "p.l.a'fresh", "once[99] p.l.halted", "once[-1] p.l.halted", "p.l.a <= 3 + p.l.halted",
+         "p.l in t", "p.l in mv", "p.l.a'fresh", "once[99] p.l.halted", "once[-1] p.l.halted",
+         "p.l.a <= 3 + p.l.halted",
          "p.l.halted < p.l.halted", "p.l.a <= 99999999999999999999", "p.l.a ; 3", "not" * 3, "not " * 80 + "p.l.halted")
 
 
@@ -135,8 +136,8 @@ def test_watch_takes_texts():
     """tools/watch has the answer of the program; what needs a delay is rejected."""
     files = [f"{EXAMPLES}/pacemaker.aadl", f"{EXAMPLES}/pacemaker.json"]
     words = ["--program", built(), "--code", built("pals_code")]
-    status, text, said = tool("watch", *words, "--property", "q: controller.pacer in alert or controller.pacer.deaf > 0",
-                              *files)
+    calm = "q: controller.pacer in alert or controller.pacer.deaf > 0"
+    status, text, said = tool("watch", *words, "--property", calm, *files)
     expect((status, text.decode().splitlines()[-1]), (0, "watch rounds 32 first none"), said)
     status, text, said = tool("watch", *words, "--property", "q: controller.pacer in alert", *files)
     expect((status, text.decode().split()[-2]), (1, "q"), said)

@@ -43,8 +43,8 @@ def test_graphs_agree_with_terms():
 
 def operator_inputs():
     """Inputs of the design with all operators; a divisor of 0 comes last, since it halts what divides."""
-    pairs = [(7, 2), (-7, 2), (7, -3), (0, 5), (-1, 1), (2, 2), (3, 3), (-9, -9), (1, 5), (2**31, 3), (None, 4), (5, None),
-             (5, 0), (0, 0), (-3, 0)]
+    pairs = [(7, 2), (-7, 2), (7, -3), (0, 5), (-1, 1), (2, 2), (3, 3), (-9, -9), (1, 5), (2**31, 3), (None, 4),
+             (5, None), (5, 0), (0, 0), (-3, 0)]
     return {"a": [a for a, _ in pairs], "b": [b for _, b in pairs]}, len(pairs)
 
 
@@ -94,7 +94,8 @@ class Planted:
 
 def test_a_wrong_gate_is_found():
     """Each mistake in the arithmetic of vectors is found by comparison with the terms."""
-    right = {name: vars(Graph)[name] for name in ("sum", "product", "choice", "same", "less", "divided", "fits", "size")}
+    names = ("sum", "product", "choice", "same", "less", "divided", "fits", "size")
+    right = {name: vars(Graph)[name] for name in names}
     mistakes = {
         "sum": lambda self, one, two, subtract=0: right["sum"](self, one, two, 1 - subtract),
         "product": lambda self, one, two: right["product"](self, one, one),

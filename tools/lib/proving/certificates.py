@@ -140,7 +140,7 @@ def check_steps(questions, data, tell):
 
 
 def check_invariant(circuit, texts, what):
-    """Shows by three queries that clauses hold at first, that each round keeps them, and that they give the property."""
+    """Shows by three queries that clauses hold at first, that a round keeps them, and that they give the property."""
     variables = {name: node for node, name in circuit.graph.latches}
     clauses = []
     for clause in texts:

@@ -1,11 +1,11 @@
 """Ranges of the variables of a machine, guessed by interval arithmetic. Nothing depends on their being right: a query
 shows that no round leaves them before any other query assumes them."""
 
-from ..listing import GREATEST, LEAST
-from .terms import quotient
+import time
 
-WIDEST = (LEAST, GREATEST)
-EITHER = (0, 1)
+from ..listing import GREATEST, LEAST
+from .interval_arithmetic import EITHER, WIDEST, arithmetic, comparison, hull, meet
+
 # A bound moves this often before it goes on to the next threshold, and this often in all before it goes to the end.
 MOVES, MOST_MOVES = 4, 40
 NARROWING = 40
@@ -13,27 +13,6 @@ NARROWING = 40
 DEEPEST, MOST_REFINED = 40, 20_000
 # A disjunction of more conditions than this refines nothing.
 MOST_SIDES = 8
-
-
-def hull(one, two):
-    """The least range that has two ranges in it; None has no value."""
-    if one is None or two is None:
-        return one if two is None else two
-    return min(one[0], two[0]), max(one[1], two[1])
-
-
-def meet(one, two):
-    """The values in both ranges, or None."""
-    if one is None or two is None:
-        return None
-    low, high = max(one[0], two[0]), min(one[1], two[1])
-    return (low, high) if low <= high else None
-
-
-def corners(work, one, two):
-    """The range of a function that is monotone on each side, from its corners."""
-    found = [work(x, y) for x in one for y in two]
-    return min(found), max(found)
 
 
 class Environment:
@@ -44,10 +23,12 @@ class Environment:
 
 
 class Intervals:
-    """The ranges of the variables of a machine, with the ranges of its inputs."""
+    """The ranges of the variables of a machine, with the ranges of its inputs. When the seconds are over, conditions
+    refine nothing any more, and a bound that grows goes to the end."""
 
-    def __init__(self, machine, inputs):
+    def __init__(self, machine, inputs, seconds):
         self.machine, self.terms = machine, machine.terms
+        self.end, self.late = time.monotonic() + seconds, False
         self.ranges = dict(inputs)
         self.state = list(machine.next)
         self.below = {it: self.terms.below([after]) for it, after in machine.next.items()}
@@ -85,9 +66,9 @@ class Intervals:
 
     def widened(self, old, new, moves):
         """A range that has grown so often."""
-        if self.is_boolean(old, new) or (moves <= MOST_MOVES and moves % MOVES):
+        if self.is_boolean(old, new) or not self.late and moves <= MOST_MOVES and moves % MOVES:
             return new
-        if moves > MOST_MOVES:
+        if self.late or moves > MOST_MOVES:
             return (new[0] if new[0] == old[0] else LEAST, new[1] if new[1] == old[1] else GREATEST)
         low = new[0] if new[0] == old[0] else max(it for it in self.thresholds if it <= new[0])
         high = new[1] if new[1] == old[1] else min(it for it in self.thresholds if it >= new[1])
@@ -102,6 +83,8 @@ class Intervals:
         """Runs rounds that make ranges smaller: what a round gives of closed ranges is closed."""
         shrunk = set(self.state)
         for _ in range(NARROWING):
+            if self.late:
+                return
             found, shrunk = self.round(shrunk), set()
             for variable, after in found.items():
                 first = int(self.terms.constant(self.machine.first[variable]))
@@ -114,7 +97,7 @@ class Intervals:
 
     def round(self, changed):
         """The ranges after a round of the variables that depend on changed ones."""
-        self.spent = 0
+        self.spent, self.late = 0, time.monotonic() > self.end
         self.base = Environment({}, 0)
         affected = [it for it in self.state if not changed.isdisjoint(self.below[it])]
         for term in sorted(set().union(*(self.below[it] for it in affected))):
@@ -128,7 +111,7 @@ class Intervals:
             return found
         if under is not self.base:
             self.spent += 1
-            if under.depth > DEEPEST or self.spent > MOST_REFINED:
+            if self.late or under.depth > DEEPEST or self.spent > MOST_REFINED:
                 return self.base.memo.get(term, WIDEST)
         found = self.computed(term, under)
         if term in under.known:
@@ -260,38 +243,3 @@ class Intervals:
                 shift = constant if node[1] == "sub" else -constant
                 return self.add(node[2], (new[0] + shift, new[1] + shift), known, under)
         return True
-
-
-def comparison(op, left, right):
-    """The truth values that a comparison may have."""
-    if op == "eq":
-        return int(left == right and left[0] == left[1]), int(meet(left, right) is not None)
-    strict = int(op == "lt")
-    return int(left[1] + strict <= right[0]), int(left[0] + strict <= right[1])
-
-
-def arithmetic(op, left, right):
-    """The range of an operator's result; where it leaves 64 bits the step traps, or the result is any number."""
-    word = op.split("_")[-1]
-    if word in ("add", "sub", "mul"):
-        work = {"add": lambda x, y: x + y, "sub": lambda x, y: x - y, "mul": lambda x, y: x * y}[word]
-        found = corners(work, left, right)
-        if op.startswith("exact"):
-            return found
-        fits = LEAST <= found[0] and found[1] <= GREATEST
-        if op.startswith("overflow"):
-            never = found[1] < LEAST or found[0] > GREATEST
-            return (0, 0) if fits else (1, 1) if never else EITHER
-        return found if fits else WIDEST
-    divisor = (right[0] or 1, right[1] or -1)
-    sizes = max(abs(right[0]), abs(right[1]))
-    if op == "quot":
-        if right[0] <= 0 <= right[1] or left[0] == LEAST:
-            size = max(abs(left[0]), abs(left[1]))
-            return max(-size, LEAST), min(size, GREATEST)
-        return corners(quotient, left, divisor)
-    if op == "rem":
-        return max(left[0], 1 - sizes) if left[0] < 0 else 0, min(left[1], sizes - 1) if left[1] > 0 else 0
-    if right[0] > 0 and 0 <= left[0] and left[1] < right[0]:
-        return left
-    return (1 - sizes if right[0] < 0 else 0), (sizes - 1 if right[1] > 0 else 0)

@@ -1,7 +1,7 @@
 """The positions in a design's text that the instructions of step code come from.
 
-The instructions of a behaviour are laid out again from its tokens, in the order of docs/step_code.md. If their names are
-those of the listing, each place of the code has the position of its token."""
+The instructions of a behaviour are laid out again from its tokens, in the order of docs/step_code.md. If their names
+are those of the listing, each place of the code has the position of its token."""
 
 from ..tokens import word_of
 from ..tree import behaviour_of
@@ -14,7 +14,7 @@ LOGICAL = {"and": "And", "or": "Or", "xor": "Xor"}
 
 class Place:
     """An instruction with the offset of its token, and its part in the text: guard, if, and then, or else, transition,
-    or nothing. `end` is the offset behind the part."""
+    or nothing."""
 
     def __init__(self, name, offset, part=""):
         self.name, self.offset, self.part = name, offset, part

@@ -5,7 +5,8 @@ import time
 
 from .circuit import Circuit, Facts, Query
 from .engine import bounded, first_of, first_proved, induction
-from .intervals import EITHER, WIDEST, Intervals
+from .interval_arithmetic import EITHER, WIDEST
+from .intervals import Intervals
 from .properties import Formulas, paths_in
 from .strides import aligned, strides_of
 
@@ -62,11 +63,12 @@ class Questions:
 
     def find_facts(self, seconds, tell=lambda: None):
         """Guesses ranges and strides of the state and shows that no round leaves them; gives how many there are."""
-        guess, strides = Intervals(self.machine, self.inputs).ranges, strides_of(self.machine)
+        guess, strides = Intervals(self.machine, self.inputs, PART * seconds).ranges, strides_of(self.machine)
         ranges = {it: found for it, found in guess.items()
                   if it in self.machine.next and found != (WIDEST if self.terms.sort(it) == "I" else EITHER)}
         exact = {it: aligned(found, strides[it]) if it in strides else found for it, found in ranges.items()}
-        for facts in (Facts({**self.inputs, **exact}, strides), Facts({**self.inputs, **ranges})):
+        tries = [Facts({**self.inputs, **exact}, strides)]
+        for facts in tries + [Facts({**self.inputs, **ranges})] * bool(strides):
             result = first_of([induction(self.circuit(self.facts_query(facts)), max(PART * seconds, 1))], tell)
             if result.verdict == "false":
                 raise Fault("a round leaves a range or a stride that the tool has found")
