@@ -73,6 +73,11 @@ def test_prove_cruise_control():
     check_design(*CRUISE)
 
 
+def test_prove_without_limits_on_inputs():
+    """An input that is not named has any value of 64 bits: then the filter of the wheel overflows in its second step."""
+    check_design(CRUISE[0], [], {"runs": ["not", ["halted", CRUISER]]}, {"wheel": (["not", ["halted", WHEEL]], 0)})
+
+
 def test_prove_turn_controller():
     """The properties of the turn controller."""
     check_design(*TURN)

@@ -78,8 +78,7 @@ class Circuit:
     def width(self, variable):
         """How many bits a number has."""
         bounds = self.machine.bounds.get(variable, (LEAST, GREATEST))
-        low, high = self.query.facts.ranges.get(variable, bounds)
-        return max(low.bit_length(), high.bit_length()) + 1
+        return 1 + max((it if it >= 0 else ~it).bit_length() for it in self.query.facts.ranges.get(variable, bounds))
 
     def make_latches(self):
         """Makes the latches of the state; they are 0 at first, so a latch whose first bit is 1 is stored negated."""
