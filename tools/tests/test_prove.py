@@ -6,6 +6,7 @@ import re
 import tempfile
 
 from lib.bundles import read
+from lib.proving import steps, terms, vectors
 from tests.common import EXAMPLES, HERE, Wrong, built, expect, script, tool
 from tests.proving import needed
 
@@ -147,6 +148,22 @@ def test_prove_reports_what_watch_does_not_confirm():
         script(program, 'cat >/dev/null; echo "watch rounds 1 first none"')
         status, found, said = prove(folder, model, {"unaided": false["unaided"][0]}, "--program", program)
         expect((status, found, "has a fault" in said), (3, {}, True), said)
+
+
+def test_prove_rejects_designs_that_are_too_large():
+    """Too many terms, gates or turns of loops end with one line, before memory runs out."""
+    needed("berkeley-abc")
+    model, _, proved, _ = PACEMAKER
+    for module, name, word in ((terms, "MOST_TERMS", "terms"), (vectors, "MOST_GATES", "gates"),
+                               (steps, "MOST_UNROLLED", "instructions")):
+        limit = getattr(module, name)
+        setattr(module, name, 9)
+        try:
+            with tempfile.TemporaryDirectory() as folder:
+                status, _, said = prove(folder, model, proved)
+            expect((status, f"more than 9 {word}" in said), (1, True), said)
+        finally:
+            setattr(module, name, limit)
 
 
 def test_prove_rejects_wrong_words():

@@ -11,6 +11,8 @@ MOVES, MOST_MOVES = 4, 40
 NARROWING = 40
 # How deep conditions refine the values under them, and how many terms a pass evaluates in refined environments.
 DEEPEST, MOST_REFINED = 40, 20_000
+# How many levels of terms are gone through in a refined environment.
+MOST_LEVELS = 60
 # A disjunction of more conditions than this refines nothing.
 MOST_SIDES = 8
 
@@ -97,7 +99,7 @@ class Intervals:
 
     def round(self, changed):
         """The ranges after a round of the variables that depend on changed ones."""
-        self.spent, self.late = 0, time.monotonic() > self.end
+        self.spent, self.level, self.late = 0, 0, time.monotonic() > self.end
         self.base = Environment({}, 0)
         affected = [it for it in self.state if not changed.isdisjoint(self.below[it])]
         for term in sorted(set().union(*(self.below[it] for it in affected))):
@@ -111,9 +113,11 @@ class Intervals:
             return found
         if under is not self.base:
             self.spent += 1
-            if self.late or under.depth > DEEPEST or self.spent > MOST_REFINED:
+            if self.late or under.depth > DEEPEST or self.spent > MOST_REFINED or self.level > MOST_LEVELS:
                 return self.base.memo.get(term, WIDEST)
+        self.level += 1
         found = self.computed(term, under)
+        self.level -= 1
         if term in under.known:
             found = meet(found, under.known[term])
         under.memo[term] = found
@@ -171,6 +175,15 @@ class Intervals:
 
     def learn(self, term, wanted, known, under):
         """Adds what follows from the value of a condition; false if it cannot have it."""
+        if self.level > MOST_LEVELS:
+            return True
+        self.level += 1
+        found = self.learned(term, wanted, known, under)
+        self.level -= 1
+        return found
+
+    def learned(self, term, wanted, known, under):
+        """The same, unless the condition has too many levels."""
         node = self.terms.nodes[term]
         op, args = node[1], node[2:]
         if op == "not":
@@ -239,7 +252,10 @@ class Intervals:
         node = self.terms.nodes[term]
         if node[1] in ("add", "sub"):
             constant = self.terms.constant(node[3])
-            if constant is not None:
+            if constant is not None and self.level <= MOST_LEVELS:
                 shift = constant if node[1] == "sub" else -constant
-                return self.add(node[2], (new[0] + shift, new[1] + shift), known, under)
+                self.level += 1
+                found = self.add(node[2], (new[0] + shift, new[1] + shift), known, under)
+                self.level -= 1
+                return found
         return True
