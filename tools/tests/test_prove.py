@@ -115,13 +115,13 @@ def test_certificates_are_checked():
 
 
 def changes(made):
-    """Certificates that are wrong."""
+    """Certificates that are wrong: `deaf` is even at first, and 5 after a round in which it was 6."""
+    last = len(made["steps"]) - 1
+    clauses = made["steps"][last]["clauses"]
+    yield with_step(made, last, clauses=clauses + [["controller.pacer.deaf:0"]])
+    yield with_step(made, last, clauses=clauses + [["-controller.pacer.deaf:0"]])
+    yield with_step(made, last, clauses=[])
     for number, step in enumerate(made["steps"]):
-        clauses = step["clauses"]
-        if clauses:
-            flipped = [it[1:] if it.startswith("-") else "-" + it for it in clauses[0]]
-            others = [flipped] + clauses[1:]
-            yield with_step(made, number, clauses=others)
         if step["property"] is not None:
             yield with_step(made, number, formula=["halted", PACER])
             yield with_step(made, number, lemmas=["unaided"])
