@@ -83,7 +83,7 @@ def test_cover_finds_what_is_dead():
 def test_nothing_reaches_what_is_never_taken():
     """No scenario at random reaches a goal that is proved never to be; each kept scenario reaches its goals."""
     needed("berkeley-abc")
-    for seed in range(12 if MORE else 2):
+    for seed in range(12) if MORE else (1, 3):
         text, _ = made(4000 + seed, 1)
         opened = opened_of(text.encode())
         with tempfile.TemporaryDirectory() as folder:

@@ -8,6 +8,7 @@ import tempfile
 from lib.bundles import read
 from lib.proving import steps, terms, vectors
 from tests.common import EXAMPLES, HERE, Wrong, built, expect, script, tool
+from tests.nodes import MORE
 from tests.proving import needed
 
 PACER, WHEEL, CRUISER, MAIN, LEFT, TAIL = ("controller.pacer", "c.wheel", "c.cruiser", "p.m", "p.l", "p.t")
@@ -80,8 +81,9 @@ def test_prove_without_limits_on_inputs():
 
 
 def test_prove_turn_controller():
-    """The properties of the turn controller."""
-    check_design(*TURN)
+    """The properties of the turn controller; one that is false in a late round takes longer."""
+    model, inputs, proved, false = TURN
+    check_design(model, inputs, proved, {name: it for name, it in false.items() if MORE or name != "lags"})
 
 
 def test_prove_pacemaker():
@@ -90,8 +92,9 @@ def test_prove_pacemaker():
 
 
 def test_prove_vault():
-    """The keys that open the lock are found."""
-    check_design(*VAULT)
+    """The keys that open the lock are found; a property about a remainder takes longer."""
+    model, inputs, proved, false = VAULT
+    check_design(model, inputs, {name: it for name, it in proved.items() if MORE or name != "wanted"}, false)
 
 
 def test_certificates_are_checked():
