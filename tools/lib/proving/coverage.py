@@ -57,19 +57,23 @@ class Coverage:
         return chance.random() < 0.5 if self.machine.inputs[port][0] == "Boolean" else chance.choice(NUMBERS)
 
     def search(self, seconds, tell=lambda text: None):
-        """Asks the engine for the goals that are left: first whether any of them can be reached, then for each."""
+        """Asks the engine for the goals that are left: first whether any of them can be reached, traps apart since an
+        overflow may be out of reach, then for each."""
         begun = time.monotonic()
 
         def remaining():
             return seconds - (time.monotonic() - begun)
 
-        while self.left and remaining() > 0:
-            result = self.ask(self.left, max(remaining() / 2, 1), tell)
-            if result.verdict == "proved":
-                self.dead += self.left
-                self.left = []
-            elif result.verdict == "open" or not self.take(result.inputs, result.rounds + 1):
-                break
+        for traps in (False, True):
+            keys = [key for key in self.left if (key[1] == "trap") == traps]
+            while keys and remaining() > 0:
+                result = self.ask(keys, max(remaining() / 2, 1), tell)
+                if result.verdict == "proved":
+                    self.dead += keys
+                    self.left = [key for key in self.left if key not in keys]
+                elif result.verdict == "open" or not self.take(result.inputs, result.rounds + 1):
+                    break
+                keys = [key for key in keys if key in self.left]
         while self.left and remaining() > 0:
             self.one(self.left[0], max(remaining() / len(self.left), 1), tell)
         self.unknown += self.left
