@@ -1,6 +1,7 @@
 """Coverage: the positions of instructions, the scenarios that take each goal, and what is never taken."""
 
 import glob
+import itertools
 import json
 import os
 import random
@@ -9,10 +10,13 @@ import tempfile
 
 from lib.bundles import read
 from lib.model import Model, root_of
+from lib.proving.conditions import deciding, leaves_of
 from lib.proving.coverage import Coverage
+from lib.proving.evaluate import value_of
 from lib.proving.opened import Opened
-from lib.proving.places import places_of
+from lib.proving.places import layout_of
 from lib.proving.questions import Questions
+from lib.proving.terms import Terms
 from lib.tokens import tokens_of
 from tests.common import EXAMPLES, built, expect, tool
 from tests.nodes import MORE, pals
@@ -34,7 +38,7 @@ def test_positions_of_instructions():
         opened = opened_of(text)
         model, tokens = Model(opened.declared, root_of(opened.declared, opened.root)), tokens_of(opened.design)
         for component in opened.listing.components:
-            found = places_of(tokens, model.by_path[component.path.lower()].impl, component)
+            found = layout_of(tokens, model.by_path[component.path.lower()].impl, component)
             expect(found is not None, True, f"the code of {component.path} is laid out\n{text.decode()}")
 
 
@@ -43,6 +47,71 @@ def cover(model, *words):
     status, text, said = tool("cover", "--program", built(), "--code", built("pals_code"), *words, model)
     found = {match[1] + " " + match[2]: match[3] for match in map(LINE.fullmatch, text.decode().splitlines())}
     return status, found, said
+
+
+OPERATORS = ("and", "or", "xor", "and then", "or else")
+
+
+def tree_of(chance, count):
+    """A decision at random, with so many conditions at most."""
+    leaves = iter(range(count))
+
+    def made_tree(depth):
+        if depth > 2 or chance.random() < 0.25:
+            return "leaf", next(leaves)
+        if chance.random() < 0.2:
+            return "not", made_tree(depth + 1)
+        return chance.choice(OPERATORS), made_tree(depth + 1), made_tree(depth + 1)
+
+    return made_tree(0)
+
+
+def outcome(tree, values, seen):
+    """The outcome of a decision as a step evaluates it; `seen` gets the conditions that are evaluated."""
+    if tree[0] == "leaf":
+        seen.add(tree[1])
+        return values[tree[1]]
+    left = outcome(tree[1], values, seen)
+    if tree[0] == "not":
+        return not left
+    if tree[0] in ("and then", "or else") and left == (tree[0] == "or else"):
+        return left
+    right = outcome(tree[2], values, seen)
+    return {"xor": left != right, "and": left and right, "or": left or right}[tree[0].split()[0]]
+
+
+def decides(tree, values, leaf):
+    """Whether a condition decides: it is evaluated, and its other value gives another outcome for some values of the
+    conditions that were left out."""
+    seen = set()
+    now = outcome(tree, values, seen)
+    if leaf not in seen:
+        return False
+    free = [it for it in range(len(values)) if it not in seen]
+    for chosen in itertools.product((False, True), repeat=len(free)):
+        others = {**dict(enumerate(values)), **dict(zip(free, chosen)), leaf: not values[leaf]}
+        if outcome(tree, [others[it] for it in range(len(values))], set()) != now:
+            return True
+    return False
+
+
+def test_conditions_that_decide():
+    """A condition decides if and only if its other value may give another outcome, by all values of all conditions."""
+    chance = random.Random(8)
+    for _ in range(200):
+        tree, terms = tree_of(chance, 8), Terms()
+        leaves = leaves_of(tree)
+        names = {it: terms.variable("Boolean", f"c{it}") for it in leaves}
+        found = deciding(terms, tree, names)
+        order = terms.below(found.values())
+        for chosen in itertools.islice(itertools.product((False, True), repeat=len(leaves)), 64):
+            values = {names[it]: value for it, value in zip(leaves, chosen)}
+            for term in order:
+                if term not in values:
+                    values[term] = value_of(terms.nodes[term], values)
+            for (leaf, side), term in found.items():
+                wanted = chosen[leaf] == side and decides(tree, chosen, leaf)
+                expect(values[term], wanted, f"{tree} at {chosen}: condition {leaf} decides while it is {side}")
 
 
 def test_cover_pacemaker():

@@ -2,7 +2,8 @@
 
 from ..model import Model, root_of
 from ..tokens import tokens_of
-from .places import places_of
+from .machine import Machine
+from .places import layout_of
 
 PARTS = {"guard": "the guard", "if": "the condition of the `if`", "and then": "the left side of `and then`",
          "or else": "the left side of `or else`"}
@@ -10,19 +11,24 @@ SIDES = {True: "true", False: "false"}
 
 
 class Goals:
-    """The goals of an opened design. Jumps inside of a transition are no goals of their own."""
+    """The goals of an opened design. Jumps inside of a transition are no goals of their own. With `conditions` each
+    condition that decides is a goal, and `machine` is another one than that of the opened design."""
 
-    def __init__(self, opened):
-        self.opened = opened
+    def __init__(self, opened, conditions):
+        self.opened, self.machine = opened, opened.machine
         model = Model(opened.declared, root_of(opened.declared, opened.root))
-        tokens = tokens_of(opened.design)
+        tokens, decisions = tokens_of(opened.design), {}
         self.places, self.ports = {}, {}
         for component in opened.listing.components:
             thread = model.by_path[component.path.lower()]
-            self.places[component.path] = places_of(tokens, thread.impl, component)
+            layout = layout_of(tokens, thread.impl, component)
+            self.places[component.path] = layout and layout.found
+            decisions[component.path] = layout.decisions if layout else {}
             for port in thread.type.ports:
                 self.ports[component.path, port.name.text] = port.name.offset
-        self.found = [key for key in opened.machine.goals if self.counts(key)]
+        if conditions:
+            self.machine = Machine(opened.listing, decisions)
+        self.found = [key for key in self.machine.goals if self.counts(key)]
 
     def counts(self, key):
         """Whether a goal of the machine is one of the text."""
@@ -55,6 +61,8 @@ class Goals:
         name = self.opened.component(path).code[place][0]
         if kind == "trap":
             return f"{path}: {name} traps"
+        if kind == "condition":
+            return f"{path}: the condition decides while it is {SIDES[side]}"
         if kind == "branch":
             what = PARTS[places[place].part] if places else f"the condition at place {place}"
             return f"{path}: {what} is {SIDES[side]}"

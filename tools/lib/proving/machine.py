@@ -18,10 +18,11 @@ class Machine:
     """A transition system: `first` and `next` of each variable of its state, and the `inputs` of the root by name
     (kind, presence, value). `frames` has each component after the round by its path, `sends` what its out ports have in
     each step. `bounds` has the least and the greatest value of each Integer variable by its type, `owner` the path of
-    the component that computes a variable, `goals` the conditions of each branch, move, trap and adaptor group."""
+    the component that computes a variable. `goals` has the conditions of each branch, move, trap and adaptor group, and
+    of each condition that decides, if `decisions` has the trees of decisions by path and place."""
 
-    def __init__(self, design):
-        self.design, self.terms = design, Terms()
+    def __init__(self, design, decisions=None):
+        self.design, self.terms, self.decisions = design, Terms(), decisions or {}
         self.first, self.next, self.bounds, self.owner, self.inputs = {}, {}, {}, {}, {}
         self.frames, self.sends, self.goals = {}, {}, {}
         for it in design.inputs:
@@ -66,7 +67,7 @@ class Machine:
         for at in range(component.rate):
             fresh = [places[at][0] for places in read]
             held = [terms.ite(places[at][0], places[at][1], old) for places, old in zip(read, held)]
-            step = Step(terms, component, (state, slots), held, fresh, budget)
+            step = Step(terms, component, (state, slots), held, fresh, budget, self.decisions.get(path))
             stops = terms.any(halted, step.trap)
             self.note(component, step, halted, stops)
             outs.append([(terms.all(terms.no(stops), present), value) for present, value in step.outs])
@@ -89,6 +90,7 @@ class Machine:
         found = [((path, "branch", place, side), terms.no(stops), when) for place, side, when in step.branches]
         found += [((path, "move", place, ""), terms.no(stops), when) for place, when in step.moves]
         found += [((path, "trap", place, ""), terms.no(halted), when) for place, when in step.traps]
+        found += [((path, "condition", place, side), terms.no(stops), when) for place, side, when in step.deciding]
         for key, here, when in found:
             self.goals.setdefault(key, []).append(terms.all(here, when))
 

@@ -21,14 +21,15 @@ class Place:
 
 
 class Layout:
-    """Lays out the code of one behaviour."""
+    """Lays out the code of one behaviour. `decisions` has the tree of each guard and each condition of an `if`, by the
+    place of its `JumpZero`: ("leaf", place) for a condition, else a logical operator with its parts."""
 
     def __init__(self, tokens, behaviour, component):
         self.tokens, self.behaviour = tokens, behaviour
         self.numbers = {token.offset: at for at, token in enumerate(tokens)}
         self.ins, self.outs = ({it.name.lower() for it in ports} for ports in (component.ins, component.outs))
         self.complete = {it.name.text.lower() for it in behaviour.states if it.complete}
-        self.at, self.found = 0, []
+        self.at, self.found, self.decisions = 0, [], {}
         for state in self.order():
             for transition in behaviour.transitions:
                 if transition.source.text.lower() == state:
@@ -76,13 +77,17 @@ class Layout:
         self.next()
         if transition.guard not in ("dispatch", "otherwise", "none"):
             offset = self.tokens[self.at].offset
-            self.expression()
-            self.emit("JumpZero", offset, "guard")
+            self.decide(self.expression(), offset, "guard")
         self.at = self.numbers[transition.target.offset] + 1
         if self.may("{"):
             self.actions("}")
         target = transition.target.text.lower()
         self.emit("End" if target in self.complete else "Jump", transition.offset, "transition")
+
+    def decide(self, tree, offset, part):
+        """The jump of a decision."""
+        self.decisions[len(self.found)] = tree
+        self.emit("JumpZero", offset, part)
 
     def actions(self, *ends):
         """Actions up to a word that ends them."""
@@ -113,9 +118,9 @@ class Layout:
         branch = offset
         while branch is not None:
             self.next()
-            self.expression()
+            tree = self.expression()
             self.next()
-            self.emit("JumpZero", branch, "if")
+            self.decide(tree, branch, "if")
             self.actions("elsif", "else", "end")
             self.emit("Jump", branch)
             taken = self.may("elsif")
@@ -136,64 +141,73 @@ class Layout:
         self.emit("LoopNext", offset)
 
     def expression(self):
-        """Relations with logical operators between them."""
-        self.relation()
+        """Relations with logical operators between them; gives the tree."""
+        tree = self.relation()
         while self.word() in LOGICAL:
             word, offset = self.may(*LOGICAL)
             if word == "and" and self.may("then"):
                 self.emit("JumpZero", offset, "and then")
-                self.relation()
+                tree = ("and then", tree, self.relation())
                 self.emit("Jump", offset)
                 self.emit("Push", offset)
             elif word == "or" and self.may("else"):
                 self.emit("JumpZero", offset, "or else")
                 self.emit("Push", offset)
                 self.emit("Jump", offset)
-                self.relation()
+                tree = ("or else", tree, self.relation())
             else:
-                self.relation()
+                tree = (word, tree, self.relation())
                 self.emit(LOGICAL[word], offset)
+        return tree
+
+    def leaf(self):
+        """The tree of a condition whose value the last instruction has left."""
+        return "leaf", len(self.found) - 1
 
     def binary(self, operators, part):
-        """Parts with operators between them, from the left."""
-        part()
+        """Parts with operators between them, from the left; gives the tree of a part by itself."""
+        tree = part()
         taken = self.may(*operators)
         while taken:
             part()
             self.emit(operators[taken[0]], taken[1])
-            taken = self.may(*operators)
+            tree, taken = self.leaf(), self.may(*operators)
+        return tree
 
     def relation(self):
         """A comparison, or a sum by itself."""
-        self.sum()
+        tree = self.sum()
         taken = self.may(*COMPARING)
         if taken:
             self.sum()
             self.emit(COMPARING[taken[0]], taken[1])
+            tree = self.leaf()
+        return tree
 
     def sum(self):
         """Terms that are added; a sign belongs to the first one."""
         sign = self.may("+", "-")
 
         def first():
-            self.binary(MULTIPLYING, self.factor)
+            return self.binary(MULTIPLYING, self.factor)
 
-        first()
+        tree = first()
         if sign and sign[0] == "-":
             self.emit("Neg", sign[1])
         taken = self.may(*ADDING)
         while taken:
             first()
             self.emit(ADDING[taken[0]], taken[1])
-            taken = self.may(*ADDING)
+            tree, taken = self.leaf(), self.may(*ADDING)
+        return tree
 
     def factor(self):
         """A literal, a name or a part in parentheses, perhaps with `abs` or `not`."""
-        prefix = self.may("abs", "not")
+        prefix, tree = self.may("abs", "not"), None
         token = self.next()
         word = word_of(token).lower()
         if word == "(":
-            self.expression()
+            tree = self.expression()
             self.next()
         elif token.kind == "whole" or word in ("true", "false"):
             self.emit("Push", token.offset)
@@ -202,14 +216,17 @@ class Layout:
             self.emit("Fresh", token.offset)
         else:
             self.emit("Port" if word in self.ins else "Load", token.offset)
+        tree = tree or self.leaf()
         if prefix:
             self.emit({"abs": "Abs", "not": "Not"}[prefix[0]], prefix[1])
+            tree = ("not", tree) if prefix[0] == "not" else self.leaf()
+        return tree
 
 
-def places_of(tokens, impl, component):
-    """The places of a component's code, or None if the code is not laid out as it is here."""
+def layout_of(tokens, impl, component):
+    """The layout of a component's code, or None if the code is not laid out as it is here."""
     try:
-        found = Layout(tokens, behaviour_of(impl), component).found
+        found = Layout(tokens, behaviour_of(impl), component)
     except (IndexError, KeyError):
         return None
-    return found if [it.name for it in found] == [it[0] for it in component.code] else None
+    return found if [it.name for it in found.found] == [it[0] for it in component.code] else None

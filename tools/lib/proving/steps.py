@@ -2,6 +2,7 @@
 
 from ..bundles import Refused
 from ..step_code import Verified
+from .conditions import deciding, leaves_of
 
 COMPARISONS = {"Eq": "eq", "Ne": "ne", "Lt": "lt", "Le": "le", "Gt": "gt", "Ge": "ge"}
 LOGICAL = ("And", "Or", "Xor")
@@ -25,10 +26,12 @@ class Step:
 
     `state`, `slots` and `outs` hold the results (of an out port whether it is present, and its value), `trap` whether
     the step traps, `ends` the paths with the states that they end in; `branches`, `moves` and `traps` the conditions
-    under which it takes each side of a `JumpZero`, executes each `Jump` and `End`, and traps at each place."""
+    under which it takes each side of a `JumpZero`, executes each `Jump` and `End`, and traps at each place; `deciding`
+    those under which a condition of a decision decides."""
 
-    def __init__(self, terms, component, before, held, fresh, budget):
+    def __init__(self, terms, component, before, held, fresh, budget, decisions=None):
         self.terms, self.component, self.held, self.fresh, self.budget = terms, component, held, fresh, budget
+        self.decisions, self.pushed, self.deciding = decisions or {}, {}, []
         self.loops = Verified(component).loops
         self.traps, self.ends, self.waiting, self.branches, self.moves = [], [], {}, [], []
         state, slots = before
@@ -124,6 +127,7 @@ class Step:
             test = terms.as_bool(path.stack.pop())
             taken, left = terms.all(path.when, test), terms.all(path.when, terms.no(test))
             self.branches += [(place, True, taken), (place, False, left)]
+            self.note_decision(place, path.when)
             self.reach(operands[0], path.copy(left))
             path.when = taken
         elif name in ("Store", "Emit"):
@@ -136,7 +140,18 @@ class Step:
             self.unary(place, path, name)
         else:
             self.binary(place, path, name)
+        if path.stack:
+            self.pushed[place] = path.stack[-1]
         self.reach(place + 1, path)
+
+    def note_decision(self, place, when):
+        """Notes when each condition of a decision decides. A condition that no step reaches has no value."""
+        tree = self.decisions.get(place)
+        if tree is None or not all(it in self.pushed for it in leaves_of(tree)):
+            return
+        values = {it: self.terms.as_bool(self.pushed[it]) for it in leaves_of(tree)}
+        for (leaf, side), term in deciding(self.terms, tree, values).items():
+            self.deciding.append((leaf, side, self.terms.all(when, term)))
 
     def assign(self, path, name, number):
         """Executes a `Store` or an `Emit`."""
