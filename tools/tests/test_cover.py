@@ -45,7 +45,8 @@ def test_positions_of_instructions():
 def cover(model, *words):
     """What the tool writes of a design: its status and the answer to each goal, by position and words."""
     status, text, said = tool("cover", "--program", built(), "--code", built("pals_code"), *words, model)
-    found = {match[1] + " " + match[2]: match[3] for match in map(LINE.fullmatch, text.decode().splitlines())}
+    matches = filter(None, map(LINE.fullmatch, text.decode().splitlines()))
+    found = {match[1] + " " + match[2]: match[3] for match in matches}
     return status, found, said
 
 

@@ -2,14 +2,21 @@
 
 import json
 import os
+import random
 import re
 import tempfile
 
 from lib.bundles import read
 from lib.proving import steps, terms, vectors
+from lib.proving.coverage import Coverage
+from lib.proving.evaluate import Run
+from lib.proving.formula_text import read_property
+from lib.proving.opened import Opened
+from lib.proving.questions import Questions
 from tests.common import EXAMPLES, HERE, Wrong, built, expect, script, tool
 from tests.nodes import MORE
-from tests.proving import needed
+from tests.proving import made, needed
+from tests.test_formulas import Texts
 
 PACER, WHEEL, CRUISER, MAIN, LEFT, TAIL = ("controller.pacer", "c.wheel", "c.cruiser", "p.m", "p.l", "p.t")
 DEAF = ["var", PACER, "deaf", "=", 6]
@@ -95,6 +102,38 @@ def test_prove_vault():
     """The keys that open the lock are found; a property about a remainder takes longer."""
     model, inputs, proved, false = VAULT
     check_design(model, inputs, {name: it for name, it in proved.items() if MORE or name != "wanted"}, false)
+
+
+def test_answers_on_random_designs():
+    """What is proved is true in rounds at random; what is false is so in the round that was found, and not before."""
+    needed("berkeley-abc")
+    proved = false = 0
+    for seed in range(40 if MORE else 6):
+        text, _ = made(5000 + seed, 1)
+        opened = Opened(text.encode(), b"", {"--program": built(), "--code": built("pals_code")}, "made")
+        if len(opened.machine.terms.nodes) > 500:
+            continue
+        texts, chance = Texts(random.Random(seed), opened.listing), random.Random(seed)
+        forms = dict(read_property(f"q{at}: {texts.formula()}", opened.listing) for at in range(3))
+        with tempfile.TemporaryDirectory() as folder:
+            questions = Questions(opened.machine, forms, {}, folder)
+            questions.find_facts(3)
+            values = Coverage(questions, {}, [])
+            for name in forms:
+                result, term = questions.answer(name, 3).result, questions.properties[name]
+                run_inputs = [{port: [values.value(chance, port) for _ in range(10)] for port in opened.machine.inputs}
+                              for _ in range(20)]
+                if result.verdict == "proved":
+                    proved += 1
+                    for inputs in run_inputs:
+                        run = Run(opened.machine, inputs, [term])
+                        expect(all(run.step()[term] for _ in range(10)), True, f"{name} of {forms}\n{text}")
+                elif result.verdict == "false":
+                    false += 1
+                    run = Run(opened.machine, result.inputs, [term])
+                    found = [bool(run.step()[term]) for _ in range(result.rounds + 1)]
+                    expect(found, [True] * result.rounds + [False], f"{name} of {forms}\n{text}")
+    expect((proved > 1, false > 3), (True, True), f"{proved} are proved and {false} are false")
 
 
 def test_certificates_are_checked():

@@ -42,15 +42,15 @@ class Goals:
         return self.found
 
     def position(self, key):
-        """The line and the column of a goal; 0:0 if the code has no positions."""
+        """The line and the column of a goal; 0 and 0 if the code has no positions."""
         path, kind, place, _ = key
         if kind == "group":
             offset = self.ports[path, place]
         elif self.places[path] is None:
-            return "0:0"
+            return 0, 0
         else:
             offset = self.places[path][place].offset
-        return "{}:{}".format(*self.opened.position(offset))
+        return self.opened.position(offset)
 
     def text(self, key):
         """A goal in words."""
