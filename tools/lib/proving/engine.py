@@ -15,6 +15,8 @@ INSTALL = "apt install berkeley-abc (Debian and Ubuntu) installs it"
 REDUCED, LARGE_REDUCED, LARGE = "strash; scorr; dc2", "strash; dc2", 10_000
 # Seconds that the engine gets at most beyond its own limit before it is ended.
 GRACE = 5
+# The job that finds a shortest counterexample, and the seconds that it has left when another one has found one.
+SHORTEST, SHORTEST_SECONDS = "bmc", 10
 INVARIANT = re.compile(r"Invariant F\[\d+\] : (\d+) clauses with (\d+) flops")
 ASSERTED = re.compile(r"Output (\d+) of .* was asserted in frame (\d+)")
 EXPLORED = re.compile(r"No output asserted in (\d+) frames|Reached timeout .* in frame (\d+)")
@@ -40,7 +42,7 @@ class Job:
     """A run of the engine on a circuit."""
 
     def __init__(self, circuit, name, script, seconds):
-        self.circuit, self.path = circuit, f"{circuit.stem}.{name}"
+        self.circuit, self.name, self.path = circuit, name, f"{circuit.stem}.{name}"
         self.begun, self.limit = time.monotonic(), seconds + min(GRACE, 1 + seconds)
         script = f"read {circuit.stem}.aig; {script}; print_status; write_cex -a {self.path}.cex"
         with open(f"{self.path}.out", "wb") as out:
@@ -94,20 +96,24 @@ def induction(circuit, seconds):
 
 def bounded(circuit, seconds):
     """A job that searches for the shortest counterexample."""
-    return Job(circuit, "bmc", f"bmc3 -T {max(1, round(seconds))}", seconds)
+    return Job(circuit, SHORTEST, f"bmc3 -T {max(1, round(seconds))}", seconds)
 
 
 def first_of(jobs, tell=lambda: None):
-    """The first result that decides, or else the one with the most rounds. Jobs are ended when one has decided."""
-    found, left = Result("open"), list(jobs)
+    """The first result that decides, or else the one with the most rounds. A search for the shortest counterexample has
+    some seconds left when another job has found a counterexample. Jobs are ended then."""
+    found, left, end = Result("open"), list(jobs), None
     try:
-        while left:
+        while left and (end is None or time.monotonic() < end):
             for job in [it for it in left if it.ended()]:
                 left.remove(job)
                 result = job.result()
-                if result.verdict != "open":
+                if result.verdict == "proved" or (result.verdict == "false" and job.name == SHORTEST):
                     return result
-                found = max(found, result, key=lambda it: it.rounds)
+                if result.verdict == "false":
+                    found, end = result, time.monotonic() + SHORTEST_SECONDS
+                elif end is None:
+                    found = max(found, result, key=lambda it: it.rounds)
             tell()
             time.sleep(0.02)
     finally:
