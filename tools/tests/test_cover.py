@@ -135,15 +135,13 @@ def test_cover_pacemaker():
 def test_cover_finds_what_is_dead():
     """A transition that is never taken is proved to be so, at its position; with other inputs it is taken."""
     needed("berkeley-abc")
-    text = read(os.path.join(EXAMPLES, "pacemaker.aadl")).replace(b"waited >= 20", b"waited >= 20 and deaf > 6")
+    text = read(os.path.join(EXAMPLES, "pacemaker.aadl")).replace(b"-[deaf > 0]->", b"-[deaf > 6]->")
     with tempfile.TemporaryDirectory() as folder:
         path = os.path.join(folder, "d.aadl")
         with open(path, "wb") as file:
             file.write(text)
-        status, found, said = cover(path, "--dead", "--seconds", "6")
-        # Whether `waited` overflows, after 2^63 rounds, is unknown.
-        wanted = {"57:13", "57:3", "59:3", "60:13", "60:3", "61:3"}
-        expect((status, {key.split(" ", 1)[0] for key in found}), (1, wanted), said)
+        status, found, said = cover(path, "--dead")
+        expect((status, {key.split(" ", 1)[0] for key in found}), (0, {"60:13", "60:3"}), said)
         status, found, said = cover(os.path.join(EXAMPLES, "pacemaker.aadl"), "--dead", "--input", "beat=true,false")
         expect((status, found), (0, {}), said)
         status, found, said = cover(os.path.join(EXAMPLES, "turn_controller.aadl"), "--input", "goal=0", "--dead")
