@@ -15,7 +15,7 @@ from .program import ask_program
 
 COMPILERS = ("gcc", "clang", "cc")
 FLAGS = ("-std=c11", "-O2", "-w")
-# How many scenarios a processor runs before what is false is looked at, and how many rows are compared.
+# How many scenarios a processor runs before the results are inspected, and how many rows are compared.
 BLOCK, COMPARED = 500_000, 1_000
 FORM = "pals-campaign 1"
 
@@ -64,7 +64,7 @@ class Fast:
         return inputs_of(self.plan.ports, self.plan.rounds, self.seed, number)
 
     def search(self, first, end, jobs, tell):
-        """The least number of a false scenario with what is false of it, or None; and how many were tried."""
+        """The smallest number of a false scenario, with its property and round; or None."""
         while first < end:
             last = min(end, first + BLOCK * jobs)
             runs = [subprocess.Popen([self.path, "search", str(first + job), str(last), str(jobs)],
@@ -85,7 +85,7 @@ class Fast:
         return None
 
     def compare(self, numbers):
-        """Shows that the rows of some scenarios are those of `pals sync`."""
+        """Shows that some scenarios have the same rows by `pals sync`."""
         numbers = list(numbers)
         for at in range(0, len(numbers), 100):
             part = numbers[at : at + 100]
@@ -120,7 +120,7 @@ def shard_of(word, count):
 
 
 def digest_of(plan, count):
-    """What tells the results of one campaign from those of another."""
+    """A digest that distinguishes the results of different campaigns."""
     ports = {name: [[getattr(part, "first", None), getattr(part, "last", None), getattr(part, "value", None)]
                     for part in values.parts] for name, values in plan.ports.items()}
     text = json.dumps([plan.root, plan.design.decode("utf-8", "replace"), plan.scenario, ports, plan.rounds, plan.seed,
@@ -129,7 +129,7 @@ def digest_of(plan, count):
 
 
 def merged(results):
-    """The result of a whole campaign from those of its parts, which all have to be there."""
+    """The result of a whole campaign from the results of all its parts."""
     first = results[0]
     if any(it["campaign"] != first["campaign"] for it in results):
         raise Refused("the results are of different campaigns")

@@ -123,7 +123,7 @@ class Program:
         return "return PALS_ABSENT;" if part.value is None else f"return (pals_value){{{int(part.value)}, true}};"
 
     def data(self):
-        """The frames, what each component sends, and the messages of the round before."""
+        """The frames, the values that each component sends, and the messages of the round before."""
         found = []
         for name, it in zip(self.names, self.design.components):
             found += [f"static {name}_frame f_{name};",
@@ -212,7 +212,7 @@ class Program:
         return found + [f"        if (!p{at}) {{ which = {at}; return r; }}" for at in range(len(self.properties))]
 
     def formula(self, form, found):
-        """The value of a formula; its parts are computed before it, and its bit is kept for the next round."""
+        """The value of a formula; its parts are computed before it, and its bit is stored for the next round."""
         op = form[0]
         if op not in OPERATORS:
             return self.leaf(form)

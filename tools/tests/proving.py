@@ -1,4 +1,4 @@
-"""What the tests of properties for all inputs share: machines of designs, and their rounds beside those of `sync`."""
+"""Shared parts of the tests of properties for all inputs: machines of designs, and their rounds by `sync`."""
 
 import random
 import shutil
@@ -77,7 +77,7 @@ def run_rows(machine, inputs, rounds):
 
 
 def sent_terms(machine):
-    """The terms of all that out ports have in a round."""
+    """The terms of the values of all out ports in a round."""
     return [term for steps in machine.sends.values() for step in steps for pair in step for term in pair]
 
 

@@ -1,4 +1,4 @@
-"""Coverage: the positions of instructions, the scenarios that take each goal, and what is never taken."""
+"""Coverage: the positions of instructions, the scenarios that take each goal, and goals that are never taken."""
 
 import glob
 import itertools
@@ -83,7 +83,7 @@ def outcome(tree, values, seen):
 
 def decides(tree, values, leaf):
     """Whether a condition decides: it is evaluated, and its other value gives another outcome for some values of the
-    conditions that were left out."""
+    conditions that were omitted."""
     seen = set()
     now = outcome(tree, values, seen)
     if leaf not in seen:
@@ -116,7 +116,7 @@ def test_conditions_that_decide():
 
 
 def test_cover_pacemaker():
-    """Each goal of the pacemaker has a scenario; no operation traps. The rows beside a scenario are those of sync."""
+    """Each goal of the pacemaker has a scenario; no operation traps. Each scenario has its rows by sync."""
     needed("berkeley-abc")
     path = os.path.join(EXAMPLES, "pacemaker.aadl")
     with tempfile.TemporaryDirectory() as folder:

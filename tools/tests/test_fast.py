@@ -1,4 +1,4 @@
-"""Campaigns by compiled code: rows and verdicts beside those of the program, parts of a campaign, planted mistakes."""
+"""Campaigns by compiled code: rows and verdicts compared with the program, parts of a campaign, planted mistakes."""
 
 import json
 import os
@@ -41,7 +41,7 @@ def campaign_of(seed, folder):
 
 
 def test_compiled_campaigns_agree_with_the_program():
-    """Rows and verdicts of compiled code are those of `sync` and `watch`, on designs made at random."""
+    """Compiled code has the rows and verdicts of `sync` and `watch`, on designs made at random."""
     compilers()
     false = 0
     for seed in range(25 if MORE else 6):

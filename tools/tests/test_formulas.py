@@ -1,4 +1,4 @@
-"""Formulas as text: what they are read as, and their meaning beside that of `watch` on a copy of the design."""
+"""Formulas as text: their forms, and their meaning compared with `watch` on a copy of the design."""
 
 import random
 import re

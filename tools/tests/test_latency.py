@@ -18,7 +18,7 @@ RATES = ((1,), (1, 2), (1, 2, 4), (1, 3, 6), (1, 2, 8))
 
 
 def design_of(chance):
-    """The text of a design with a chain of threads that pass on what they read."""
+    """The text of a design with a chain of threads that pass on the values that they read."""
     rates = chance.choice(RATES)
     skew, unit = chance.randint(1, 40), chance.choice((1, 10, 1000))
     execution, network = (sorted(chance.randint(0, 60) * unit for _ in range(2)) for _ in range(2))
@@ -144,7 +144,7 @@ def test_latencies_hold_and_are_reached():
 
 
 def test_latency_requirements():
-    """A requirement is kept or broken, by the times worked out by hand: 2 rounds of 40 ms, skew and execution."""
+    """A requirement holds or is broken, by times computed by hand: 2 rounds of 40 ms, skew and execution."""
     words = ["--program", built(), "--code", built("pals_code"), f"{EXAMPLES}/pacemaker.aadl"]
     most = 2 * 40_000_000 + 2 * (100_000 - 1) + 2_000_000
     for limit, status in ((most, 0), (most - 1, 1)):

@@ -1,4 +1,4 @@
-"""Properties for all inputs: those of the examples, a false twin of each proved one, and certificates."""
+"""Properties for all inputs: properties of the examples, a false twin of each proved one, and certificates."""
 
 import json
 import os
@@ -20,7 +20,7 @@ from tests.test_formulas import Texts
 
 PACER, WHEEL, CRUISER, MAIN, LEFT, TAIL = ("controller.pacer", "c.wheel", "c.cruiser", "p.m", "p.l", "p.t")
 DEAF = ["var", PACER, "deaf", "=", 6]
-# For each design the words for its inputs, properties that are proved, and false ones with the least round.
+# For each design the words for its inputs, properties that are proved, and false ones with the first round.
 CRUISE = (os.path.join(EXAMPLES, "cruise_control.aadl"), ["raw=0..100000", "wanted=0..100000"], {
     "low": ["var", CRUISER, "drive", ">=", 0], "high": ["var", CRUISER, "drive", "<=", 1000],
     "runs": ["not", ["halted", CRUISER]], "smooth": ["var", WHEEL, "smooth", "<=", 99999],
@@ -105,7 +105,7 @@ def test_prove_vault():
 
 
 def test_answers_on_random_designs():
-    """What is proved is true in rounds at random; what is false is so in the round that was found, and not before."""
+    """A proved property is true in random rounds; a false one is false in the round that was found, and not before."""
     needed("berkeley-abc")
     proved = false = 0
     for seed in range(40 if MORE else 6):
@@ -182,7 +182,7 @@ def with_step(made, number, **fields):
 
 
 def test_prove_reports_what_watch_does_not_confirm():
-    """If the program does not find a false property false, the tool has a fault, and says so with status 3."""
+    """If the program does not find a false property false, the tool has a fault, and reports it with status 3."""
     needed("berkeley-abc")
     model, _, _, false = PACEMAKER
     with tempfile.TemporaryDirectory() as folder:

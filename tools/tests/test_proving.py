@@ -20,7 +20,7 @@ OTHERS = {"Add": "Sub", "Sub": "Add", "Mul": "Add", "Quot": "Mul", "Mod": "Rem",
 
 
 def test_terms_agree_with_sync():
-    """States, variables and halts of the terms are those of `sync`, on designs made at random."""
+    """The terms have the states, variables and halts of `sync`, on designs made at random."""
     halted, rates = 0, set()
     for seed in range(DESIGNS):
         text, inputs = made(seed, ROUNDS)
@@ -51,7 +51,7 @@ def operator_inputs():
 
 
 def test_each_operator_agrees_with_sync():
-    """Each operator of the step code gives what `sync` has, also where it traps."""
+    """Each operator of the step code has the result of `sync`, also if it traps."""
     text, chance = page("nodes/tests/operators.aadl"), random.Random(7)
     machine = machine_of(text)
     inputs, rounds = operator_inputs()

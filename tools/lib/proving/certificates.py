@@ -1,8 +1,8 @@
-"""Certificates: invariants as clauses, with all that another solver needs to check them.
+"""Certificates: invariants as clauses, with the data that another solver needs to check them.
 
 A certificate is a JSON object: the design and its root, the values of the inputs, the ranges and strides of variables,
 and the steps of the proof. A step has a formula (the first one has none: it is that no round leaves ranges and
-strides), the components that were kept, the lemmas (properties of earlier steps) and the clauses. A clause is a list of
+strides), the components that it includes, the lemmas (properties of earlier steps) and the clauses. A clause is a list of
 literals `NAME:BIT` or `-NAME:BIT`; one of them holds before each round.
 """
 
@@ -46,7 +46,7 @@ def text_of(clause):
 
 
 class Certificate:
-    """A certificate that is made step by step while properties are proved."""
+    """A certificate that grows by a step for each proved property."""
 
     def __init__(self, opened, words, questions, seconds):
         self.questions, self.seconds = questions, seconds
@@ -133,7 +133,7 @@ def check_steps(questions, data, tell):
         elif name in questions.properties and set(lemmas) <= set(shown):
             query = questions.query(name, set(step["components"]), lemmas)
         else:
-            raise Refused(f"step {number + 1} of the certificate depends on what no earlier step shows")
+            raise Refused(f"step {number + 1} of the certificate depends on a property that no earlier step shows")
         check_invariant(questions.circuit(query), step["clauses"], f"step {number + 1} ({name or 'ranges'})")
         shown += [] if name is None else [name]
     return shown

@@ -9,7 +9,7 @@ class Query:
     true in each round up to it.
 
     `facts` has the ranges of inputs, and the ranges and strides of variables of the state, which are assumed before
-    each round. With `paths` only those components are kept: the variables of others are free within their ranges. With
+    each round. With `paths` the circuit has only those components: the variables of others are free within their ranges. With
     `leaves` the question is whether a round can leave the ranges and strides."""
 
     def __init__(self, bad, assumed, facts, paths=None, leaves=False):
@@ -17,7 +17,7 @@ class Query:
 
 
 class Facts:
-    """Ranges (least and greatest value) and strides (divisor and rest) of variables."""
+    """Ranges (smallest and largest value) and strides (divisor and rest) of variables."""
 
     def __init__(self, ranges, strides=None):
         self.ranges, self.strides = ranges, strides or {}
@@ -50,12 +50,12 @@ class Circuit:
         self.connect()
 
     def is_cut(self, variable):
-        """Whether a variable of the state is free, since its component is left out."""
+        """Whether a variable of the state is free, since its component is omitted."""
         paths, owner = self.query.paths, self.machine.owner[variable]
         return paths is not None and owner is not None and owner not in paths
 
     def variables(self, roots):
-        """The variables of the state that some terms depend on, without those that are cut and what is before them."""
+        """The variables of the state that some terms depend on, without cut variables and the variables before them."""
         found, todo = set(), list(roots)
         while todo:
             new = [it for it in self.terms.below(todo)
@@ -95,7 +95,7 @@ class Circuit:
         self.failed = graph.latch(("failed", 0))
 
     def connect(self):
-        """Makes the outputs, and what each latch becomes."""
+        """Makes the outputs, and the next value of each latch."""
         graph, machine = self.graph, self.machine
         here = [self.in_range(it, self.bits[it]) for it in machine.next if it in self.bits]
         good = graph.every([self.failed ^ 1, *here, *(self.bits[it] for it in self.query.assumed)])
@@ -145,7 +145,7 @@ class Circuit:
         return found
 
     def blasted(self, term):
-        """The bits of a term by those of its parts: a literal of a truth value, a vector of a number."""
+        """The bits of a term by the bits of its parts: a literal of a truth value, a vector of a number."""
         graph, node = self.graph, self.terms.nodes[term]
         sort, op, args = node[0], node[1], node[2:]
         if op == "const":

@@ -2,7 +2,7 @@
 
 A condition is a comparison or a truth value in a guard or in the condition of an `if`. It decides while it is true, and
 while it is false, if the other conditions let its value through to the outcome. A side that `and then` or `or else`
-leaves out does not matter."""
+omits does not matter."""
 
 
 def leaves_of(tree):
@@ -11,7 +11,7 @@ def leaves_of(tree):
 
 
 def value_of(terms, tree, values):
-    """The term of the value of a tree, by those of its conditions."""
+    """The term of the value of a tree, by the terms of its conditions."""
     op = tree[0]
     if op == "leaf":
         return values[tree[1]]
@@ -44,6 +44,6 @@ def through(terms, tree, at, values):
     lets = other if op in ("and", "and then") else terms.no(other)
     if at == 0 and op in ("and then", "or else"):
         own = value_of(terms, tree[1], values)
-        # The right side is left out if the left one is false before `and then`, or true before `or else`.
+        # The right side is omitted if the left one is false before `and then`, or true before `or else`.
         return terms.any(terms.no(own) if op == "and then" else own, lets)
     return lets

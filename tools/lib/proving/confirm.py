@@ -14,7 +14,7 @@ ROWS = "the rows of pals sync"
 
 
 class Confirmed:
-    """A false property: its first false round, by what it is confirmed (None: by nothing), the scenario, and the copy
+    """A false property: its first false round, the program that confirms it (None: no program), the scenario, and the copy
     of the design that the scenario's properties are of, if it is one."""
 
     def __init__(self, number, by, scenario, copy=None):

@@ -7,7 +7,7 @@ ENDS = (";", "}", "end", "else", "elsif")
 
 
 class Copy:
-    """A copy of a design's text, with what is inserted by offsets, and further actions by transitions."""
+    """A copy of a design's text, with inserted texts by offsets, and further actions by transitions."""
 
     def __init__(self, design):
         self.design, self.tokens = design, tokens_of(design)
@@ -37,7 +37,7 @@ class Copy:
         return b"".join(found) + self.design[end:]
 
     def actions(self, target, firsts, lasts):
-        """Where actions go into the transition with a target at an offset, and their texts."""
+        """The offsets at which actions go into the transition with a target at an offset, and their texts."""
         opening = self.numbers[target] + 1
         if self.word(opening) != "{":
             return [(self.tokens[opening].offset, " {" + "; ".join(firsts + lasts) + "}")]
@@ -78,7 +78,7 @@ class Copy:
         self.lasts.setdefault(transition.target.offset, []).append(text)
 
     def before_sends(self, transition, port, made):
-        """Inserts before each send on a port the text that is made of what it sends."""
+        """Inserts before each send on a port the text that is made of the sent expression."""
         for act in acts_in(transition.acts):
             if isinstance(act, (Assign, Send)) and act.target.text.lower() == port.lower():
                 at = self.numbers[act.target.offset] + 1

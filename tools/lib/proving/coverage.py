@@ -7,7 +7,7 @@ from .circuit import Query
 from .engine import bounded, first_of, induction
 from .evaluate import Run
 
-# Scenarios at random, which find what is easy, and their rounds.
+# Scenarios at random, which reach the easy goals, and their rounds.
 TRIES, ROUNDS = 40, 16
 NUMBERS = (0, 1, -1, 2, 3, 5, 7, 10, 100, 2**31, 2**62, 2**63 - 1, -(2**63))
 
@@ -26,7 +26,7 @@ class Coverage:
         self.left = list(self.goals)
 
     def take(self, inputs, rounds):
-        """Keeps a scenario if it reaches goals that are left, cut behind the last round that reaches one first."""
+        """Keeps a scenario if it reaches remaining goals, cut after the last round that reaches one first."""
         run = Run(self.machine, inputs, self.goals.values())
         reached, last = [], 0
         for number in range(rounds):
@@ -57,7 +57,7 @@ class Coverage:
         return chance.random() < 0.5 if self.machine.inputs[port][0] == "Boolean" else chance.choice(NUMBERS)
 
     def search(self, seconds, tell=lambda text: None):
-        """Asks the engine for the goals that are left: first whether any of them can be reached, traps apart since an
+        """Asks the engine for the remaining goals: first whether any of them can be reached, traps apart since an
         overflow may be out of reach, then for each."""
         begun = time.monotonic()
 

@@ -82,7 +82,7 @@ class Job:
         return Result("open", int(explored[1] or explored[2]) if explored else 0)
 
     def counterexample(self, rounds):
-        """The bits of the inputs in each round: behind the line of the latches, and a mark on the last line."""
+        """The bits of the inputs in each round: after the line of the latches, and a mark on the last line."""
         with open(f"{self.path}.cex", "r", encoding="ascii") as file:
             rows = file.read().replace("# DONE", "").split("\n")[1 : rounds + 1]
         return [row.strip() for row in rows]

@@ -1,4 +1,4 @@
-"""Forms of formulas: those that `watch` has where there are such, and what a form reads."""
+"""Forms of formulas: the forms of `watch` if they suffice, and the atoms of a form."""
 
 from ..listing import GREATEST, LEAST
 from .properties import EXACT

@@ -11,7 +11,7 @@ SIDES = {True: "true", False: "false"}
 
 
 class Goals:
-    """The goals of an opened design. Jumps inside of a transition are no goals of their own. With `conditions` each
+    """The goals of an opened design. Jumps inside of a transition are not goals. With `conditions` each
     condition that decides is a goal, and `machine` is another one than that of the opened design."""
 
     def __init__(self, opened, conditions):

@@ -1,4 +1,4 @@
-"""Arithmetic on ranges: pairs of the least and the greatest number, or None if no value is possible."""
+"""Arithmetic on ranges: pairs of the smallest and the largest number, or None if no value is possible."""
 
 from ..listing import GREATEST, LEAST
 from .terms import quotient
@@ -38,7 +38,7 @@ def comparison(op, left, right):
 
 
 def arithmetic(op, left, right):
-    """The range of an operator's result; where it leaves 64 bits the step traps, or the result is any number."""
+    """The range of an operator's result; if it leaves 64 bits the step traps, or the result is any number."""
     word = op.split("_")[-1]
     if word in ("add", "sub", "mul"):
         work = {"add": lambda x, y: x + y, "sub": lambda x, y: x - y, "mul": lambda x, y: x * y}[word]

@@ -6,7 +6,7 @@ import time
 from ..listing import GREATEST, LEAST
 from .interval_arithmetic import EITHER, WIDEST, arithmetic, comparison, hull, meet
 
-# A bound moves this often before it goes on to the next threshold, and this often in all before it goes to the end.
+# A bound moves this often before it moves to the next threshold, and this often in total before it moves to the end.
 MOVES, MOST_MOVES = 4, 40
 NARROWING = 40
 # How deep conditions refine the values under them, and how many terms a pass evaluates in refined environments.
@@ -174,7 +174,7 @@ class Intervals:
         return under if known == under.known else Environment(known, under.depth + 1)
 
     def learn(self, term, wanted, known, under):
-        """Adds what follows from the value of a condition; false if it cannot have it."""
+        """Adds the consequences of the value of a condition; false if it cannot have it."""
         if self.level > MOST_LEVELS:
             return True
         self.level += 1
@@ -197,7 +197,7 @@ class Intervals:
         return self.add(term, (wanted, wanted), known, under)
 
     def learn_some(self, terms, known, under):
-        """Adds what follows from one of some conditions being false: the hull of what follows from each."""
+        """Adds the consequences of one of some conditions being false: the hull of all cases."""
         sides = []
         for term in terms:
             side = dict(known)
@@ -209,7 +209,7 @@ class Intervals:
         return bool(sides)
 
     def learn_order(self, op, args, wanted, known, under):
-        """Adds what follows for both sides of a comparison of numbers."""
+        """Adds the consequences for both sides of a comparison of numbers."""
         (left, right), strict = args, int(op == "lt")
         if op != "eq" and not wanted:
             left, right, strict = right, left, 1 - strict
@@ -232,7 +232,7 @@ class Intervals:
         return low <= high and self.add(term, (low, high), known, under)
 
     def now(self, term, known, under):
-        """The range of a term by what has been learned."""
+        """The range of a term by the ranges learned so far."""
         found = self.range_of(term, under)
         return meet(found, known[term]) if term in known else found
 

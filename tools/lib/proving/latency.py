@@ -14,8 +14,8 @@ from ..bundles import Refused
 MOST_CHAINS = 10_000
 # A chain: the name of its first end (an input or a component), the numbers of its components, the name of its output.
 Chain = namedtuple("Chain", "source components output")
-# What a chain takes: the least and the most rounds, the least and the most age when a step of the last component ends,
-# the least and the most reaction.
+# What a chain takes: the smallest and the largest number of rounds, age when a step of the last component ends, and
+# reaction.
 Times = namedtuple("Times", "rounds age reaction")
 
 
@@ -72,7 +72,7 @@ class Flow:
         return self.held(steps)
 
     def held(self, steps):
-        """The same, with what a step holds that reads nothing new: the last value, perhaps of the round before."""
+        """The same, with the held value of a step that reads nothing new: the last value, perhaps of the round before."""
         last = next((it for it in reversed(steps) if it is not None), None)
         if last is None:
             return None

@@ -12,7 +12,7 @@ from .formula_forms import atoms_in, replaced
 from .properties import COMPARISONS, paths_in
 from .terms import compared_words
 
-# Where a component has the names of each kind of expression.
+# The fields of a component that have the names of each kind of expression.
 PLACES = {"in": "ins", "out": "outs", "variable": "variables"}
 
 

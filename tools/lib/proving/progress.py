@@ -10,7 +10,7 @@ WRONG = 3
 
 
 class Progress:
-    """Shows on a terminal each second what is being tried."""
+    """Shows the current query on a terminal, each second."""
 
     def __init__(self, name):
         self.name, self.shown = name, 0.0

@@ -19,7 +19,7 @@ class Fault(Exception):
 
 
 class Answer:
-    """The answer to a property: the result, the paths of the components that were kept, the names of the lemmas, and
+    """The answer to a property: the result, the paths of the components in the circuit, the names of the lemmas, and
     the seconds that it took."""
 
     def __init__(self, result, paths, lemmas, seconds):
@@ -27,7 +27,7 @@ class Answer:
 
 
 def ranges_of_inputs(machine, values):
-    """The ranges of the Integer inputs: of a port that is not named those of its type. An absent value is 0."""
+    """The ranges of the Integer inputs: a port that is not named has the range of its type. An absent value is 0."""
     found = {}
     for port, given in values.items():
         ends = [0]
@@ -39,7 +39,7 @@ def ranges_of_inputs(machine, values):
 
 
 class Questions:
-    """The properties of a machine with the values of its inputs, and what has been proved of it so far."""
+    """The properties of a machine with the values of its inputs, and the lemmas that are proved so far."""
 
     def __init__(self, machine, properties, values, folder):
         self.machine, self.terms, self.folder, self.numbers = machine, machine.terms, folder, 0
@@ -94,7 +94,7 @@ class Questions:
         return Query([self.terms.no(self.properties[name])], assumed, self.facts, kept)
 
     def levels(self, name):
-        """The sets of components to try: those of the property, then those with their sources, then all."""
+        """The sets of components to try: the components of the property, then their sources too, then all."""
         paths, design = paths_in(self.forms[name]), self.machine.design
         found = []
         while paths != self.all_paths() and paths not in found:

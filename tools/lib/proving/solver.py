@@ -51,7 +51,7 @@ def formula(graph, given, wanted):
 
 
 def implied(graph, given, wanted):
-    """Whether some clauses imply others in a graph. Literals are those of the graph."""
+    """Whether some clauses imply others in a graph. Literals belong to the graph."""
     if not wanted:
         return True
     try:

@@ -6,7 +6,7 @@ from .conditions import deciding, leaves_of
 
 COMPARISONS = {"Eq": "eq", "Ne": "ne", "Lt": "lt", "Le": "le", "Gt": "gt", "Ge": "ge"}
 LOGICAL = ("And", "Or", "Xor")
-# A round with more instructions than this, those of all turns of loops counted, is not unrolled.
+# A round with more instructions than this, all iterations of loops counted, is not unrolled.
 MOST_UNROLLED = 200_000
 
 

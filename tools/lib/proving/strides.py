@@ -11,7 +11,7 @@ MOST_DIVISOR = 2**16
 
 
 def stride(divisor, rest):
-    """A stride with the least rest."""
+    """A stride with the smallest rest."""
     return divisor, rest % divisor if divisor else rest
 
 
@@ -53,7 +53,7 @@ class Strides:
         return changed
 
     def stride_of(self, node, found):
-        """The stride of a term by those of its parts."""
+        """The stride of a term by the strides of its parts."""
         op = node[1]
         if op == "const":
             return 0, node[2]

@@ -1,4 +1,4 @@
-"""The properties of a command: those of its scenario, and those that are written as text."""
+"""The properties of a command: from its scenario, and written as text."""
 
 from ..bundles import Refused, read
 from .formula_text import read_properties, read_property

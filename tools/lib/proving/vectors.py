@@ -165,7 +165,7 @@ class Graph:
                 self.choice(left[-1], self.difference([FALSE], rest), rest))
 
     def simulate(self, literals, inputs, latches):
-        """The values of literals by those of inputs and latches, by node."""
+        """The values of literals by the values of inputs and latches, by node."""
         values = {0: 0, **inputs, **latches}
         for node, one, two in self.gates:
             values[node] = (values[one >> 1] ^ one & 1) & (values[two >> 1] ^ two & 1)
