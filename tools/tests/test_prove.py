@@ -83,7 +83,8 @@ def test_prove_cruise_control():
 
 
 def test_prove_without_limits_on_inputs():
-    """An input that is not named has any value of 64 bits: then the filter of the wheel overflows in its second step."""
+    """An input that is not named has any value of 64 bits: then the filter of the wheel overflows in its second
+    step."""
     check_design(CRUISE[0], [], {"runs": ["not", ["halted", CRUISER]]}, {"wheel": (["not", ["halted", WHEEL]], 0)})
 
 

@@ -2,8 +2,8 @@
 
 A certificate is a JSON object: the design and its root, the values of the inputs, the ranges and strides of variables,
 and the steps of the proof. A step has a formula (the first one has none: it is that no round leaves ranges and
-strides), the components that it includes, the lemmas (properties of earlier steps) and the clauses. A clause is a list of
-literals `NAME:BIT` or `-NAME:BIT`; one of them holds before each round.
+strides), the components that it includes, the lemmas (properties of earlier steps) and the clauses. A clause is a list
+of literals `NAME:BIT` or `-NAME:BIT`; one of them holds before each round.
 """
 
 import json

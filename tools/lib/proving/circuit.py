@@ -9,8 +9,8 @@ class Query:
     true in each round up to it.
 
     `facts` has the ranges of inputs, and the ranges and strides of variables of the state, which are assumed before
-    each round. With `paths` the circuit has only those components: the variables of others are free within their ranges. With
-    `leaves` the question is whether a round can leave the ranges and strides."""
+    each round. With `paths` the circuit has only those components: the variables of others are free within their
+    ranges. With `leaves` the question is whether a round can leave the ranges and strides."""
 
     def __init__(self, bad, assumed, facts, paths=None, leaves=False):
         self.bad, self.assumed, self.facts, self.paths, self.leaves = bad, assumed, facts, paths, leaves

@@ -14,8 +14,8 @@ ROWS = "the rows of pals sync"
 
 
 class Confirmed:
-    """A false property: its first false round, the program that confirms it (None: no program), the scenario, and the copy
-    of the design that the scenario's properties are of, if it is one."""
+    """A false property: its first false round, the program that confirms it (None: no program), the scenario, and the
+    copy of the design that the scenario's properties are of, if it is one."""
 
     def __init__(self, number, by, scenario, copy=None):
         self.number, self.by, self.copy = number, by, copy

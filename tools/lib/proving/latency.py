@@ -72,7 +72,8 @@ class Flow:
         return self.held(steps)
 
     def held(self, steps):
-        """The same, with the held value of a step that reads nothing new: the last value, perhaps of the round before."""
+        """The same, with the held value of a step that reads nothing new: the last value, perhaps of the round
+        before."""
         last = next((it for it in reversed(steps) if it is not None), None)
         if last is None:
             return None

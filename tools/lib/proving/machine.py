@@ -16,10 +16,10 @@ class Frame:
 
 class Machine:
     """A transition system: `first` and `next` of each variable of its state, and the `inputs` of the root by name
-    (kind, presence, value). `frames` has each component after the round by its path, `sends` the values of its out ports in
-    each step. `bounds` has the smallest and the largest value of each Integer variable by its type, `owner` the path of
-    the component that computes a variable. `goals` has the conditions of each branch, move, trap and adaptor group, and
-    of each condition that decides, if `decisions` has the trees of decisions by path and place."""
+    (kind, presence, value). `frames` has each component after the round by its path, `sends` the values of its out
+    ports in each step. `bounds` has the smallest and the largest value of each Integer variable by its type, `owner`
+    the path of the component that computes a variable. `goals` has the conditions of each branch, move, trap and
+    adaptor group, and of each condition that decides, if `decisions` has the trees of decisions by path and place."""
 
     def __init__(self, design, decisions=None):
         self.design, self.terms, self.decisions = design, Terms(), decisions or {}

@@ -1,7 +1,7 @@
 """The positions in a design's text that the instructions of step code come from.
 
-The instructions of a behaviour are laid out again from its tokens, in the order of docs/step_code.md. If the listing has
-the same names, each place of the code has the position of its token."""
+The instructions of a behaviour are laid out again from its tokens, in the order of docs/step_code.md. If the listing
+has the same names, each place of the code has the position of its token."""
 
 from ..tokens import word_of
 from ..tree import behaviour_of
