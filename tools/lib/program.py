@@ -12,8 +12,16 @@ PALS = os.path.join(TOP, "pals")
 
 def program_at(path=None):
     """The program that is asked: a file, or else the program that ./pals runs, if that needs no compilation."""
-    if path is None:
-        path = found_by_pals()
+    return executable(found_by_pals() if path is None else path)
+
+
+def code_program_at(path=None):
+    """The program that writes listings: a file, or else the program that ./pals code runs, as for program_at."""
+    return executable(found_by_pals("code") if path is None else path)
+
+
+def executable(path):
+    """The path of a program, if it can be run."""
     if not (os.path.isfile(path) and os.access(path, os.X_OK)):
         raise Refused(f"{path} is not a program that can be run")
     return os.path.abspath(path)
