@@ -79,8 +79,9 @@ def report_of(text, scenario):
     """The report that an answer is, or that the trace of a scenario has; None if there is none."""
     if text.startswith(("sound ", "wrong ")):
         trace = scenario.get("trace") if isinstance(scenario, dict) else None
-        text = "\n".join(it for it in trace or [] if isinstance(it, str) and (ROUND.fullmatch(it)
-                                                                             or COMPONENT.fullmatch(it)))
+        lines = trace if isinstance(trace, list) else []
+        lines = [it for it in lines if isinstance(it, str)]
+        text = "\n".join(it for it in lines if ROUND.fullmatch(it) or COMPONENT.fullmatch(it))
     try:
         return Report(text)
     except Refused:

@@ -18,7 +18,7 @@ from tests.test_scenarios import JUDGE, Files, campaign
 
 # A program that answers at once until a file is there, and then takes a fifth of a second.
 SLOW = JUDGE.replace("import json, sys\n", "import json, os, sys, time\nif os.path.exists(sys.argv[0] + '.slow'): "
-                                           "time.sleep(0.2)\nopen(sys.argv[0] + '.slow', 'w')\n")
+                                           "time.sleep(3)\nopen(sys.argv[0] + '.slow', 'w')\n")
 
 
 class Sums(Shrink):
