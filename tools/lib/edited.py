@@ -25,7 +25,7 @@ class Edited:
             self.starts.append(self.starts[-1] + len(line) + 1)
 
     def position(self, offset):
-        """The line and the character, both from 0, of a byte; characters are those of UTF-16."""
+        """The line and the character, both from 0, of a byte; characters are units of UTF-16."""
         low, high = 0, len(self.starts)
         while high - low > 1:
             middle = (low + high) // 2

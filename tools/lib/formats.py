@@ -19,7 +19,7 @@ FORMATS = ("json", "sarif", "junit")
 def format_of(word, known=FORMATS):
     """A format that a command line names."""
     if word is not None and word not in known:
-        raise Misused(f"{word} is no format: {', '.join(known)}")
+        raise Misused(f"unknown format {word}: take one of {', '.join(known)}")
     return word
 
 
@@ -33,14 +33,14 @@ def explained_as(form, bundle, text, command, strict=False):
 
 
 def json_of(remarks, status):
-    """Remarks as JSON. Columns are those of bytes."""
+    """Remarks as JSON. Columns count bytes."""
     found = [{"file": it.path, "line": it.line, "column": it.column, "level": it.level, "rule": it.rule,
               "message": it.what, "notes": it.more} for it in remarks]
     return json.dumps({"tool": "pals", "version": VERSION, "status": status, "findings": found}, indent=2) + "\n"
 
 
 def sarif_of(remarks, status):
-    """Remarks as SARIF 2.1.0. Columns are those of letters."""
+    """Remarks as SARIF 2.1.0. Columns count letters."""
     rules = list(dict.fromkeys(it.rule for it in remarks))
     run = {
         "tool": {"driver": {"name": "pals", "version": VERSION,

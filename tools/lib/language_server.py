@@ -1,4 +1,4 @@
-"""A language server for designs: what an editor asks, and what it gets."""
+"""A language server for designs: the requests of an editor, and their results."""
 
 import subprocess
 
@@ -17,7 +17,7 @@ from .tree import Impl
 ERROR, WARNING = 1, 2
 ADAPTORS = {"repeat": "to a higher rate: the value in each step", "first": "the first place of a group",
             "last": "the last place of a group", "latest": "to a lower rate: the last value that is present",
-            "max": "to a lower rate: the greatest value", "min": "to a lower rate: the least value",
+            "max": "to a lower rate: the maximum", "min": "to a lower rate: the minimum",
             "average": "to a lower rate: the sum divided by the number, towards zero"}
 FULL_SYNC, KEYWORD, VARIABLE, PROPERTY, VALUE = 1, 14, 6, 10, 12
 # Texts that are longer are read only for their syntax.
@@ -147,8 +147,10 @@ def visible_lines(words):
 
 def diagnostics(edited):
     """What is wrong with a text: syntax errors, names, and for a text without these the findings of lint."""
-    found = [diagnostic(edited, (token.offset, len(token.text)), ERROR, "Syntax", syntax_words(edited, at, token, wanted))
-             for at, (token, wanted) in enumerate(edited.faults)]
+    found = []
+    for at, (token, wanted) in enumerate(edited.faults):
+        words = syntax_words(edited, at, token, wanted)
+        found.append(diagnostic(edited, (token.offset, len(token.text)), ERROR, "Syntax", words))
     for name, words, fix in name_faults(edited):
         more = f"{fix} is likely meant" if fix else ""
         found.append(diagnostic(edited, (name.offset, len(name.text.encode())), ERROR, "name", [words, more], fix))
@@ -197,7 +199,7 @@ def property_words(edited, offset):
 
 
 def outline(edited, made):
-    """A declaration with what it declares."""
+    """A declaration with the names inside of it."""
     whole = edited.range(made.offset, made.end.offset + len(made.end.text.encode()) - made.offset)
     is_impl = isinstance(made, Impl)
     inside = edited.entries(made).values()
@@ -249,8 +251,8 @@ def canonical(edited):
     if edited.data.count(b"--") > plain.count(b"--"):
         return "", "formatting would lose the comments of this text, and is not done"
     try:
-        ran = subprocess.run([program_at(), "print"], input=edited.data + b"\n%%%\n", stdout=subprocess.PIPE, timeout=10,
-                             check=False)
+        given = edited.data + b"\n%%%\n"
+        ran = subprocess.run([program_at(), "print"], input=given, stdout=subprocess.PIPE, timeout=10, check=False)
     except (Refused, OSError, subprocess.TimeoutExpired) as why:
         return "", str(why)
     if ran.returncode:
