@@ -1,5 +1,6 @@
 """A language server for designs: the requests of an editor, and their results."""
 
+import re
 import subprocess
 
 from .bundles import Bundle, Refused
@@ -13,8 +14,10 @@ from .show import visible
 from .text_faults import tell
 from .tokens import word_of
 from .tree import Impl
+from .words import ANNEX, DECLARATIONS
 
 ERROR, WARNING = 1, 2
+NAME = re.compile("[A-Za-z][A-Za-z0-9_]{0,63}")
 ADAPTORS = {"repeat": "to a higher rate: the value in each step", "first": "the first place of a group",
             "last": "the last place of a group", "latest": "to a lower rate: the last value that is present",
             "max": "to a lower rate: the maximum", "min": "to a lower rate: the minimum",
@@ -24,7 +27,8 @@ FULL_SYNC, KEYWORD, VARIABLE, PROPERTY, VALUE = 1, 14, 6, 10, 12
 MOST_LINTED = 400_000
 CAPABILITIES = {"textDocumentSync": FULL_SYNC, "definitionProvider": True, "hoverProvider": True,
                 "completionProvider": {"triggerCharacters": [".", '"']}, "documentSymbolProvider": True,
-                "documentFormattingProvider": True, "codeActionProvider": True}
+                "documentFormattingProvider": True, "codeActionProvider": True, "referencesProvider": True,
+                "renameProvider": True}
 
 
 class Stopped(Exception):
@@ -93,6 +97,27 @@ class Server:
         edited, offset = self.place(params)
         entry = edited.resolve(offset)
         return {"uri": params["textDocument"]["uri"], "range": named(edited, entry.name)} if entry else None
+
+    def on_references(self, params):
+        """The places of the name at a place, in this text."""
+        edited, offset = self.place(params)
+        entry, uri = edited.resolve(offset), params["textDocument"]["uri"]
+        length = len(entry.name.text) if entry else 0
+        return [{"uri": uri, "range": edited.range(it, length)} for it in edited.uses(entry)] if entry else []
+
+    def on_rename(self, params):
+        """The changes that give the name at a place another text."""
+        edited, offset = self.place(params)
+        entry, name = edited.resolve(offset), params["newName"]
+        if entry is None or entry.kind in ("type", "implementation") or edited.faults:
+            raise Refused("only variables, states, ports, subcomponents and connections of a readable text are renamed")
+        if not NAME.fullmatch(name) or name.lower() in ANNEX | DECLARATIONS:
+            raise Refused(f"`{name}` is not a name of the language")
+        if entry.name.text.lower() in edited.loops or name.lower() in edited.loops:
+            raise Refused("a loop has a variable of this name")
+        length = len(entry.name.text)
+        edits = [{"range": edited.range(it, length), "newText": name} for it in edited.uses(entry)]
+        return {"changes": {params["textDocument"]["uri"]: edits}}
 
     def on_hover(self, params):
         """What the name at a place is."""
