@@ -7,6 +7,7 @@ from xml.sax.saxutils import escape, quoteattr
 from .bundles import Refused
 from .command import Misused
 from .explaining import explain
+from .lint import RULES
 from .rows import Report
 from .show import collecting, visible
 from .traps import rounds_words, short, traps_of
@@ -54,7 +55,6 @@ def sarif_of(remarks, status):
 
 def described(rule):
     """What a rule finds, for a rule of lint; else its name."""
-    from .lint import RULES
     return RULES.get(rule, "a component that a trap halts" if rule == "trap" else rule)
 
 
