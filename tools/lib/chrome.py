@@ -1,13 +1,13 @@
 """A run as a trace that Perfetto and Chrome open: a track for each node, slices for steps, arrows for messages.
 
-Times are microseconds: those of readings or of time, or else one for each event.
+Times are microseconds of readings or of time, or else one for each event.
 """
 
 import json
 
 from .journal import node_of
 
-NO_READING = "a finish has no reading: it is at the greatest reading before it"
+NO_READING = "a finish has no reading: the slice ends at the latest reading before it"
 
 
 def chrome_of(run):

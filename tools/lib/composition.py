@@ -11,7 +11,7 @@ from .tree import behaviour_of
 # A component that halts: its path, the round and the step, each from 0, the trap with its operator, and the names of
 # the in ports to which a value has come.
 Halt = namedtuple("Halt", "path round step trap arrived")
-# A component: its thread, its rate, how many steps it sends, its machine, and what comes into each in port.
+# A component: its thread, its rate, how many steps it sends, its machine, and the source of each in port.
 Node = namedtuple("Node", "thread rate sent machine sources")
 # How many steps are computed at most.
 MOST_STEPS = 200_000

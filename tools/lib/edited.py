@@ -5,7 +5,7 @@ from collections import namedtuple
 from .model import Declared, Model
 from .recovering import read_all
 from .tokens import word_of
-from .tree import Impl, behaviour_of
+from .tree import For, Impl, acts_in, behaviour_of
 
 # A name that is declared: its place, its kind, a sentence on it, and the number of its kind in the protocol.
 Entry = namedtuple("Entry", "name kind words symbol")
@@ -25,7 +25,7 @@ class Edited:
             self.starts.append(self.starts[-1] + len(line) + 1)
 
     def position(self, offset):
-        """The line and the character, both from 0, of a byte; characters are those of UTF-16."""
+        """The line and the character, both from 0, of a byte; characters are units of UTF-16."""
         low, high = 0, len(self.starts)
         while high - low > 1:
             middle = (low + high) // 2
@@ -49,6 +49,13 @@ class Edited:
         """The design below its one root, or None."""
         roots = self.declared.roots() if self.declared.systems() else []
         return Model(self.declared, roots[0]) if len(roots) == 1 else None
+
+    @property
+    def loops(self):
+        """The names of the variables of loops, in lower case."""
+        behaviours = filter(None, map(behaviour_of, self.package.impls))
+        return {act.variable.text.lower() for it in behaviours for transition in it.transitions
+                for act in acts_in(transition.acts) if isinstance(act, For)}
 
     def owner_at(self, offset):
         """The type or the implementation around a byte, or None."""
@@ -84,6 +91,8 @@ class Edited:
         if before == "." and number > 1:
             return self.dotted(word_of(self.tokens[number - 2]).lower(), word, owner)
         after = self.tokens[number + 1 : number + 3]
+        if before in ("::", "=>") or (after and after[0].text in (b"=>", b"+=>", b"::")):
+            return None
         if len(after) == 2 and after[0].text == b".":
             impl = self.declared.impls.get(f"{word}.{word_of(after[1]).lower()}")
             if impl:
@@ -91,6 +100,14 @@ class Edited:
         entries = self.entries(owner) if owner else {}
         return entries.get(word) or (declaration_entry(self.declared.types[word]) if word in self.declared.types
                                      else None)
+
+    def uses(self, entry):
+        """The places of a name, its declaration included, as bytes."""
+        word = entry.name.text.lower().encode()
+        if entry.kind in ("type", "implementation"):
+            return [entry.name.offset]
+        found = [it.offset for it in self.tokens if it.kind == "word" and it.text.lower() == word]
+        return [it for it in found if getattr(self.resolve(it), "name", None) == entry.name]
 
     def dotted(self, first, word, owner):
         """The entry of `first.word`: an implementation, or a port of a part."""

@@ -7,6 +7,7 @@ from xml.sax.saxutils import escape, quoteattr
 from .bundles import Refused
 from .command import Misused
 from .explaining import explain
+from .lint import RULES
 from .rows import Report
 from .show import collecting, visible
 from .traps import rounds_words, short, traps_of
@@ -19,7 +20,7 @@ FORMATS = ("json", "sarif", "junit")
 def format_of(word, known=FORMATS):
     """A format that a command line names."""
     if word is not None and word not in known:
-        raise Misused(f"{word} is no format: {', '.join(known)}")
+        raise Misused(f"unknown format {word}: take one of {', '.join(known)}")
     return word
 
 
@@ -33,14 +34,14 @@ def explained_as(form, bundle, text, command, strict=False):
 
 
 def json_of(remarks, status):
-    """Remarks as JSON. Columns are those of bytes."""
+    """Remarks as JSON. Columns count bytes."""
     found = [{"file": it.path, "line": it.line, "column": it.column, "level": it.level, "rule": it.rule,
               "message": it.what, "notes": it.more} for it in remarks]
     return json.dumps({"tool": "pals", "version": VERSION, "status": status, "findings": found}, indent=2) + "\n"
 
 
 def sarif_of(remarks, status):
-    """Remarks as SARIF 2.1.0. Columns are those of letters."""
+    """Remarks as SARIF 2.1.0. Columns count letters."""
     rules = list(dict.fromkeys(it.rule for it in remarks))
     run = {
         "tool": {"driver": {"name": "pals", "version": VERSION,
@@ -54,7 +55,6 @@ def sarif_of(remarks, status):
 
 def described(rule):
     """What a rule finds, for a rule of lint; else its name."""
-    from .lint import RULES
     return RULES.get(rule, "a component that a trap halts" if rule == "trap" else rule)
 
 

@@ -23,7 +23,7 @@ PAGE = "share/man/man1/pals.1"
 
 
 class Installation:
-    """The files of an installation. `root` is where they are written, `prefix` where they are used."""
+    """The files of an installation. `root` is the folder of the files, `prefix` the folder that users see."""
 
     def __init__(self, prefix, root):
         self.prefix, self.root = prefix, root
@@ -100,7 +100,7 @@ class Installation:
         os.symlink("../lib/pals/pals", path)
 
     def remove(self):
-        """Removes what was installed."""
+        """Removes the files of an installation."""
         if not os.path.isfile(os.path.join(self.folder, "INSTALLED")):
             raise Refused(f"{self.folder} is not an installation")
         shutil.rmtree(self.folder)

@@ -1,7 +1,7 @@
 """Steps of one thread, computed from the tree of its behaviour: what they send, and the operator at which one traps.
 
-Truth values are the numbers 0 and 1. `docs/behaviours.md` defines the steps, and the program is what is proved: this
-interpreter finds places in the text, which the program does not report.
+Truth values are the numbers 0 and 1. `docs/behaviours.md` defines the steps. The program is proved, and this interpreter
+is not: it finds places in the text, which the program does not report.
 """
 
 import re
@@ -58,7 +58,7 @@ def first_values(behaviour):
 
 
 def is_bounded(acts, turns=1):
-    """Whether the loops of some actions make as few turns as a behaviour may have."""
+    """Whether the loops of some actions have no more turns than a behaviour may have."""
     for act in acts:
         if isinstance(act, tree.If) and not all(is_bounded(it, turns) for it in [inner for _, inner in act.branches] +
                                                 [act.otherwise]):

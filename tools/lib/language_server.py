@@ -1,5 +1,6 @@
-"""A language server for designs: what an editor asks, and what it gets."""
+"""A language server for designs: the requests of an editor, and their results."""
 
+import re
 import subprocess
 
 from .bundles import Bundle, Refused
@@ -13,18 +14,21 @@ from .show import visible
 from .text_faults import tell
 from .tokens import word_of
 from .tree import Impl
+from .words import ANNEX, DECLARATIONS
 
 ERROR, WARNING = 1, 2
+NAME = re.compile("[A-Za-z][A-Za-z0-9_]{0,63}")
 ADAPTORS = {"repeat": "to a higher rate: the value in each step", "first": "the first place of a group",
             "last": "the last place of a group", "latest": "to a lower rate: the last value that is present",
-            "max": "to a lower rate: the greatest value", "min": "to a lower rate: the least value",
+            "max": "to a lower rate: the maximum", "min": "to a lower rate: the minimum",
             "average": "to a lower rate: the sum divided by the number, towards zero"}
 FULL_SYNC, KEYWORD, VARIABLE, PROPERTY, VALUE = 1, 14, 6, 10, 12
 # Texts that are longer are read only for their syntax.
 MOST_LINTED = 400_000
 CAPABILITIES = {"textDocumentSync": FULL_SYNC, "definitionProvider": True, "hoverProvider": True,
                 "completionProvider": {"triggerCharacters": [".", '"']}, "documentSymbolProvider": True,
-                "documentFormattingProvider": True, "codeActionProvider": True}
+                "documentFormattingProvider": True, "codeActionProvider": True, "referencesProvider": True,
+                "renameProvider": True}
 
 
 class Stopped(Exception):
@@ -94,6 +98,27 @@ class Server:
         entry = edited.resolve(offset)
         return {"uri": params["textDocument"]["uri"], "range": named(edited, entry.name)} if entry else None
 
+    def on_references(self, params):
+        """The places of the name at a place, in this text."""
+        edited, offset = self.place(params)
+        entry, uri = edited.resolve(offset), params["textDocument"]["uri"]
+        length = len(entry.name.text) if entry else 0
+        return [{"uri": uri, "range": edited.range(it, length)} for it in edited.uses(entry)] if entry else []
+
+    def on_rename(self, params):
+        """The changes that give the name at a place another text."""
+        edited, offset = self.place(params)
+        entry, name = edited.resolve(offset), params["newName"]
+        if entry is None or entry.kind in ("type", "implementation") or edited.faults:
+            raise Refused("only variables, states, ports, subcomponents and connections of a readable text are renamed")
+        if not NAME.fullmatch(name) or name.lower() in ANNEX | DECLARATIONS:
+            raise Refused(f"`{name}` is not a name of the language")
+        if entry.name.text.lower() in edited.loops or name.lower() in edited.loops:
+            raise Refused("a loop has a variable of this name")
+        length = len(entry.name.text)
+        edits = [{"range": edited.range(it, length), "newText": name} for it in edited.uses(entry)]
+        return {"changes": {params["textDocument"]["uri"]: edits}}
+
     def on_hover(self, params):
         """What the name at a place is."""
         edited, offset = self.place(params)
@@ -147,8 +172,10 @@ def visible_lines(words):
 
 def diagnostics(edited):
     """What is wrong with a text: syntax errors, names, and for a text without these the findings of lint."""
-    found = [diagnostic(edited, (token.offset, len(token.text)), ERROR, "Syntax", syntax_words(edited, at, token, wanted))
-             for at, (token, wanted) in enumerate(edited.faults)]
+    found = []
+    for at, (token, wanted) in enumerate(edited.faults):
+        words = syntax_words(edited, at, token, wanted)
+        found.append(diagnostic(edited, (token.offset, len(token.text)), ERROR, "Syntax", words))
     for name, words, fix in name_faults(edited):
         more = f"{fix} is likely meant" if fix else ""
         found.append(diagnostic(edited, (name.offset, len(name.text.encode())), ERROR, "name", [words, more], fix))
@@ -197,7 +224,7 @@ def property_words(edited, offset):
 
 
 def outline(edited, made):
-    """A declaration with what it declares."""
+    """A declaration with the names inside of it."""
     whole = edited.range(made.offset, made.end.offset + len(made.end.text.encode()) - made.offset)
     is_impl = isinstance(made, Impl)
     inside = edited.entries(made).values()
@@ -249,8 +276,8 @@ def canonical(edited):
     if edited.data.count(b"--") > plain.count(b"--"):
         return "", "formatting would lose the comments of this text, and is not done"
     try:
-        ran = subprocess.run([program_at(), "print"], input=edited.data + b"\n%%%\n", stdout=subprocess.PIPE, timeout=10,
-                             check=False)
+        given = edited.data + b"\n%%%\n"
+        ran = subprocess.run([program_at(), "print"], input=given, stdout=subprocess.PIPE, timeout=10, check=False)
     except (Refused, OSError, subprocess.TimeoutExpired) as why:
         return "", str(why)
     if ran.returncode:

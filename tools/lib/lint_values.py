@@ -80,7 +80,7 @@ def names_of(expr):
 
 
 def in_acts(acts, tested):
-    """The divisions of actions, each with what is tested or set before it."""
+    """The divisions of actions, each with the names that are tested or set before it."""
     tested = set(tested)
     for act in acts:
         if isinstance(act, tree.If):
@@ -128,7 +128,7 @@ def conditions(transition):
         if always is not None:
             word = "true" if always else "false"
             yield Found("constant-condition", transition.source.text, condition.offset,
-                        f"this condition is always {word}", "write what is meant, or take the condition out")
+                        f"this condition is always {word}", "correct the condition, or remove it")
 
 
 def shadowed(behaviour):

@@ -114,10 +114,10 @@ class Plot:
     def draw(self):
         """The whole picture."""
         self.sheet.text(24, 24, self.title, "title")
+        heading = 24 + wide(self.title) * 1.2
         if self.halts:
-            words = ", ".join(f"{it.path} in round {it.round} ({it.kind})" for it in list(self.halts.values())[:3])
-            more = f" and {len(self.halts) - 3} more" if len(self.halts) > 3 else ""
-            self.sheet.text(24 + wide(self.title) * 1.2 + 12, 24, f"halted: {words}{more}", "red")
+            self.sheet.text(heading + 12, 24, self.halted_words(), "red")
+            heading += wide(self.halted_words()) + 24
         bottom = TOP
         for signal in self.signals:
             height = HEIGHTS[signal.kind]
@@ -127,7 +127,12 @@ class Plot:
             self.draw_halt(signal, bottom, height)
             bottom += height + GAP
         self.draw_axis(bottom - GAP)
-        return self.sheet.whole(max(self.left + self.width + 40, wide(self.title) * 1.2 + 24), bottom + 24, self.title)
+        return self.sheet.whole(max(self.left + self.width + 40, heading), bottom + 24, self.title)
+
+    def halted_words(self):
+        """The components that halt, the first three of them by name."""
+        words = ", ".join(f"{it.path} in round {it.round} ({it.kind})" for it in list(self.halts.values())[:3])
+        return f"halted: {words}" + (f" and {len(self.halts) - 3} more" if len(self.halts) > 3 else "")
 
     def draw_halt(self, signal, top, height):
         """A red line in the strip of a variable where its component halts."""

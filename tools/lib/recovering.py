@@ -36,7 +36,7 @@ class Recovering(Grammar):
             self.faults.append(Fault(fault.number, list(fault.wanted)))
 
     def skip(self, start):
-        """Goes behind the next `;` outside of braces, or to a word that ends a part; at least one token from the start
+        """Moves past the next `;` outside of braces, or to a word that ends a part; at least one token from the start
         on."""
         level = sum({b"{": 1, b"}": -1}.get(it.text, 0) for it in self.tokens[start : self.at])
         while not self.fits("the end"):
@@ -119,7 +119,7 @@ class Recovering(Grammar):
 
 
 def read_all(text):
-    """The tree of what can be read of a text, its tokens, and all syntax errors as pairs of a token and sentences."""
+    """The tree of the readable parts of a text, its tokens, and all syntax errors as pairs of a token and sentences."""
     cursor = Recovering(text)
     package = cursor.package()
     return package, cursor.tokens, [(cursor.tokens[it.number], it.wanted) for it in cursor.faults]

@@ -16,7 +16,7 @@ HALTED = re.compile(r"halted\((overflow|zero-divisor)\)")
 RULE = "trap"
 # A component that rows show as halted: its path as the rows have it, the first such round, and the trap.
 Shown = namedtuple("Shown", "path round kind")
-# What was found: the remarks, the halts with what is known of each, and how many of how many rounds were computed.
+# The result of a search: remarks, halts, and how many of how many rounds were computed.
 Traps = namedtuple("Traps", "found halts searched rounds")
 NO_TRAPS = Traps([], [], 0, 0)
 # A halt in a picture or a table: the step is None if it is not known.
