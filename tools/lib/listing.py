@@ -1,4 +1,4 @@
-"""Reads listings: the step code of a design as text, whose form is in docs/listing.md."""
+"""Reads listings: the step code of a design as text, whose form is in docs/step_code.md."""
 
 import re
 from collections import namedtuple
