@@ -37,7 +37,7 @@ def show_text(bundle, answer):
     told = tell(bundle, name, offset_in(bundle, place))
     show(bundle, place, told.what, *told.more, f"see docs/language.md, {name}")
     if told.culprit is not None and bundle.place(told.culprit)[0] != place[0]:
-        show(bundle, bundle.place(told.culprit), "this is likely the place to mend")
+        show(bundle, bundle.place(told.culprit), "this is likely the place to fix")
 
 
 def show_fault(bundle, answer):

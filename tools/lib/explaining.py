@@ -36,7 +36,7 @@ def explain(bundle, text, command, passes=True):
         raise Refused("this is a bundle, and no answer: nothing was checked; hand it to ./pals first")
     if found.kind is None:
         first = found.lines[0] if found.lines else ""
-        raise Refused(f"this is no answer of the program: nothing was checked; it begins with: {visible(first[:60])}")
+        raise Refused(f"not an answer of the program: nothing was checked; it begins with: {visible(first[:60])}")
     if passes and found.kind in PASSED:
         sys.stdout.write(text if text.endswith("\n") else text + "\n")
     if found.kind in SHOW:

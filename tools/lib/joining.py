@@ -102,7 +102,7 @@ class Joined:
                 sent.add((path, journal[-1].round))
             elif len(journal) == count:
                 stuck = next(lines[-1] for lines in left.values() if lines)
-                raise Refused(f"no order has each arrival behind its send: {' '.join(stuck.words)}")
+                raise Refused(f"no order has each arrival after its send: {' '.join(stuck.words)}")
         return journal
 
     def goes_on(self, line, sent):
@@ -129,7 +129,7 @@ class Joined:
             for name in self.nodes.outputs:
                 found = [record.outs[number, name] for record in self.records.values() if (number, name) in record.outs]
                 if len(found) != 1:
-                    raise Refused(f"{len(found)} nodes tell what {name} shows in round {number}, and one has to")
+                    raise Refused(f"{len(found)} nodes recorded {name} in round {number}, and exactly one must")
                 yield found[0]
 
     def row(self, path, number):

@@ -19,9 +19,9 @@ RULES = {
     "unset-variable": "a variable that no step sets",
     "unreached-state": "a state that no way leads to",
     "untaken-transition": "a transition that is never taken",
-    "mixed-operators": "`and`, `or` and `xor` beside each other without brackets",
+    "mixed-operators": "`and`, `or` and `xor` mixed without parentheses",
     "misspelt-property": "a property that means nothing, and is near to one that does",
-    "ignored-property": "a property that means nothing where it stands",
+    "ignored-property": "a property without a meaning at its place",
 }
 
 

@@ -49,7 +49,7 @@ def variables(threads, behaviour, uses, watched):
         seen = any((thread.path.lower(), name.lower()) in watched for thread in threads)
         if name.lower() not in uses.read and not seen:
             yield Found("unread-variable", name, variable.name.offset, f"the variable {name} is never read",
-                        "it stands in the rows and does nothing else: use it, or take it out")
+                        "it appears only in the rows: use it, or remove it")
         if name.lower() not in uses.set:
             keeps = "keeps its first value" if variable.props else "stays 0 or false"
             yield Found("unset-variable", name, variable.name.offset, f"the variable {name} is never set: it {keeps}",
@@ -93,7 +93,7 @@ def states(behaviour):
                        else "the one before it is always taken")
                 yield Found("untaken-transition", state.name.text, transition.offset,
                             f"this transition of {state.name.text} is never taken: {why}",
-                            "take it out, or give what stands before it a guard")
+                            "remove it, or give the transition before it a guard")
 
 
 def takeable(behaviour, state):
@@ -115,7 +115,7 @@ def operators(behaviour):
                     yield Found("mixed-operators", chain.words[0], chain.offset,
                                 f"`{plain}` is read from the left, as `{read}`: all logical operators have one "
                                 f"precedence",
-                                "put brackets round what belongs together")
+                                "add parentheses")
 
 
 def patterns(words):

@@ -43,7 +43,7 @@ def read_record(text, path, nodes):
         if not one:
             continue
         if record.lines and record.lines[-1].kind == "stop":
-            raise Refused(f"{path}, line {number}: it stands behind the stop")
+            raise Refused(f"{path}, line {number}: it follows the stop")
         row, out, line = ROW.fullmatch(one), OUT.fullmatch(one), line_of(one)
         if row and row["path"] == path:
             record.rows[int(row["round"])] = one.split(" ", 2)[2]
@@ -52,7 +52,7 @@ def read_record(text, path, nodes):
         elif line and owner(line, nodes) == path:
             record.lines.append(line)
         else:
-            raise Refused(f"{path}, line {number}: this is no line of the node: {one[:60]}")
+            raise Refused(f"{path}, line {number}: this is not a line of the node: {one[:60]}")
     return record
 
 

@@ -121,7 +121,7 @@ class Page:
     def design(self):
         """The picture of the design, and what it is accepted with."""
         if self.model is None:
-            return [note("The text of the design is none of the language.")]
+            return [note("The design is not a text of the language.")]
         graph = Graph(self.model)
         title = f"The design of {self.study.root}"
         drawn = pane(GraphPicture(graph, title).draw(), title) if graph.boxes else ""
@@ -210,7 +210,7 @@ class Page:
         told = self.study.told.get("run")
         if told is None:
             long = "sync" in self.study.told and not self.study.told["sync"].status and "check" in self.study.told
-            return [note("So long a run in threads is left out: pals run --trace makes it.")] if long else None
+            return [note("A run in threads of this length is omitted: pals run --trace prints it.")] if long else None
         try:
             drawn = run_of(told.text, self.study.bundle)
         except Refused as why:
@@ -247,8 +247,8 @@ class Page:
             status = (str(told.status), "false" if told.status else "")
             asked = f"pals {' '.join(told.words)} {self.study.root}"
             shown.append([asked, status, f"{len(told.text):,}", (ending[:120], "left")])
-        return [table(["asked", "status", "bytes", "what it ends with"], shown, "Answers"),
-                note("docs/formats.md says what each status means. Nothing is proved of this page: the answers count.")]
+        return [table(["asked", "status", "bytes", "last line"], shown, "Answers"),
+                note("docs/formats.md lists the meaning of each status. This page is not proved: the answers count.")]
 
 
 def cells_of(row):

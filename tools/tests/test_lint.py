@@ -65,7 +65,7 @@ end Top.impl;
 end Train;
 """
 GIVEN = '%%%\n{"rounds": 2, "inputs": {"limit": [2]}}\n'
-NOT_ACCEPTED = "lint: b.pals: the design is not accepted; ./pals check tells why\n"
+NOT_ACCEPTED = "lint: b.pals: the design is not accepted; ./pals check reports the reason\n"
 
 
 def found(design, *words, scenario=GIVEN, refused=False):
@@ -164,7 +164,7 @@ def test_what_is_meant_is_quiet():
     expect((status, said), (1, "lint: there is no system implementation Tip.impl: take Top.impl\n"),
            "a root that is none")
     status, text, said = on_bundle("lint", b"package A")
-    expect((status, text, "no text of the language" in said), (1, "", True), "no text of the language")
+    expect((status, text, "not a text of the language" in said), (1, "", True), "no text of the language")
 
 
 def test_explain_lints_what_is_accepted():
