@@ -158,7 +158,8 @@ def test_join_as_a_program():
         status, written, _ = tool("join", "--rounds", "1", folder, example)
         expect((status, json.loads(Bundle("joined", written).scenario)["rounds"]), (0, 1), "rounds")
         for wrong, words in (("start p.a 0 1\n", "p.b, line 1"), ("stop early p.b.i 0 9\nfinish p.b 0\n", "line 2"),
-                             ("arrive p.b.i 7 9 kept\n", "no send of it"), ("start p.b 0 _\n", "not a line of the node")):
+                             ("arrive p.b.i 7 9 kept\n", "no send of it"),
+                             ("start p.b 0 _\n", "not a line of the node")):
             record("p.b", wrong)
             status, written, said = tool("join", folder, example)
             expect((status, written, words in said), (1, b"", True), said)
