@@ -47,7 +47,7 @@ def show_fault(bundle, answer):
     package = package_of(bundle.design)
     reader = Reader(package) if package else None
     told = fault_sentences(reader, number, name, offset_in(bundle, place)) or [
-        sentence(sentences.FAULTS.get(number, "the package is refused"), [name]), advice().get(("faults", number))]
+        sentence(sentences.FAULTS.get(number, "the package is rejected"), [name]), advice().get(("faults", number))]
     see = f"see docs/checks.md, faults of the package, {number} {found['name']}"
     show(bundle, place, *told, see)
     if reader:
@@ -128,6 +128,6 @@ def show_scenario(bundle, answer):
     else:
         offset = place_of(bundle, "rounds" if name == "TooBig" else about)
         offset = offset_of(bundle, why.offset) if why.offset is not None else offset
-    what, *more = told or [sentence(sentences.SCENARIO_FAULTS.get(name, "the scenario is refused"), [about])]
-    show(bundle, bundle.place(offset), what, *more, f"see docs/scenario.md, Refusals, {name}")
+    what, *more = told or [sentence(sentences.SCENARIO_FAULTS.get(name, "the scenario is rejected"), [about])]
+    show(bundle, bundle.place(offset), what, *more, f"see docs/scenario.md, Errors of a scenario, {name}")
 

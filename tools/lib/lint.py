@@ -9,18 +9,18 @@ from .properties import ignored
 # Each rule, and what it finds.
 RULES = {
     "dead-link": "a link whose adaptor reads steps that are never sent",
-    "thin-adaptor": "an adaptor that has fewer values than it seems to have, as a step of its source is not sent",
-    "unsent-steps": "a component that sends fewer steps than it makes",
-    "no-source": "a port that nothing comes into",
+    "thin-adaptor": "an adaptor over fewer values than it suggests, since a step of its source is not sent",
+    "unsent-steps": "a component that sends fewer steps than it executes",
+    "no-source": "a port without a source",
     "no-input": "a root in port for which the scenario has no value",
-    "unread-port": "a port that nothing takes, or that no step reads",
+    "unread-port": "a port without a reader, or that no step reads",
     "unset-port": "an out port that no step sends on",
     "unread-variable": "a variable that no step reads, and no property of the scenario",
     "unset-variable": "a variable that no step sets",
-    "unreached-state": "a state that no way leads to",
+    "unreached-state": "a state that no path leads to",
     "untaken-transition": "a transition that is never taken",
     "mixed-operators": "`and`, `or` and `xor` mixed without parentheses",
-    "misspelt-property": "a property that means nothing, and is near to one that does",
+    "misspelt-property": "a property without a meaning that resembles one with a meaning",
     "ignored-property": "a property without a meaning at its place",
 }
 

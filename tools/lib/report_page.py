@@ -114,7 +114,7 @@ class Page:
     def report_of(self, place):
         """The report of an answer, or None where there is none."""
         try:
-            return Report(self.text_of(place) or "refused")
+            return Report(self.text_of(place) or "rejected")
         except Refused:
             return None
 
@@ -136,17 +136,17 @@ class Page:
         """What is wrong, or accepted and likely not meant."""
         told = self.study.told.get("check")
         accepted = told is not None and told.status == 0
-        self.chip(*(("good", "the design is accepted") if accepted else ("bad", "the design is refused") if told
+        self.chip(*(("good", "the design is accepted") if accepted else ("bad", "the design is rejected") if told
                     else ("plain", "the design was not checked")))
         found, parts = lint(self.model, self.study.scenario) if self.model and accepted else [], []
         for place, (words, status, text) in self.study.told.items():
             if status:
-                parts.append(lines(self.explained(text, place), f"What pals {' '.join(words)} says"))
+                parts.append(lines(self.explained(text, place), f"Output of pals {' '.join(words)}"))
         if found:
-            self.chip("plain", f"{len(found)} likely not meant")
-            parts.append(note(f"Accepted and likely not meant: {len(found)}. docs/tools.md has the rules."))
+            self.chip("plain", f"{len(found)} suspicious")
+            parts.append(note(f"Accepted, but suspicious: {len(found)}. docs/tools.md has the rules."))
             parts.append(lines(self.said(lambda: [show_found(self.study.bundle, it) for it in found]), "Lint"))
-        return parts or [note("Nothing is refused, and nothing was found that is likely not meant.")]
+        return parts or [note("No errors and no suspicious constructs.")]
 
     def said(self, work):
         """What some work writes."""
@@ -186,7 +186,7 @@ class Page:
     def rows(self):
         """The rows of the composition, and of replicas and plants where the scenario has some."""
         made = []
-        for place, words in (("sync", ""), ("vote", "With replicas"), ("fuse", "With plants that answer at once")):
+        for place, words in (("sync", ""), ("vote", "With replicas"), ("fuse", "With plants that respond at once")):
             report = self.report_of(place)
             if report and report.rows:
                 made += [f"<h3>{words}</h3>" if words else "", *self.table_of(report)]

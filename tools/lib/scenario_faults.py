@@ -226,7 +226,7 @@ class Why:
         if re.fullmatch(r"[0-9]{1,6}", text) and re.fullmatch(r"[0-9]{1,30}", cells) and int(text):
             each = int(cells) // int(text)
             most = 1_000_000 // each if each else 0
-            return [f"the run would leave {int(cells):,} values, {each:,} a round, and 1,000,000 are the most",
+            return [f"the run would produce {int(cells):,} values, {each:,} a round, and the maximum is 1,000,000",
                     f'"rounds": {most} is the most for this design' if most
                     else "this design leaves too much in one round"]
         return []
