@@ -70,7 +70,7 @@ def fault_sentences(reader, number, name, offset):
     if number == 6:
         ends = reader.open_ends(offset)
         return [f"the connection {name} has an open end: {'; '.join(ends)}",
-                "connect that end further, or take the connection away"] if ends else []
+                "connect that end further, or remove the connection"] if ends else []
     if number == 8 and name in TOO_MANY:
         return [TOO_MANY[name], "the limits are fixed: split the design or the thread, or shorten names"]
     return []

@@ -77,7 +77,7 @@ class Findings:
         elif last.startswith(WHOLE_TYPES):
             likely = "Base_Types::Integer is likely meant"
         elif last.startswith(("float", "real", "double")):
-            likely = "numbers are whole here: take Base_Types::Integer, and count in smaller units, as tenths"
+            likely = "numbers are whole here: use Base_Types::Integer, and count in smaller units, as tenths"
         else:
             likely = ""
         return [f"{named.ref.text} is not a type here: use Base_Types::Integer or Base_Types::Boolean", likely]

@@ -168,7 +168,7 @@ class Library:
         found = self.basic(ref, package) if ref else None
         if not found:
             self.told.add(place, f"the type of {name}, {ref or 'none'}, is not in the language; {name} is omitted",
-                          "take Base_Types::Integer in units that are small enough, or Base_Types::Boolean")
+                          "use Base_Types::Integer in units that are small enough, or Base_Types::Boolean")
         return found
 
     def basic(self, ref, package):

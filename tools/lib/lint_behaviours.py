@@ -62,11 +62,11 @@ def ports(all_uses):
     name = port.name.text
     if port.direction == "in" and not any(name.lower() in uses.read for *_, uses in all_uses):
         yield Found("unread-port", name, port.name.offset, f"no step of {kind} reads its in port {name}",
-                    "use it, or take the port out")
+                    "use it, or remove the port")
     if port.direction == "out" and not any(name.lower() in uses.set for *_, uses in all_uses):
         yield Found("unset-port", name, port.name.offset,
                     f"no step of {kind} sends on its out port {name}: it is always absent",
-                    f"send on it, as {name}!(..), or take the port out")
+                    f"send on it, as {name}!(..), or remove the port")
 
 
 def states(behaviour):
@@ -84,8 +84,8 @@ def states(behaviour):
     for name, state in kinds.items():
         if name not in reached:
             yield Found("unreached-state", state.name.text, state.name.offset,
-                        f"no way leads to the state {state.name.text}",
-                        "lead a transition to it, or take it out")
+                        f"no path leads to the state {state.name.text}",
+                        "lead a transition to it, or remove it")
             continue
         for transition in behaviour.transitions:
             if transition.source.text.lower() == name and transition not in taken[name]:

@@ -81,7 +81,7 @@ def test_a_dead_link_is_told():
     status, rules, text = found(TRAIN)
     expect((status, rules), (1, [("31", "unsent-steps"), ("34", "dead-link")]), text)
     for part in (
-        'the link to cab.supervisor.speed is dead for ever: cab.odometer sends 3 of its 4 steps, and "last" reads none '
+        'the link to cab.supervisor.speed is dead: cab.odometer sends 3 of its 4 steps, and "last" reads none '
         'of them',
         '"latest" reads the last one that is sent, and so does "at 3" in the first group',
         "all 4 are sent with a period of 36 ms or more at the root",
