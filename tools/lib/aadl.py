@@ -52,7 +52,7 @@ class Reader:
     def wrong(self, wanted):
         """A text that cannot be read."""
         found = visible(word_of(self.here())[:40]) or "the end of the file"
-        return Refused(f"{self.file.place(self.here().offset)}: {wanted} is wanted here, and not {found}")
+        return Refused(f"{self.file.place(self.here().offset)}: expected {wanted}, found {found}")
 
     def take(self, word=None):
         """Takes the token here, which has to be a word or a certain one."""
@@ -186,7 +186,7 @@ class Reader:
         start = self.here().offset
         while self.word() != ";" or self.here().inside:
             if self.here().kind == "end":
-                raise self.wrong("`;` behind the annex")
+                raise self.wrong("`;` after the annex")
             self.at += 1
         text = self.file.bundle.data[start : self.here().offset].rstrip()
         self.at += 1

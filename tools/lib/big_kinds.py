@@ -75,7 +75,7 @@ BODY = "{x := x + i + 1; o!(x)"
 # An object in objects, as deep as JSON may be inside of the field.
 DEEP = '{"":' * 123 + "1" + "}" * 123
 KINDS = {
-    "blanks behind the scenario": lambda: padded(bundle(read(DESIGN), text(FIELDS))),
+    "blanks after the scenario": lambda: padded(bundle(read(DESIGN), text(FIELDS))),
     "one comment": lambda: filled("--", lambda _: "-" * 1023, "\n" + bundle(read(DESIGN), text(FIELDS)).decode()),
     "no divider": lambda: b"-" * MOST_BYTES,
     "one byte too many": lambda: b"-" * (MOST_BYTES + 1),

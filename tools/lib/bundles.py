@@ -29,7 +29,7 @@ def join(path, model, scenario):
     found = divider_at(model + b"\n")
     if found:
         line = model.count(b"\n", 0, found[0]) + 1
-        raise Refused(f"{path}:{line}:1: a line %%% would end the design here; take it out, or write it otherwise")
+        raise Refused(f"{path}:{line}:1: a line %%% would end the design here; remove it")
     if model and not model.endswith(b"\n"):
         model += b"\n"
     bundle = model + DIVIDER + b"\n" + scenario

@@ -74,7 +74,7 @@ def take_option(words, name):
         return None, words
     at = words.index(name)
     if at + 1 == len(words):
-        raise Misused(f"{name} wants a word behind it")
+        raise Misused(f"{name} needs a value after it")
     return words[at + 1], words[:at] + words[at + 2 :]
 
 

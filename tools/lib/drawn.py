@@ -20,7 +20,7 @@ def run_of(text, bundle):
     elif re.fullmatch(r"sound rounds \d+ stop (none|\S+ \d+)\n?|wrong \d+ \w+\n?", text):
         found = from_trace(bundle.scenario, text)
     elif re.match(r"(text|flat|scenario|clock|code|accepted|processor|ring|usage:|\d+:\d+) ?", text):
-        raise Refused("the answer is of no run")
+        raise Refused("the answer does not belong to a run")
     else:
         found = from_events(bundle.scenario, text)
     if bundle is not None:

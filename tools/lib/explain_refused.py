@@ -37,7 +37,7 @@ def show_text(bundle, answer):
     told = tell(bundle, name, offset_in(bundle, place))
     show(bundle, place, told.what, *told.more, f"see docs/language.md, {name}", rule=name)
     if told.culprit is not None and bundle.place(told.culprit)[0] != place[0]:
-        show(bundle, bundle.place(told.culprit), "this is likely the place to mend", rule=name, level="note")
+        show(bundle, bundle.place(told.culprit), "this is likely the place to fix", rule=name, level="note")
 
 
 def show_fault(bundle, answer):
@@ -47,7 +47,7 @@ def show_fault(bundle, answer):
     package = package_of(bundle.design)
     reader = Reader(package) if package else None
     told = fault_sentences(reader, number, name, offset_in(bundle, place)) or [
-        sentence(sentences.FAULTS.get(number, "the package is refused"), [name]), advice().get(("faults", number))]
+        sentence(sentences.FAULTS.get(number, "the package is rejected"), [name]), advice().get(("faults", number))]
     see = f"see docs/checks.md, faults of the package, {number} {found['name']}"
     show(bundle, place, *told, see, rule=found["name"])
     if reader:
@@ -70,7 +70,7 @@ def fault_sentences(reader, number, name, offset):
     if number == 6:
         ends = reader.open_ends(offset)
         return [f"the connection {name} has an open end: {'; '.join(ends)}",
-                "connect that end further, or take the connection away"] if ends else []
+                "connect that end further, or remove the connection"] if ends else []
     if number == 8 and name in TOO_MANY:
         return [TOO_MANY[name], "the limits are fixed: split the design or the thread, or shorten names"]
     return []
@@ -132,6 +132,6 @@ def show_scenario(bundle, answer):
     else:
         offset = place_of(bundle, "rounds" if name == "TooBig" else about)
         offset = offset_of(bundle, why.offset) if why.offset is not None else offset
-    what, *more = told or [sentence(sentences.SCENARIO_FAULTS.get(name, "the scenario is refused"), [about])]
-    show(bundle, bundle.place(offset), what, *more, f"see docs/scenario.md, Refusals, {name}", rule=name)
+    what, *more = told or [sentence(sentences.SCENARIO_FAULTS.get(name, "the scenario is rejected"), [about])]
+    show(bundle, bundle.place(offset), what, *more, f"see docs/scenario.md, Errors of a scenario, {name}", rule=name)
 

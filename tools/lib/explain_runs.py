@@ -13,7 +13,7 @@ def show_event(bundle, answer):
     """The first event that is refused."""
     found = answer.parts
     details = found["details"].split()
-    form = sentences.EVENT_FAULTS.get(found["name"], "the event is refused")
+    form = sentences.EVENT_FAULTS.get(found["name"], "the event is rejected")
     form = form[len(details) == 3] if isinstance(form, tuple) else form
     place = bundle.place(place_of(bundle, f"events/{found['index']}"))
     see = f"see docs/nodes.md, {found['name']}"
@@ -57,7 +57,7 @@ def show_code(bundle, answer):
     path = answer.parts["path"]
     model = model_of(bundle.design, [path])
     offset = model.places.get(path.lower(), 0) if model else 0
-    what = f"the step code of {path} would have {int(answer.parts['number']):,} instructions, and 4,096 are the most"
+    what = f"the step code of {path} would have {int(answer.parts['number']):,} instructions, and the maximum is 4,096"
     show(bundle, bundle.place(offset), what,
          "split its transitions over several threads, or its work over several steps",
          "see docs/step_code.md", rule="code")

@@ -37,10 +37,10 @@ def explain(bundle, text, command, passes=True, strict=False):
     if found.kind == "empty" and command not in MAY_BE_EMPTY:
         raise Refused("an empty answer: nothing was checked; was the program given the bundle, and did it run?")
     if found.kind is None and divider_at(text.encode("utf-8", "replace")):
-        raise Refused("this is a bundle, and no answer: nothing was checked; hand it to ./pals first")
+        raise Refused("this is a bundle, not an answer: nothing was checked; pass it to ./pals first")
     if found.kind is None:
         first = found.lines[0] if found.lines else ""
-        raise Refused(f"this is no answer of the program: nothing was checked; it begins with: {visible(first[:60])}")
+        raise Refused(f"not an answer of the program: nothing was checked; it begins with: {visible(first[:60])}")
     if passes and found.kind in PASSED:
         sys.stdout.write(text if text.endswith("\n") else text + "\n")
     if found.kind in SHOW:

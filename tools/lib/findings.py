@@ -11,8 +11,8 @@ from .words import BEHAVIOUR
 ADAPTORS = ("repeat", "first", "last", "latest", "max", "min", "average", "at 1")
 TYPES = {"base_types::integer": "Integer", "base_types::boolean": "Boolean"}
 WHOLE_TYPES = ("integer", "int", "natural", "unsigned", "long", "short")
-TYPE_RULE = ("arithmetic and `<` take Integers, `and`, `or` and `not` Booleans, `=` and `!=` the same on both sides, "
-             "and what is set or sent has the type of its variable or port")
+TYPE_RULE = ("arithmetic and `<` require Integers, `and`, `or`, `not` Booleans, `=` and `!=` one type on both sides, "
+             "and a set or sent value has the type of its variable or port")
 
 
 class Findings:
@@ -77,10 +77,10 @@ class Findings:
         elif last.startswith(WHOLE_TYPES):
             likely = "Base_Types::Integer is likely meant"
         elif last.startswith(("float", "real", "double")):
-            likely = "numbers are whole here: take Base_Types::Integer, and count in smaller units, as tenths"
+            likely = "numbers are whole here: use Base_Types::Integer, and count in smaller units, as tenths"
         else:
             likely = ""
-        return [f"{named.ref.text} is no type here: Base_Types::Integer and Base_Types::Boolean are", likely]
+        return [f"{named.ref.text} is not a type here: use Base_Types::Integer or Base_Types::Boolean", likely]
 
     def type_of_end(self, impl, end):
         """Integer or Boolean, or None where it is neither."""
@@ -107,10 +107,10 @@ class Findings:
         wire, _ = self.wire_at(offset)
         value = property_of(wire.props, "Timing") if wire else None
         if value is not None:
-            return [f"the link to {details[0]} has Timing => {value.text}, and only Delayed is allowed: what is sent "
+            return [f"the link to {details[0]} has Timing => {value.text}, and only Delayed is allowed: a message "
                     f"is read in the next round",
                     "write `Timing => Delayed;`"]
-        return [f"the link to {details[0]} lacks its Timing", "write `{Timing => Delayed;}` behind the connection"]
+        return [f"the link to {details[0]} lacks its Timing", "write `{Timing => Delayed;}` after the connection"]
 
     def rates(self, link):
         """The rates of the two ends of a link, and how many steps its source sends."""
@@ -133,7 +133,7 @@ class Findings:
         less = f" (it sends {sent} of them, so that \"last\" would read nothing)" if high > low and sent < high else ""
         return [f"the link to {details[0]} joins a rate of {high} with one of {low}, and has no "
                 f"PALS_Profile::Input_Adaptor{less}",
-                f"write `PALS_Profile::Input_Adaptor => {texts[0]};` beside `Timing => Delayed;`; there are "
+                f"write `PALS_Profile::Input_Adaptor => {texts[0]};` next to `Timing => Delayed;`; there are "
                 f"{', '.join(texts)} and \"at n\" as well"]
 
     def adaptor(self, offset, details):
@@ -144,7 +144,7 @@ class Findings:
         rates = self.rates(details[0])
         at = re.fullmatch(r"at ([1-9][0-9]{0,3})", text)
         if text not in ADAPTORS and not at:
-            return [f'"{text}" is no adaptor', meant(text, ADAPTORS),
+            return [f'"{text}" is not an adaptor', meant(text, ADAPTORS),
                     'adaptors are "repeat", "first", "last", "latest", "max", "min", "average" and "at n"']
         if rates is None:
             return []
@@ -156,7 +156,7 @@ class Findings:
             return [f'"repeat" is for a link to a higher rate, and this one goes from {high} steps a round to {low}',
                     '"latest" is likely meant']
         if at and int(at[1]) > max(high, low) // min(high, low):
-            return [f'"{text}" is out of its range: there are {max(high, low) // min(high, low)} places, counted from '
+            return [f'"{text}" is out of range: there are {max(high, low) // min(high, low)} places, counted from '
                     f'1']
         return [f'"{text}" is for Integers, and this link has Booleans']
 
@@ -165,15 +165,15 @@ class Findings:
         """A period below the bound."""
         if len(details) < 2:
             return []
-        return [f"the period, {in_ms(details[0])}, is below the least that the bound allows, {in_ms(details[1])}",
-                f"take {in_ms(details[1])} or more, and a multiple of every component's period"]
+        return [f"the period, {in_ms(details[0])}, is below the minimum that the bound allows, {in_ms(details[1])}",
+                f"use {in_ms(details[1])} or more, and a multiple of every component's period"]
 
     @staticmethod
     def order(_offset, details):
         """Ends of a range that stand the wrong way round, or a skew of 0."""
         if details == ["Skew"]:
             return ["the skew is 0", "a skew is at least 1 ns: clocks differ by less than it"]
-        return [f"the lower end of {details[0]} is above its upper end", "put the lesser end first"]
+        return [f"the lower end of {details[0]} is above its upper end", "write the smaller end first"]
 
     def initial(self, offset, _details):
         """No initial state, or no behaviour at all."""
@@ -184,7 +184,7 @@ class Findings:
         if behaviour is None:
             others = [annex.name.text for annex in impl.annexes]
             if others:
-                return [f"{name} has no behaviour: its annex {others[0]} is passed over unread",
+                return [f"{name} has no behaviour: its annex {others[0]} is skipped unread",
                         f"{BEHAVIOUR} is likely meant"]
             return [f"{name} has no behaviour annex",
                     f"write `annex {BEHAVIOUR} {{** states s: initial complete state; ..  **}};` in it"]
@@ -194,7 +194,7 @@ class Findings:
         if not initial:
             return ["no state is initial", f"write `{behaviour.states[0].name.text}: initial complete state;`"]
         if len(initial) > 1:
-            return [f"{', '.join(initial)} are initial, and one may be", "take `initial` from the others"]
+            return [f"{', '.join(initial)} are initial, and one may be", "remove `initial` from the others"]
         return [f"the initial state {initial[0]} is not complete: a step begins and ends in complete states",
                 f"write `{initial[0]}: initial complete state;`"]
 
@@ -210,11 +210,11 @@ class Findings:
         count = sum(it.guard == "dispatch" for it in own)
         if state and not state.complete:
             return [f"{name} is not complete, and has a transition on dispatch: a step only begins in a complete "
-                    f"state", f"write `{name}: complete state;`, or take `on dispatch` away"]
+                    f"state", f"write `{name}: complete state;`, or remove `on dispatch`"]
         if count:
-            return [f"{count} transitions on dispatch leave {name}, and one may: what they differ in has to be looked "
-                    f"at in a state that is not complete"]
-        return [f"no transition on dispatch leaves the complete state {name}: a step that begins there could not go on",
+            return [f"{count} transitions on dispatch leave {name}, and one may: put their conditions into a state "
+                    f"that is not complete"]
+        return [f"no transition on dispatch leaves the complete state {name}: a step that begins there would block",
                 f"write `{name} -[on dispatch]-> ..;`" + (", and its conditions in a state that is not complete" if own
                                                           else "")]
 
@@ -227,10 +227,10 @@ class Findings:
         name = details[0]
         own = [it for it in behaviour.transitions if it.source.text.lower() == name.lower()]
         if not own:
-            return [f"no transition leaves {name}, and it is not complete: a step would get stuck there",
+            return [f"no transition leaves {name}, and it is not complete: a step would block there",
                     f"write `{name} -[otherwise]-> ..;`, or make it complete"]
         if any(it.guard == "otherwise" for it in own[:-1]):
-            return [f"behind the `otherwise` of {name} stand further transitions, which are never taken",
+            return [f"after the `otherwise` of {name} there are further transitions, which are never taken",
                     "move `otherwise` to the end"]
-        return [f"no condition of {name} need be true: a step would get stuck there",
+        return [f"no condition of {name} need be true: a step would block there",
                 f"end its transitions with `{name} -[otherwise]-> ..;`"]

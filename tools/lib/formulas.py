@@ -17,12 +17,12 @@ SHAPES = {
 TOO_MANY, TOO_DEEP = 1_000, 64
 # What words of other logics are here.
 OTHERS = {
-    **dict.fromkeys(("always", "globally", "G", "never"), '"historically" says that something has been true up to now'),
+    **dict.fromkeys(("always", "globally", "G", "never"), '"historically" means: in every round up to now'),
     **dict.fromkeys(("eventually", "finally", "F", "ever"),
-                    '"once" says that something has been true some time up to now'),
-    **dict.fromkeys(("implies", "=>", "->", "imp"), 'A only where B is ["or", ["not", A], B]'),
-    **dict.fromkeys(("next", "X", "until", "U"), "a formula speaks of rounds before, and not of those to come"),
-    **dict.fromkeys(("!", "~"), '["not", A] denies A'),
+                    '"once" means: in some round up to now'),
+    **dict.fromkeys(("implies", "=>", "->", "imp"), 'A only if B is ["or", ["not", A], B]'),
+    **dict.fromkeys(("next", "X", "until", "U"), "a formula refers to earlier rounds, not to later ones"),
+    **dict.fromkeys(("!", "~"), '["not", A] negates A'),
 }
 COMPARES = {"==": "=", "<>": "!=", "=<": "<=", "=>": ">=", "eq": "=", "ne": "!=", "lt": "<", "gt": ">"}
 
@@ -68,7 +68,7 @@ def wrong(part, names):
         more = "or" if word == "or" else "and"
         join = f'; of three write ["{more}", A, ["{more}", B, C]]' if word in ("and",
                                                                                "or") and len(part.parts) > 3 else ""
-        return part.offset, [f'"{word}" has {PARTS[word] - 1} parts behind it, and here are {len(part.parts) - 1}',
+        return part.offset, [f'"{word}" has {PARTS[word] - 1} parts after it, and here are {len(part.parts) - 1}',
                              f"it is written {SHAPES[word]}{join}"]
     return wrong_node(part, word, names) if word in ("var", "halted") else None
 
@@ -77,14 +77,15 @@ def wrong_node(part, word, names):
     """What is wrong with the path, the variable or the comparison of a formula."""
     path = text_of(part.parts[1])
     if path is None:
-        return part.parts[1].offset, [f"a path stands here, as {SHAPES[word]}"]
+        return part.parts[1].offset, [f"expected a path, as {SHAPES[word]}"]
     if word == "var":
         compare, number = text_of(part.parts[3]), part.parts[4]
         if text_of(part.parts[2]) is None:
-            return part.parts[2].offset, ["the name of a variable stands here"]
+            return part.parts[2].offset, ["expected the name of a variable"]
         if compare not in COMPARING:
             near = f'"{COMPARES[compare]}" is likely meant' if compare in COMPARES else ""
-            return part.parts[3].offset, [f"{compare or 'this'} compares nothing", near, f"{choice(COMPARING)} do"]
+            return part.parts[3].offset, [f"{compare or 'this'} is not a comparison", near,
+                                          f"comparisons: {choice(COMPARING)}"]
         if number.kind != "other" or not WHOLE.fullmatch(number.parts) or number.parts == "-0":
             return number.offset, [why_number(number)]
         if not -(2**63) <= (int(number.parts) if len(number.parts) < 25 else 2**63) < 2**63:
@@ -104,7 +105,7 @@ def wrong_node(part, word, names):
 def why_number(value):
     """Why a value is no number that a variable is compared with."""
     if value.kind == "other" and value.parts in ("true", "false"):
-        return f"a number stands here: {1 if value.parts == 'true' else 0} is {value.parts}"
+        return f"expected a number: {1 if value.parts == 'true' else 0} is {value.parts}"
     if value.kind == "other" and re.fullmatch(r"-?[0-9.eE+-]+", value.parts):
-        return "a whole number stands here, without a point and without an exponent"
-    return "a whole number stands here; a variable is compared with no other variable"
+        return "expected a whole number, without a point and without an exponent"
+    return "expected a whole number; a variable is not compared with another variable"

@@ -114,7 +114,7 @@ def add_bounds(design, threads):
         if execution:
             root.props.append(f"PALS_Profile::Execution => {time(execution[0])} .. {time(execution[1])};")
             what = f"is given PALS_Profile::Execution, {in_ms(execution[0])} to {in_ms(execution[1])}"
-            mend = "so all threads' Compute_Execution_Time say"
+            mend = "by the Compute_Execution_Time of all threads"
         else:
             what = "has no PALS_Profile::Execution, nor have all threads a Compute_Execution_Time"
             mend = "write how long a step takes: PALS_Profile::Execution => 0 ms .. 3 ms;"
@@ -132,9 +132,9 @@ def scenario_of(design, threads):
     scenario = {"rounds": 10}
     if found and unbound:
         design.told.add(place, f"no processor is bound to {', '.join(unbound[:6])}",
-                        "each component stands on one: add them to processors in the scenario")
+                        "each component is on one: add them to processors in the scenario")
     if found:
-        design.told.add(place, "how long a processor takes for an instruction is not told; the scenario has 1000 ns",
-                        "write nanos for each processor, or leave processors out")
+        design.told.add(place, "the time of an instruction is not given; the scenario has 1000 ns",
+                        "write nanos for each processor, or omit processors")
         scenario["processors"] = {name: {"nanos": 1000, "components": paths} for name, paths in sorted(found.items())}
     return scenario

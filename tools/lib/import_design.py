@@ -75,11 +75,11 @@ class Design:
             elif part.category in ("device", "process", "system"):
                 kind = part.category if part.category == "device" else f"{part.category} without threads"
                 self.told.add(place, f"{part.name} is a {kind}: its ports become ports of the root",
-                              "what comes from it stands in the inputs of a scenario")
+                              "its values are in the inputs of a scenario")
                 outside[part.name.lower()] = (part, below)
             else:
-                self.told.add(place, f"the {part.category} {part.name} is left out",
-                              CATEGORIES.get(part.category, "no file has what it is of"))
+                self.told.add(place, f"the {part.category} {part.name} is omitted",
+                              CATEGORIES.get(part.category, "no file has its declaration"))
         return kept, outside
 
     def has_threads(self, impl, part):
@@ -136,11 +136,11 @@ class Design:
                     ends.append(end if not dot and end.lower() in self.types[kind.name].ports else None)
             if None in ends:
                 lost = (link.source, link.target)[ends.index(None)]
-                self.told.add((link.file, link.offset), f"the connection {link.name} is left out with {lost}",
+                self.told.add((link.file, link.offset), f"the connection {link.name} is omitted with {lost}",
                               "see there what to write, and join it again")
                 continue
             if not any("." in end for end in ends):
-                self.told.add((link.file, link.offset), f"the connection {link.name} joins no thread, and is left out")
+                self.told.add((link.file, link.offset), f"the connection {link.name} joins no thread, and is omitted")
                 continue
             made.links.append((link.name, *ends, self.link_props(made, link, from_device)))
 
@@ -149,8 +149,8 @@ class Design:
         found = []
         for prop in self.props_of(made, link):
             if from_device and prop.name.lower() == "timing":
-                self.told.add((prop.file, prop.offset), f"the Timing of {link.name} is left out",
-                              "a device is outside of the design, where nothing is delayed by a round")
+                self.told.add((prop.file, prop.offset), f"the Timing of {link.name} is omitted",
+                              "a device is outside the design, and its messages have no delay")
             else:
                 found.append(prop)
         return found
@@ -171,7 +171,7 @@ class Design:
             elif prop.name.lower() not in MEANT | READ:
                 own.append(prop)
             elif prop.name.lower() in MEANT and not all(path.lower() in parts for path in prop.applies):
-                applied = f"{prop.name} applies to {', '.join(prop.applies)}, and is left out"
+                applied = f"{prop.name} applies to {', '.join(prop.applies)}, and is omitted"
                 self.told.add((prop.file, prop.offset), applied, "give it at the component or the connection itself")
         return self.meant_of(own, name)
 
@@ -179,8 +179,8 @@ class Design:
         """Those of some properties that mean something."""
         for prop in props:
             if prop.name.lower() not in MEANT | READ:
-                self.told.add((prop.file, prop.offset), f"the property {prop.name} of {name} means nothing here",
-                              "it is left out")
+                self.told.add((prop.file, prop.offset), f"the property {prop.name} of {name} has no meaning here",
+                              "it is omitted")
         return [prop for prop in props if prop.name.lower() in MEANT]
 
     def props_of(self, made, part):

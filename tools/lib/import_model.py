@@ -16,30 +16,30 @@ Link = namedtuple("Link", "name source target props file offset")
 KEPT = {"system", "process", "thread"}
 # Sections and categories that the language lacks, with what to write in their place.
 SECTIONS = {
-    "flows": "rounds have no use for them: nothing is to be written",
+    "flows": "rounds do not use them: write nothing",
     "modes": "write modes as states of a behaviour",
     "requires modes": "write modes as states of a behaviour",
     "prototypes": "write the component that is meant in their place",
-    "calls": "write what is called into the behaviour",
+    "calls": "write the called subprogram into the behaviour",
     "internal features": "write them as states and variables of a behaviour",
     "processor features": "nothing of a processor is seen by a thread",
 }
 FEATURES = {
     "event port": "it carries no value: write an in or out data port of Base_Types::Boolean",
     "in out port": "write one in port and one out port",
-    "bus access": "what a bus does to messages is PALS_Profile::Network at the root",
+    "bus access": "the effect of a bus on messages is PALS_Profile::Network at the root",
     "data access": "no data is shared: send it through ports",
-    "subprogram access": "write what is called into the behaviour",
+    "subprogram access": "write the called subprogram into the behaviour",
     "feature group": "write its ports one by one",
     "parameter": "subprograms are not there",
     "feature": "write the port that is meant",
 }
 CATEGORIES = {
-    "processor": "processors stand in the scenario", "virtual processor": "processors stand in the scenario",
-    "bus": "what it does to messages is PALS_Profile::Network at the root",
-    "virtual bus": "what it does to messages is PALS_Profile::Network at the root",
-    "memory": "memory is not looked at", "data": "no data is shared: write a variable of a behaviour",
-    "subprogram": "write what it does into the behaviour", "subprogram group": "write what it does into the behaviour",
+    "processor": "processors are in the scenario", "virtual processor": "processors are in the scenario",
+    "bus": "its effect on messages is PALS_Profile::Network at the root",
+    "virtual bus": "its effect on messages is PALS_Profile::Network at the root",
+    "memory": "memory has no meaning here", "data": "no data is shared: write a variable of a behaviour",
+    "subprogram": "write its effect into the behaviour", "subprogram group": "write its effect into the behaviour",
     "abstract": "write the system, process or thread that is meant",
 }
 WHOLE_NUMBERS = {"integer", "natural"} | {f"{kind}_{size}" for kind in ("integer", "unsigned")
@@ -64,7 +64,7 @@ def kind_of(rest, directions):
 
 def no_declaration(item):
     """A declaration that has no form."""
-    return Refused(f"{item.file.place(item.tokens[0].offset)}: this is no declaration that can be read")
+    return Refused(f"{item.file.place(item.tokens[0].offset)}: unknown form of declaration")
 
 
 class Told:
@@ -130,7 +130,7 @@ class Library:
             for name, words in SECTIONS.items():
                 if one.sections.get(name):
                     place = one.file, one.sections[name][0].tokens[0].offset
-                    self.told.add(place, f"the {name} of {one.name} are left out", words)
+                    self.told.add(place, f"the {name} of {one.name} are omitted", words)
             for item in one.sections.get(section, []):
                 if len(item.tokens) < 3 or word_of(item.tokens[1]) != ":":
                     raise no_declaration(item)
@@ -153,11 +153,11 @@ class Library:
         directions = [rest.pop(0) for _ in range(2) if rest and rest[0] in ("in", "out")]
         kind = kind_of(rest, directions)
         if kind in FEATURES:
-            self.told.add(place, f"{name} is no data port ({kind}), and is left out", FEATURES[kind])
+            self.told.add(place, f"{name} is not a data port ({kind}), and is omitted", FEATURES[kind])
             return None
         if rest[0] == "event":
             self.told.add(place, f"{name} is an event data port, and is taken as a data port",
-                          f"a step has one value of it at most; {name}'fresh tells whether one has come")
+                          f"a step has at most one value of it; {name}'fresh is true if one has arrived")
         if "[" in words:
             self.told.add(place, f"{name} is an array of ports, and is taken as one", "write its ports one by one")
         type_name = self.data_type(reference_in(item, "port"), component.package, place, name)
@@ -167,8 +167,8 @@ class Library:
         """The type of the language for a data type; None where there is none."""
         found = self.basic(ref, package) if ref else None
         if not found:
-            self.told.add(place, f"the type of {name}, {ref or 'none'}, is none of the language; {name} is left out",
-                          "take Base_Types::Integer in units that are small enough, or Base_Types::Boolean")
+            self.told.add(place, f"the type of {name}, {ref or 'none'}, is not in the language; {name} is omitted",
+                          "use Base_Types::Integer in units that are small enough, or Base_Types::Boolean")
         return found
 
     def basic(self, ref, package):
@@ -218,7 +218,7 @@ class Library:
         if "<->" in "".join(words) or "->" not in rest or rest[0] != "port":
             mend = {"bus": FEATURES["bus access"], "data": FEATURES["data access"]}.get(rest[0] if rest else "",
                                                                                         "write one -> for each way")
-            self.told.add(place, f"the connection {name} joins no ports in one direction, and is left out", mend)
+            self.told.add(place, f"the connection {name} does not join ports in one direction, and is omitted", mend)
             return None
         arrow = words.index("->")
         source = "".join(word_of(token) for token in item.tokens[len(words) - len(rest) + 1 : arrow])
@@ -226,7 +226,7 @@ class Library:
         if target is None:
             raise no_declaration(item)
         if source.count(".") > 1 or target.count(".") > 1:
-            self.told.add(place, f"the connection {name} goes into a feature group, and is left out",
+            self.told.add(place, f"the connection {name} leads into a feature group, and is omitted",
                           FEATURES["feature group"])
             return None
         return Link(name, source, target, self.braces(item), *place)

@@ -149,7 +149,7 @@ def from_events(scenario, answer):
         if refused:
             replay.refuse(events[int(refused[1])], refused)
     except (ValueError, IndexError) as error:
-        raise Refused("the answer is not of this bundle") from error
+        raise Refused("the answer does not belong to this bundle") from error
     replay.run.lanes = lanes_of(answer.split("\n") if not refused else [], replay.run.events)
     return replay.run
 
@@ -222,12 +222,12 @@ class Replay:
 
     def refuse(self, event, words):
         """Ends the run at an event that is refused."""
-        form, details = sentences.EVENT_FAULTS.get(words[2], "the event is refused"), words[3:]
+        form, details = sentences.EVENT_FAULTS.get(words[2], "the event is rejected"), words[3:]
         form = form[len(details) == 3] if isinstance(form, tuple) else form
         about_link = words[2] in ("PastDeadline", "TooSoon") and len(details) == 3
         number = int(details[1]) if about_link else None
         at = self.now if self.run.axis == "time" else int(words[1]) + 1
         at = int(details[-1]) if words[2] == "PastDeadline" else at
         what = None if words[2] == "TimeBack" or not details else details[0]
-        text = f"event {words[1]} ({event[0]}) is refused: {sentences.sentence(form, details)}"
+        text = f"event {words[1]} ({event[0]}) is rejected: {sentences.sentence(form, details)}"
         self.run.end = End(at, what, number, text, about_link)

@@ -14,11 +14,11 @@ def why_no_json(bundle):
     """Where a scenario is no JSON, as well as can be told, and why."""
     data = bundle.scenario
     if data.startswith(BYTE_ORDER_MARK):
-        return bundle.scenario_start, "a byte order mark stands before the scenario: take it off, as tools/bundle does"
+        return bundle.scenario_start, "the scenario begins with a byte order mark: remove it, as tools/bundle does"
     try:
         data.decode("utf-8")
     except UnicodeDecodeError as error:
-        return bundle.scenario_start + error.start, "this byte is no UTF-8"
+        return bundle.scenario_start + error.start, "this byte is not UTF-8"
     text, start = text_and_start(bundle)
     deep = first_too_deep(text)
     if deep is not None:
@@ -29,8 +29,8 @@ def why_no_json(bundle):
         at, why = likely(text, error)
         return start(at), why
     except Odd as odd:
-        return start(max(text.find(odd.word), 0)), f"{odd.word} is no number that can be read"
-    return bundle.scenario_start, "the scenario is no JSON that can be read"
+        return start(max(text.find(odd.word), 0)), f"{odd.word} is not a number of JSON"
+    return bundle.scenario_start, "the scenario is not valid JSON"
 
 
 def likely(text, error):
@@ -41,26 +41,26 @@ def likely(text, error):
     if not text.strip():
         return at, 'the scenario is empty: it is one JSON object, as {"rounds": 3}'
     if here in ("]", "}") and before.endswith(","):
-        return last, "a comma stands before a closing bracket: take it out"
+        return last, "a comma precedes a closing bracket: remove it"
     if before.endswith(",") and "Expecting property name" in error.msg and here in ("}", ""):
-        return last, "a comma stands before a closing bracket: take it out"
+        return last, "a comma precedes a closing bracket: remove it"
     if here == "'":
-        return at, 'a text stands in double quotes: "p.a"'
+        return at, 'a string is in double quotes: "p.a"'
     if text.startswith(("//", "/*", "#"), at):
-        return at, "JSON has no comments: take it out"
+        return at, "JSON has no comments: remove it"
     word = re.match(r"[A-Za-z_][\w.]*", text[at:])
     if word and word[0] in SPELLED:
         return at, f"write {SPELLED[word[0]]} for {word[0]}"
     if word:
-        return at, f'{word[0]} stands without quotes: write "{word[0]}"'
+        return at, f'{word[0]} has no quotes: write "{word[0]}"'
     if "delimiter" in error.msg and here in ('"', "[", "{") or ("delimiter" in error.msg and here.isdigit()):
         what = "colon" if "':'" in error.msg else "comma"
-        return max(last, 0), f"a {what} is missing behind this"
+        return max(last, 0), f"a {what} is missing after this"
     if "Extra data" in error.msg:
-        return at, "the scenario has ended before this: it is one JSON object, and nothing stands behind it"
+        return at, "the scenario has ended before this: it is one JSON object, and nothing follows it"
     if at >= len(text.rstrip()):
-        return at, "the scenario ends too soon: a closing bracket or quote is missing"
-    return at, f"the scenario is no JSON: {error.msg}"
+        return at, "the scenario ends too early: a closing bracket or quote is missing"
+    return at, f"the scenario is not valid JSON: {error.msg}"
 
 
 class Odd(Exception):

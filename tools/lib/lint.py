@@ -9,25 +9,25 @@ from .properties import ignored
 # Each rule, and what it finds.
 RULES = {
     "dead-link": "a link whose adaptor reads steps that are never sent",
-    "thin-adaptor": "an adaptor that has fewer values than it seems to have, as a step of its source is not sent",
-    "unsent-steps": "a component that sends fewer steps than it makes",
-    "no-source": "a port that nothing comes into",
+    "thin-adaptor": "an adaptor over fewer values than it suggests, since a step of its source is not sent",
+    "unsent-steps": "a component that sends fewer steps than it executes",
+    "no-source": "a port without a source",
     "no-input": "a root in port for which the scenario has no value",
     "shared-input": "a root in port that several components read",
-    "unread-port": "a port that nothing takes, or that no step reads",
+    "unread-port": "a port without a reader, or that no step reads",
     "unset-port": "an out port that no step sends on",
     "unread-variable": "a variable that no step reads, and no property of the scenario",
     "unset-variable": "a variable that no step sets",
-    "unreached-state": "a state that no way leads to",
+    "unreached-state": "a state that no path leads to",
     "untaken-transition": "a transition that is never taken",
     "zero-divisor": "a divisor that may be 0 when it is first used",
     "constant-condition": "a condition that is always true or always false",
     "shadowed-transition": "a transition that is never taken, as an earlier guard is true whenever its own is",
     "shadowed-branch": "a branch that is never taken, as an earlier condition is true whenever its own is",
     "partial-output": "an out port that some paths through a step do not set, read as if each step set it",
-    "mixed-operators": "`and`, `or` and `xor` beside each other without brackets",
-    "misspelt-property": "a property that means nothing, and is near to one that does",
-    "ignored-property": "a property that means nothing where it stands",
+    "mixed-operators": "`and`, `or` and `xor` mixed without parentheses",
+    "misspelt-property": "a property without a meaning that resembles one with a meaning",
+    "ignored-property": "a property without a meaning at its place",
 }
 
 

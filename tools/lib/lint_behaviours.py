@@ -54,7 +54,7 @@ def variables(threads, behaviour, uses, watched):
         seen = any((thread.path.lower(), name.lower()) in watched for thread in threads)
         if name.lower() not in uses.read and not seen:
             yield Found("unread-variable", name, variable.name.offset, f"the variable {name} is never read",
-                        "it stands in the rows and does nothing else: use it, or take it out")
+                        "it appears only in the rows: use it, or remove it")
         if name.lower() not in uses.set:
             keeps = "keeps its first value" if variable.props else "stays 0 or false"
             yield Found("unset-variable", name, variable.name.offset, f"the variable {name} is never set: it {keeps}",
@@ -67,11 +67,11 @@ def ports(all_uses):
     name = port.name.text
     if port.direction == "in" and not any(name.lower() in uses.read for *_, uses in all_uses):
         yield Found("unread-port", name, port.name.offset, f"no step of {kind} reads its in port {name}",
-                    "use it, or take the port out")
+                    "use it, or remove the port")
     if port.direction == "out" and not any(name.lower() in uses.set for *_, uses in all_uses):
         yield Found("unset-port", name, port.name.offset,
                     f"no step of {kind} sends on its out port {name}: it is always absent",
-                    f"send on it, as {name}!(..), or take the port out")
+                    f"send on it, as {name}!(..), or remove the port")
 
 
 def states(behaviour):
@@ -89,8 +89,8 @@ def states(behaviour):
     for name, state in kinds.items():
         if name not in reached:
             yield Found("unreached-state", state.name.text, state.name.offset,
-                        f"no way leads to the state {state.name.text}",
-                        "lead a transition to it, or take it out")
+                        f"no path leads to the state {state.name.text}",
+                        "lead a transition to it, or remove it")
             continue
         for transition in behaviour.transitions:
             if transition.source.text.lower() == name and transition not in taken[name]:
@@ -98,7 +98,7 @@ def states(behaviour):
                        else "the one before it is always taken")
                 yield Found("untaken-transition", state.name.text, transition.offset,
                             f"this transition of {state.name.text} is never taken: {why}",
-                            "take it out, or give what stands before it a guard")
+                            "remove it, or give the transition before it a guard")
 
 
 def takeable(behaviour, state):
@@ -120,7 +120,7 @@ def operators(behaviour):
                     yield Found("mixed-operators", chain.words[0], chain.offset,
                                 f"`{plain}` is read from the left, as `{read}`: all logical operators have one "
                                 f"precedence",
-                                "put brackets round what belongs together")
+                                "add parentheses")
 
 
 def patterns(words):

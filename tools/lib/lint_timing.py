@@ -70,7 +70,7 @@ def link(name, came, rates):
     sends = f"{came.thread.path} sends {sent} of its {high} steps"
     silent = sum(not it for it in heard)
     if silent == low:
-        return "dead-link", f'the link to {name} is dead for ever: {sends}, and "{came.adaptor}" reads none of them'
+        return "dead-link", f'the link to {name} is dead: {sends}, and "{came.adaptor}" reads none of them'
     if silent:
         return "thin-adaptor", f"nothing ever comes to {name} in {silent} of its {low} steps a round: {sends}"
     if any(len(it) < len(read) for it in heard):
@@ -103,13 +103,13 @@ def sources(model):
             value = "false" if port.ref and port.ref.text.lower() == "base_types::boolean" else "0"
             yield Found(
                 "no-source", name, thread.part.name.offset,
-                f"nothing comes into {name}: it holds {value} for ever", "connect it, or take the port out of its type",
+                f"{name} has no source: it always holds {value}", "connect it, or remove the port from its type",
             )
     for port in model.root_ports("out"):
         if model.came_from(port.name.text) is None:
             yield Found("no-source", port.name.text, port.name.offset,
-                        f"nothing comes into the root's out port {port.name.text}",
-                        "connect it, or take it out")
+                        f"the root's out port {port.name.text} has no source",
+                        "connect it, or remove it")
 
 
 def takers(model):
@@ -122,7 +122,7 @@ def takers(model):
     for offset, thread in by_type.items():
         for port in ports_of(thread, "out"):
             if (offset, port.name.text.lower()) not in taken:
-                yield unread(port, f"nothing takes what a {thread.type.name.text} sends on {port.name.text}")
+                yield unread(port, f"nothing reads the messages of {thread.type.name.text} on {port.name.text}")
     heard = {found.port for found in came if not found.thread}
     for port in model.root_ports("in"):
         if port.name.text.lower() not in heard:
@@ -131,7 +131,7 @@ def takers(model):
 
 def unread(port, what):
     """A port that nothing takes."""
-    return Found("unread-port", port.name.text, port.name.offset, what, "connect it, or take the port out")
+    return Found("unread-port", port.name.text, port.name.offset, what, "connect it, or remove the port")
 
 
 def inputs(model, scenario):

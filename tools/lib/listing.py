@@ -1,4 +1,4 @@
-"""Reads listings: the step code of a design as text, whose form is in docs/listing.md."""
+"""Reads listings: the step code of a design as text, whose form is in docs/step_code.md."""
 
 import re
 from collections import namedtuple
@@ -82,7 +82,7 @@ class Lines:
         """The words of each line that begins so, up to the first that does not."""
         for words in iter(lambda: self.next(start), None):
             if counts and len(words) not in counts:
-                self.refuse(f"it has {len(words)} words behind `{start.strip()}`")
+                self.refuse(f"it has {len(words)} words after `{start.strip()}`")
             yield words
 
     def take(self, start, count=1):
@@ -90,31 +90,31 @@ class Lines:
         words = self.next(start)
         if words is None or len(words) != count:
             self.at += words is None
-            self.refuse(f"here a line `{start.strip()}` with {count} more words is wanted")
+            self.refuse(f"expected a line `{start.strip()}` with {count} more words")
         return words
 
     def number(self, word, low, high):
         """A number in its one spelling."""
         if not NUMBER.fullmatch(word) or not low <= int(word) <= high:
-            self.refuse(f"`{word[:40]}` is no number from {low} to {high}")
+            self.refuse(f"`{word[:40]}` is not a number from {low} to {high}")
         return int(word)
 
     def name(self, word):
         """A name."""
         if not NAME.fullmatch(word):
-            self.refuse(f"`{word[:40]}` is no name")
+            self.refuse(f"`{word[:40]}` is not a name")
         return word
 
     def distinct(self, names):
         """Names of which none stands twice; upper and lower case make no difference."""
         names = [name.lower() for name in names]
         if len(set(names)) < len(names):
-            self.refuse("a name stands twice")
+            self.refuse("duplicate name")
 
     def kind(self, word):
         """A kind of values."""
         if word not in KINDS:
-            self.refuse(f"`{word[:40]}` is no kind")
+            self.refuse(f"`{word[:40]}` is not a type")
         return word
 
     def one(self, start, low, high):
@@ -132,11 +132,11 @@ def read_component(lines, design):
     """A component."""
     path = lines.take("component")[0]
     if not all(map(NAME.fullmatch, path.split("."))):
-        lines.refuse(f"`{path[:40]}` is no path")
+        lines.refuse(f"`{path[:40]}` is not a path")
     rate = lines.one(" rate", 1, MOST_RATE)
     sent, release = lines.one(" sent", 1, MOST_RATE), lines.one(" release", 0, HOUR)
     if design.period % rate or (sent, release) != (steps_sent(design, rate), release_of(design, rate)):
-        lines.refuse("sent and release are not those that the rate and the bounds give")
+        lines.refuse("sent and release differ from the values that the rate and the bounds give")
     ins = [Port(lines.name(name), lines.kind(kind)) for name, kind in lines.all(" in", 2)]
     outs = [Port(lines.name(name), lines.kind(kind)) for name, kind in lines.all(" out", 2)]
     variables = [Variable(lines.name(name), lines.kind(kind), lines.number(first, LEAST, GREATEST))
@@ -150,7 +150,7 @@ def read_component(lines, design):
     initial = lines.take(" initial")[0]
     found = [number for number, state in enumerate(states) if state.name == initial and state.entry is not None]
     if not found:
-        lines.refuse(f"`{initial[:40]}` is no state that a step begins in")
+        lines.refuse(f"`{initial[:40]}` is not a state in which a step begins")
     most = lines.one(" most", 0, 2 * GREATEST + 1)
     made = Component(path, rate, sent, release, ins, outs, variables, loops, states, found[0], most, [])
     for place in range(lines.one(" code", 1, MOST_CODE)):
@@ -164,14 +164,14 @@ def read_state(lines, words):
         return State(lines.name(words[0]), None)
     if len(words) == 3 and words[1] == "entry":
         return State(lines.name(words[0]), lines.number(words[2], 0, MOST_CODE - 1))
-    return lines.refuse("here `passing`, or `entry` and a place are wanted")
+    return lines.refuse("expected `passing`, or `entry` and a place")
 
 
 def read_instruction(lines, component, words):
     """An instruction."""
     if words is None or words[0] not in OPERANDS:
         lines.at += words is None
-        lines.refuse("here an instruction with its place is wanted")
+        lines.refuse("expected an instruction with its place")
     counts = {"slot": len(component.variables) + component.loops, "in": len(component.ins), "out": len(component.outs),
               "state": len(component.states), "place": MOST_CODE}
     found, left = [words[0]], words[1:]
@@ -183,7 +183,7 @@ def read_instruction(lines, component, words):
         if kind not in ("number", "place"):
             name = shown(component, kind, found[-1])
             if not left or left.pop(0) != name:
-                lines.refuse(f"the name `{name}` is wanted behind {found[-1]}")
+                lines.refuse(f"expected the name `{name}` after {found[-1]}")
     if left:
         lines.refuse("it has a word too many")
     return tuple(found)
@@ -250,14 +250,14 @@ class Ends:
                 return words[0]
             if len(words) == 2 and words[0] == "at" and self.lines.number(words[1], 1, group):
                 return " ".join(words)
-        return self.lines.refuse(f"this is no adaptor from rate {source} to rate {target}")
+        return self.lines.refuse(f"this is not an adaptor from rate {source} to rate {target}")
 
 
 def read_listing(text):
     """The design that a text lists, or a refusal. Of the code only its form is looked at."""
     lines = Lines(text)
     if lines.lines[0] != FORM:
-        raise Refused(f"line 1 of the listing: `{FORM}` is wanted")
+        raise Refused(f"line 1 of the listing: expected `{FORM}`")
     lines.at = 1
     design = Listing(lines.one("period", 1, HOUR), lines.one("skew", 1, HOUR), lines.range("execution"),
                      lines.range("network"), [], [], [], [])
@@ -270,5 +270,5 @@ def read_listing(text):
     design.outputs.extend(map(ends.output, lines.all("output")))
     if lines.lines[lines.at :] != ["end", ""]:
         lines.at += 1
-        lines.refuse("`end` is wanted, and nothing behind it")
+        lines.refuse("expected `end`, and nothing after it")
     return design

@@ -15,11 +15,11 @@ def nodes_of(bundle, root):
     """The nodes of a bundle's design below the root of a name, or below the only one."""
     declared = declared_in(bundle.design)
     if declared is None:
-        raise Refused(f"{bundle.path}: no text of the language; ./pals check tells where")
+        raise Refused(f"{bundle.path}: not a text of the language; ./pals check reports the position")
     model = Model(declared, root_of(declared, root))
     rates = {thread.path: model.rate(thread) for thread in model.by_path.values()}
     if model.bounds is None or not model.period or None in rates.values():
-        raise Refused(f"{bundle.path}: its periods and bounds cannot be told; ./pals check tells why")
+        raise Refused(f"{bundle.path}: its periods and bounds are not known; ./pals check reports the reason")
     links = {f"{thread.path}.{port.name.text}": thread.path for thread, port in model.in_ports()}
     links = {link: (model.source(link), target) for link, target in links.items() if model.source(link)}
     outputs = [port.name.text for port in model.root_ports("out") if model.came_from(port.name.text)]
@@ -34,5 +34,5 @@ def scenario_of(bundle):
     except ValueError as error:
         raise Refused(f"{bundle.path}: the scenario cannot be read") from error
     if not isinstance(found, dict):
-        raise Refused(f"{bundle.path}: the scenario is no object")
+        raise Refused(f"{bundle.path}: the scenario is not an object")
     return found

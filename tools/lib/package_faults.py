@@ -12,8 +12,8 @@ SHAPES = {
     "pals_profile::network": "a range of times, as `PALS_Profile::Network => 1 ms .. 4 ms;`",
     "dispatch_protocol": "a name, as `Dispatch_Protocol => Periodic;`",
     "timing": "a name, as `Timing => Delayed;`",
-    "pals_profile::input_adaptor": 'a text in quotes, as `PALS_Profile::Input_Adaptor => "last";`',
-    "data_model::initial_value": 'a list of one text, as `Data_Model::Initial_Value => ("5");`',
+    "pals_profile::input_adaptor": 'a string in quotes, as `PALS_Profile::Input_Adaptor => "last";`',
+    "data_model::initial_value": 'a list of one string, as `Data_Model::Initial_Value => ("5");`',
 }
 CONTAINS = {"system": ("systems and processes", ("system", "process")), "process": ("threads", ("thread",)),
             "thread": ("nothing", ())}
@@ -44,7 +44,8 @@ class Reader(Undeclared):
         """A name behind `end` that differs."""
         for made in [self.package, *self.package.types, *self.package.impls]:
             if made.end.offset == offset:
-                return [f"`end {made.end.text}` ends what is called {made.name.text}", f"write `end {made.name.text};`"]
+                return [f"`end {made.end.text}` ends the declaration of {made.name.text}",
+                        f"write `end {made.name.text};`"]
         return None
 
     def wrong_impl(self, offset):
@@ -74,11 +75,11 @@ class Reader(Undeclared):
         words, allowed = CONTAINS[impl.category]
         if part.category not in allowed:
             return [f"a {impl.category} contains {words}, and {part.name.text} is a {part.category}",
-                    "a thread stands in a process, and a process in a system" if part.category == "thread" else ""]
+                    "a thread belongs in a process, and a process in a system" if part.category == "thread" else ""]
         if "." not in part.ref.text:
             known = [it.name.text for it in self.package.impls
                      if it.name.text.lower().startswith(part.ref.text.lower() + ".")]
-            return [f"{part.ref.text} names a type, and an implementation is wanted",
+            return [f"{part.ref.text} names a type; expected an implementation",
                     f"{choice(known)} is one" if known else ""]
         made = self.declared.impl_of(part.ref)
         kind = made.category if made else "another kind"
@@ -107,11 +108,11 @@ class Reader(Undeclared):
                 turned = source == ("out" if own else "in") and target == ("in" if own_too else "out")
                 whose = ["a subcomponent's", "an own"]
                 if source == ("out" if own else "in"):
-                    what = f"{wire.source.text} is {whose[own]} {source} port, and nothing comes out of it here"
+                    what = f"{wire.source.text} is {whose[own]} {source} port, and cannot be a source here"
                 else:
-                    what = f"{wire.target.text} is {whose[own_too]} {target} port, and nothing goes into it here"
-                return [what, f"turn it round: `port {wire.target.text} -> {wire.source.text}`" if turned else
-                        "it goes from an out port of a subcomponent or an own in port, to an in port of one or an own "
+                    what = f"{wire.target.text} is {whose[own_too]} {target} port, and cannot be a target here"
+                return [what, f"reverse it: `port {wire.target.text} -> {wire.source.text}`" if turned else
+                        "it leads from an out port of a subcomponent or an own in port to an in port of one or an own "
                         "out port"]
         return None
 
@@ -125,8 +126,8 @@ class Reader(Undeclared):
         for made in [*self.package.types, *self.package.impls]:
             if any(annex.offset == offset for annex in made.annexes):
                 if made.category != "thread" or made in self.package.types:
-                    return [f"a behaviour stands in the implementation of a thread, and {made.name.text} is none"]
-                return [f"{made.name.text} has a behaviour already", "leave one of the two"]
+                    return [f"a behaviour belongs in the implementation of a thread, and {made.name.text} is not one"]
+                return [f"{made.name.text} has a behaviour already", "remove one of the two"]
         return None
 
     @staticmethod
@@ -134,16 +135,16 @@ class Reader(Undeclared):
         """What a value lacks."""
         value, name = prop.value, prop.name.text.lower()
         if name in ("pals_profile::input_adaptor", "data_model::initial_value"):
-            return "a text stands in quotes" if value.kind in ("ref", "number") else ""
+            return "write the string in quotes" if value.kind in ("ref", "number") else ""
         if name in ("dispatch_protocol", "timing"):
-            return "a name stands without quotes" if value.kind == "string" else ""
+            return "write the name without quotes" if value.kind == "string" else ""
         for end in value.parts if value.kind == "range" else [value]:
             found = why_time(end)
             if found:
                 return found
         if name in ("pals_profile::execution", "pals_profile::network"):
-            return "" if value.kind == "range" else "for one time alone write it twice, as `3 ms .. 3 ms`"
-        return "a range stands here, and one time is wanted" if value.kind == "range" else ""
+            return "" if value.kind == "range" else "for a single time write it twice, as `3 ms .. 3 ms`"
+        return "expected one time, found a range" if value.kind == "range" else ""
 
     def wrong_use(self, offset):
         """A name in a behaviour that may not be used so."""
@@ -168,16 +169,16 @@ class Reader(Undeclared):
             return [f"{name} is {kind}, and `!` sends on an out port",
                     f"to set a variable write `{name} := ..`" if kind == "no port" else ""]
         if ports.get(name.lower()) == "in":
-            return [f"{name} is an in port: it holds what comes, and cannot be set", "copy it to a variable"]
-        return [f"{name} is the variable of a loop, and cannot be set", "take another variable"]
+            return [f"{name} is an in port: it holds its inputs, and cannot be set", "copy it to a variable"]
+        return [f"{name} is the variable of a loop, and cannot be set", "use another variable"]
 
     @staticmethod
     def why_read(read, ports):
         """Why something cannot be read."""
         name = read.name.text
         if ports.get(name.lower()) == "out":
-            return [f"{name} is an out port, and cannot be read", "keep what you send in a variable, and read that"]
-        return [f"{name} is no in port: only behind one stands 'fresh"]
+            return [f"{name} is an out port, and cannot be read", "store the sent value in a variable, and read that"]
+        return [f"{name} is not an in port: only an in port has 'fresh"]
 
 
 def why_time(value):
@@ -186,13 +187,13 @@ def why_time(value):
         return ""
     kind, unit = value.parts
     if kind == "real":
-        return f"{value.text} is no whole number: take a smaller unit, as 9500 us for 9.5 ms"
+        return f"{value.text} is not a whole number: use a smaller unit, as 9500 us for 9.5 ms"
     if not unit:
         return f"{value.text} lacks its unit"
     if value.text[0] in "+-":
         return "a time has no sign"
     if unit.lower() not in UNITS:
-        return f"{unit} is no unit: ns, us, ms, sec, min and hr are" + ("; `sec` is likely meant"
+        return f"unknown unit {unit}: use ns, us, ms, sec, min or hr" + ("; `sec` is likely meant"
                                                                         if unit.lower() in ("s", "seconds",
                                                                                             "second") else "")
     return ""

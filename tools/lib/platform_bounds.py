@@ -46,7 +46,7 @@ class Bounds:
         """The node of a line."""
         path = owner(line, self.nodes)
         if path not in self.nodes.rates:
-            raise Refused(f"the trace names {line.what}, which is not in the design; pals audit tells where")
+            raise Refused(f"the trace names {line.what}, which is not in the design; pals audit reports the position")
         return path
 
     def take(self, index, line):
@@ -60,7 +60,7 @@ class Bounds:
         self.earliest[path] = max(own, sent.earliest + self.bounds.fastest) if sent else own
         if self.earliest[path] > line.reading + spread:
             return Outside(index, "fast", self.took(line, sent)) if sent and own <= line.reading + spread else \
-                Outside(index, "clock", f"the clock of {path} is behind those of the others by twice the skew or more, "
+                Outside(index, "clock", f"the clock of {path} is behind the other clocks by twice the skew or more, "
                         f"{in_ms(2 * self.bounds.skew)}")
         return self.check(index, line, path, sent)
 
@@ -93,8 +93,8 @@ class Bounds:
             return Outside(index, "late", f"{path} had not started round {line.round} when a message of this round "
                            f"arrived") if late else None
         if sent and self.earliest[path] > sent.latest + self.bounds.slowest:
-            return Outside(index, "slow", f"the message of round {line.round} to {line.what} has not come "
-                           f"{in_ms(line.reading - sent.reading)} behind its send by the two clocks: {self.declared()}")
+            return Outside(index, "slow", f"the message of round {line.round} to {line.what} has not arrived "
+                           f"{in_ms(line.reading - sent.reading)} after its send by the two clocks: {self.declared()}")
         if self.earliest[path] > self.alarm(line.round + 1) + self.bounds.skew - 1:
             return Outside(index, "late", f"{path} looks late for the message of round {line.round}")
         return None
@@ -139,7 +139,7 @@ def journal_of(trace):
         if line:
             yield index, line
         elif begun:
-            raise Refused(f"line {index} of the trace is none of a journal; pals audit tells why")
+            raise Refused(f"line {index} of the trace is not a journal line; pals audit reports the reason")
 
 
 def lines_of_trace(trace, design, nodes):

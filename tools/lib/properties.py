@@ -71,12 +71,12 @@ def why_ignored(name, applies=False):
     """Why a property means nothing."""
     known = {it.lower(): it for it in PLACES}.get(name.lower())
     if known and applies:
-        return f"this {known} is ignored, since it has applies to: give it at what it is for"
+        return f"this {known} is ignored, since it has applies to: write it at its component or connection"
     if known:
         return f"this {known} is ignored: it counts at {PLACES[known]}, and not here"
     if likely(name):
         return f"{name} is ignored; {likely(name)} is likely meant"
-    return f"{name} is ignored: it means nothing here"
+    return f"{name} is ignored: it has no meaning here"
 
 
 def likely(name):

@@ -15,7 +15,7 @@ def nanos_of(word):
     """The nanoseconds of a time, as 3, 1.5ms or -200us; without a unit they are nanoseconds."""
     match = TIME.fullmatch(word.strip())
     if not match:
-        raise Misused(f"{word} is no time, as 1.5ms")
+        raise Misused(f"{word} is not a time, as 1.5ms")
     unit = UNITS[{"s": "sec", None: "ns"}.get(match[3], match[3])]
     part = int((match[2] or "0").ljust(9, "0")) * unit // 10**9
     return int(match[1]) * unit + (-part if match[1].startswith("-") else part)
@@ -26,7 +26,7 @@ def time_range(word):
     first, dots, last = word.partition("..")
     ends = nanos_of(first), nanos_of(last if dots else first)
     if ends[0] > ends[1]:
-        raise Misused(f"{word} is no range: its first end is above its last")
+        raise Misused(f"{word} is not a range: its first end is above its last")
     return ends
 
 
@@ -55,7 +55,7 @@ def values_of(word):
         elif part in ("true", "false", "null", "_"):
             found.append(Single({"true": True, "false": False}.get(part)))
         else:
-            raise Misused(f"{part} is no value and no range of numbers, as 0..9 or true or null")
+            raise Misused(f"{part} is not a value or a range of numbers, as 0..9 or true or null")
         if found[-1].count < 1:
             raise Misused(f"{part} has no number: the first end is above the last")
     return Values(found)

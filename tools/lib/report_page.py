@@ -133,14 +133,14 @@ class Page:
     def report_of(self, place):
         """The report of an answer, or None where there is none."""
         try:
-            return Report(self.text_of(place) or "refused")
+            return Report(self.text_of(place) or "rejected")
         except Refused:
             return None
 
     def design(self):
         """The picture of the design, and what it is accepted with."""
         if self.model is None:
-            return [note("The text of the design is none of the language.")]
+            return [note("The design is not a text of the language.")]
         graph = Graph(self.model)
         title = f"The design of {self.study.root}"
         drawn = pane(GraphPicture(graph, title).draw(), title) if graph.boxes else ""
@@ -155,21 +155,21 @@ class Page:
         """What is wrong, or accepted and likely not meant."""
         told = self.study.told.get("check")
         accepted = told is not None and told.status == 0
-        self.chip(*(("good", "the design is accepted") if accepted else ("bad", "the design is refused") if told
+        self.chip(*(("good", "the design is accepted") if accepted else ("bad", "the design is rejected") if told
                     else ("plain", "the design was not checked")))
         found, parts = lint(self.model, self.study.scenario) if self.model and accepted else [], []
         for place, (words, status, text) in self.study.told.items():
             if status:
-                parts.append(lines(self.explained(text, place), f"What pals {' '.join(words)} says"))
+                parts.append(lines(self.explained(text, place), f"Output of pals {' '.join(words)}"))
         if self.traps:
             many = f"{len(self.traps)} components halted by traps"
             self.chip("bad", short(self.traps[0][1]) if len(self.traps) == 1 else many)
             parts.append(lines(self.said(lambda: [show_found(self.study.bundle, it) for it, _ in self.traps]), "Traps"))
         if found:
-            self.chip("plain", f"{len(found)} likely not meant")
-            parts.append(note(f"Accepted and likely not meant: {len(found)}. docs/tools.md has the rules."))
+            self.chip("plain", f"{len(found)} suspicious")
+            parts.append(note(f"Accepted, but suspicious: {len(found)}. docs/tools.md has the rules."))
             parts.append(lines(self.said(lambda: [show_found(self.study.bundle, it) for it in found]), "Lint"))
-        return parts or [note("Nothing is refused, no component halts, and nothing is likely not meant.")]
+        return parts or [note("No errors, no halted components and no suspicious constructs.")]
 
     def said(self, work):
         """What some work writes."""
@@ -211,7 +211,7 @@ class Page:
     def rows(self):
         """The rows of the composition, and of replicas and plants where the scenario has some."""
         made = []
-        for place, words in (("sync", ""), ("vote", "With replicas"), ("fuse", "With plants that answer at once")):
+        for place, words in (("sync", ""), ("vote", "With replicas"), ("fuse", "With plants that respond at once")):
             report = self.report_of(place)
             if report and report.rows:
                 made += [f"<h3>{words}</h3>" if words else "", *self.table_of(report)]
@@ -235,7 +235,7 @@ class Page:
         told = self.study.told.get("run")
         if told is None:
             long = "sync" in self.study.told and not self.study.told["sync"].status and "check" in self.study.told
-            return [note("So long a run in threads is left out: pals run --trace makes it.")] if long else None
+            return [note("A run in threads of this length is omitted: pals run --trace prints it.")] if long else None
         try:
             drawn = run_of(told.text, self.study.bundle)
         except Refused as why:
@@ -273,8 +273,8 @@ class Page:
             status = (str(told.status), "false" if told.status else "")
             asked = f"pals {' '.join(told.words)} {self.study.root}"
             shown.append([asked, status, f"{len(told.text):,}", (ending[:120], "left")])
-        return [table(["asked", "status", "bytes", "what it ends with"], shown, "Answers"),
-                note("docs/formats.md says what each status means. Nothing is proved of this page: the answers count.")]
+        return [table(["asked", "status", "bytes", "last line"], shown, "Answers"),
+                note("docs/formats.md lists the meaning of each status. This page is not proved: the answers count.")]
 
 
 def cells_of(row):

@@ -32,7 +32,7 @@ def rounds_in(text):
         if match and int(match[1]) == len(found):
             found.append([])
         elif match or not found or not (COMPONENT.fullmatch(line) or OUT.fullmatch(line)):
-            raise Refused(f"this line is of no row, or stands in another round: {line[:60]}")
+            raise Refused(f"this line belongs to no row, or to another round: {line[:60]}")
         else:
             found[-1].append(line)
     return found
@@ -58,7 +58,7 @@ class Report:
             if found:
                 found[0](*found[1].groups())
             elif not (parsed(line) or STOP.fullmatch(line) or WATCHED.fullmatch(line)):
-                raise Refused(f"this line is of no report: {line[:60]}")
+                raise Refused(f"this line belongs to no report: {line[:60]}")
 
     def take_round(self, number):
         """The first line of a round."""
@@ -68,7 +68,7 @@ class Report:
     def row(self):
         """The round that is read."""
         if not self.rows:
-            raise Refused("a line of a round stands before the first round")
+            raise Refused("a line of a round precedes the first round")
         return self.rows[-1]
 
     def take_component(self, path, state, values):

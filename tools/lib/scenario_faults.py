@@ -34,7 +34,7 @@ INSIDE = {
     "events": f"an event: {choice([shape for shape, _ in EVENTS.values()])}",
     "clocks": "a list of readings in nanoseconds, whole numbers that don't fall",
     "delays": "a list of one or more delays in nanoseconds",
-    "trace": "a line as a text in quotes",
+    "trace": "a line as a string",
     "replicas": "the path of a component as a text",
     "faults": 'a fault: [PATH, REPLICA, LINK, TARGET, ROUND, [VALUE, ..]], as ["p.a", 2, "p.b.i", 1, 0, [100]]',
     "plants": "the path of the plant's controller as a text",
@@ -46,17 +46,17 @@ RANGES = {
     "inputs": "a number has 64 bits at most",
     "events": "a time or a reading is at most 2^59, a round at most 100,000, and a pass has one reading for each "
     "component",
-    "clocks": "readings don't fall, and are at most 2^59; there are 1,000,000 at most",
+    "clocks": "readings never decrease, and are at most 2^59; there are 1,000,000 at most",
     "delays": "there is one delay or more, each at most one hour",
     "trace": "there are 1,000,000 lines at most",
     "properties": "there are 1 to 64 properties, each named by a word: a letter, then letters, digits and _",
     "replicas": "each component is named once",
     "faults": "replicas are 1 to 3, rounds at most 100,000; there is one value for each step of the source, and one "
     "fault for each place",
-    "plants": "a plant and its controller have one rate, stand in no other pair, and each link of the plant is with "
+    "plants": "a plant and its controller have one rate, are in no other pair, and each link of the plant is with "
     "its controller",
     "processors": "there are 1 to 256 processors, each named by a word, with nanos from 1 to one hour; each component "
-    "stands on one, once",
+    "is on one, once",
 }
 MOST_LISTED = 12
 
@@ -130,23 +130,23 @@ class Why:
             kind = "true, false or null" if boolean else "a whole number or null"
             return [f"a value of {name} is {kind}: {name} is a {'Boolean' if boolean else 'Integer'} port"]
         if field in ("clocks", "delays") and name:
-            return ["a number of nanoseconds stands here: a whole one, without a point and without an exponent"]
-        return [f"here stands {INSIDE.get(field, 'another kind of value')}"]
+            return ["expected a whole number of nanoseconds, without a point and without an exponent"]
+        return [f"expected {INSIDE.get(field, 'another kind of value')}"]
 
     def event(self, rest):
         """An event without a form, or of the other world."""
         value = self.at(f"events/{rest}")
         word = text_of(value.parts[0]) if value and value.kind == "list" and value.parts else None
         if word not in EVENTS:
-            return [f"{word or 'this'} is no event", meant(word, EVENTS) if word else "",
+            return [f"{word or 'this'} is not an event", meant(word, EVENTS) if word else "",
                     f"events: {', '.join(EVENTS)}"]
         shape, count = EVENTS[word]
         if len(value.parts) != count:
             return [f'"{word}" is written {shape}']
         if word in ("pass", "drop", "repeat") and (word == "pass" or text_of(value.parts[1]) is not None):
-            loose = "a world with time" if word == "pass" else "world --loose"
+            loose = "world" if word == "pass" else "world --loose"
             if word != "pass" or value.parts[2].kind == "list":
-                return [f'"{word}" is an event of {loose} alone, where its parts are right: {shape}']
+                return [f'"{word}" is an event of {loose} only, in the form {shape}']
         return [f'"{word}" is written {shape}']
 
     def unknown(self, field, rest):
@@ -191,7 +191,7 @@ class Why:
         if words[0] not in named:
             return [f"{words[0]} is not among the replicas", f'add it: "replicas": ["{words[0]}"]']
         own = [link for link, source in self.names.links.items() if source == words[0]]
-        return [f"{words[2]} is no link from {words[0]}", meant(words[2] or "", own),
+        return [f"{words[2]} is not a link from {words[0]}", meant(words[2] or "", own),
                 there_are(own, f"links from {words[0]}")]
 
     def out_of_range(self, field, rest):
@@ -199,7 +199,7 @@ class Why:
         if field == "properties" and rest:
             return self.formula(rest)
         fall = self.falls(rest) if field == "clocks" else []
-        return fall or [RANGES.get(field, "a number or a count is out of its range")]
+        return fall or [RANGES.get(field, "a number or a count is out of range")]
 
     def falls(self, rest):
         """A reading that is below the one before it."""
@@ -210,13 +210,13 @@ class Why:
             return []
         one, two = value.parts[at - 1].parts, value.parts[at].parts
         if re.fullmatch(r"[0-9]{1,18}", str(one)) and re.fullmatch(r"[0-9]{1,18}", str(two)) and int(two) < int(one):
-            return [f"the clock of {path} goes back: {two} stands behind {one}", "readings don't fall: sort them"]
+            return [f"the clock of {path} goes back: {two} follows {one}", "readings never decrease: sort them"]
         return []
 
     def missing(self, field, rest):
         """A field that is missing."""
         if field == "processors" and rest:
-            return [f"{rest} stands on no processor", f'add "{rest}" to the components of one']
+            return [f"{rest} is on no processor", f'add "{rest}" to the components of one']
         return [f"the field {field} is missing", f'add "{field}": {TAKES.get(field, "..")}']
 
     def too_big(self, cells, _rest):
@@ -226,7 +226,7 @@ class Why:
         if re.fullmatch(r"[0-9]{1,6}", text) and re.fullmatch(r"[0-9]{1,30}", cells) and int(text):
             each = int(cells) // int(text)
             most = 1_000_000 // each if each else 0
-            return [f"the run would leave {int(cells):,} values, {each:,} a round, and 1,000,000 are the most",
+            return [f"the run would produce {int(cells):,} values, {each:,} a round, and the maximum is 1,000,000",
                     f'"rounds": {most} is the most for this design' if most
                     else "this design leaves too much in one round"]
         return []

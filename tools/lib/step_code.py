@@ -59,7 +59,7 @@ class Verified:
     def need(self, holds, place, rule):
         """Refuses the code where a rule does not hold."""
         if not holds:
-            raise Refused(f"{self.component.path}: the code is refused at place {place}: {rule}")
+            raise Refused(f"{self.component.path}: the code is rejected at place {place}: {rule}")
 
     def check(self, place, instruction):
         """All rules at one place."""

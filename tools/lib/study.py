@@ -64,7 +64,7 @@ class Study:
         """Takes an answer that is handed in."""
         answer = Answer(text)
         if answer.kind not in PLACE_OF:
-            raise Refused(f"{path}: this is no answer that a report can show")
+            raise Refused(f"{path}: a report cannot show this answer")
         of_run = answer.kind == "rows" and any(line.startswith(("sent ", "start ", "arrive ")) for line in answer.lines)
         place = "run" if of_run else PLACE_OF[answer.kind]
         words = self.run_words() if place == "run" else [place]

@@ -86,14 +86,14 @@ def comment(place, text):
     between = text[place.before_end : place.here.offset]
     if between.startswith(b"--") or between.lstrip(b" \t").startswith(b"--["):
         start = place.before_end + between.find(b"--")
-        return "`--` begins a comment: what stands behind it on its line is not read", start
+        return "`--` begins a comment: the rest of its line is ignored", start
     return None
 
 
 def line_end(place, text):
     """A `;` that is missing at the end of a line before this one."""
     if place.wants(";") and place.before and b"\n" in text[place.before_end : place.here.offset]:
-        return f"a `;` is missing behind `{word_of(place.before)}`", place.before_end
+        return f"a `;` is missing after `{word_of(place.before)}`", place.before_end
     return None
 
 
@@ -133,9 +133,9 @@ def order(place, _text):
     kind = "annex" if place.here.inside else opened(place)[1]
     sections = ORDERS.get(kind, ())
     if place.word in sections:
-        return f"`{place.word}` stands too late: the order is {', '.join(sections)}, each at most once"
+        return f"`{place.word}` is too late: the order is {', '.join(sections)}, each at most once"
     if kind in ("type", "implementation") and not place.here.inside:
-        return f"`{place.word}` stands in an {'implementation' if kind == 'type' else 'annex or a type'}, not here"
+        return f"`{place.word}` belongs in an {'implementation' if kind == 'type' else 'annex or a type'}, not here"
     return None
 
 
@@ -166,8 +166,8 @@ def keyword(place, _text):
     if place.word in words and (len(place.wanted) == 1 or place.wants(WHOLE) or place.next in (":", ",", "=>", ":=",
                                                                                                ".", "!", "=", "->",
                                                                                                "-[", ")", "'")):
-        where = "inside of a behaviour annex" if place.here.inside else "outside of annexes"
-        return f"`{place.word}` is a keyword {where}, and no name: take another one"
+        where = "inside a behaviour annex" if place.here.inside else "outside annexes"
+        return f"`{place.word}` is a keyword {where}, and cannot be a name"
     return None
 
 
@@ -195,16 +195,16 @@ def semicolon(place, _text):
         return None
     behind = word_of(place.before)
     if place.word == "}":
-        return f"a `;` is missing behind `{behind}`: each property ends with one", place.before_end
+        return f"a `;` is missing after `{behind}`: each property ends with one", place.before_end
     if place.here.kind in ("word", "end", "symbol"):
-        return f"a `;` is missing behind `{behind}`", place.before_end
+        return f"a `;` is missing after `{behind}`", place.before_end
     return None
 
 
 def behind_package(place, _text):
     """Something behind the end of the package."""
     if place.wanted == [END]:
-        return "the package has ended before this: an `end` stands too soon, or is one too many"
+        return "the package has ended before this: an `end` is too early, or there is one too many"
     return None
 
 
@@ -212,7 +212,7 @@ def word_left_out(place, _text):
     """A word of AADL that this subset has no use for."""
     for word, offset in ((place.word, place.here.offset), (place.last, place.before.offset if place.before else 0)):
         if word in LEFT_OUT:
-            return f"this subset of AADL may have no `{word}` here: docs/language.md says what it leaves out", offset
+            return f"the subset of AADL has no `{word}` here: docs/language.md lists its omissions", offset
     return None
 
 
@@ -226,7 +226,7 @@ def value(place, _text):
     if place.here.kind in ("real", "string") and place.here.inside:
         return "values are whole numbers, `true` and `false`"
     if len(set(place.wanted) & BEGINS_VALUE) > 4:
-        return f"a value is missing behind `{word_of(place.before)}`" if place.before else None
+        return f"a value is missing after `{word_of(place.before)}`" if place.before else None
     for closer in (")", "]->", "}", "**}"):
         if place.wants(closer):
             return f"a `{closer}` is missing here"

@@ -7,31 +7,31 @@ from .syntax_causes import cause, may_stand, place_of_fault
 
 # What a byte that begins no token was likely meant for. Those of several bytes are looked at first.
 BYTES = [
-    (b"\xe2\x80\x9c", 'a text stands in straight quotes: "'),
-    (b"\xe2\x80\x9d", 'a text stands in straight quotes: "'),
-    (b"\xe2\x80\x98", "a text stands in straight double quotes"),
-    (b"\xe2\x80\x99", "a text stands in straight double quotes"),
-    (b"\xe2\x80\x93", "a dash stands here: `-` is the sign, `--` begins a comment"),
-    (b"\xe2\x80\x94", "a dash stands here: `-` is the sign, `--` begins a comment"),
-    (b"\xe2\x88\x92", "a minus of another alphabet stands here: `-` is the sign"),
-    (b"\xe2\x89\xa4", "`<=` is written so"),
-    (b"\xe2\x89\xa5", "`>=` is written so"),
-    (b"\xe2\x89\xa0", "`!=` is written so"),
-    (b"\xe2\x86\x92", "`->` is written so"),
-    (b"\xc2\xa0", "a blank of another kind stands here: put a plain one"),
-    (b"&", "`and` and `and then` are written so"),
-    (b"|", "`or` and `or else` are written so"),
-    (b"%", "`mod` and `rem` are written so; %%% divides a bundle only where it is a line of its own"),
+    (b"\xe2\x80\x9c", 'a string is in straight quotes: "'),
+    (b"\xe2\x80\x9d", 'a string is in straight quotes: "'),
+    (b"\xe2\x80\x98", "a string is in straight double quotes"),
+    (b"\xe2\x80\x99", "a string is in straight double quotes"),
+    (b"\xe2\x80\x93", "this is a dash: `-` is the sign, `--` begins a comment"),
+    (b"\xe2\x80\x94", "this is a dash: `-` is the sign, `--` begins a comment"),
+    (b"\xe2\x88\x92", "this is another minus sign: write `-`"),
+    (b"\xe2\x89\xa4", "write `<=`"),
+    (b"\xe2\x89\xa5", "write `>=`"),
+    (b"\xe2\x89\xa0", "write `!=`"),
+    (b"\xe2\x86\x92", "write `->`"),
+    (b"\xc2\xa0", "this is a no-break space: write a plain space"),
+    (b"&", "write `and` or `and then`"),
+    (b"|", "write `or` or `or else`"),
+    (b"%", "write `mod` or `rem`; %%% divides a bundle only on a line of its own"),
     (b"#", "a comment begins with `--`"),
     (b"^", "there is no power: multiply, or write `xor`"),
-    (b"~", "`not` denies a condition"),
+    (b"~", "`not` negates a condition"),
     (b"?", "there is no `?`: choose with `if (x > 0) .. else .. end if`"),
     (b"@", "there is no `@` in the language"),
     (b"_", "a name begins with a letter"),
-    (b"`", 'a text stands in straight double quotes: "'),
+    (b"`", 'a string is in straight double quotes: "'),
     (b"\\", "there is no `\\` in the language"),
     (b"$", "there is no `$` in the language"),
-    (b"\x00", "this is no text: a byte 0 stands in it, as in UTF-16"),
+    (b"\x00", "this is not a text: it contains a byte 0, as UTF-16 does"),
 ]
 LETTER = "a name has ASCII letters, digits and `_`"
 
@@ -48,20 +48,20 @@ def tell(bundle, name, offset):
     look = {"Syntax": syntax, "BadByte": bad_byte, "NoDivider": no_divider, "OpenAnnex": open_annex,
             "OpenString": open_string, "BigNumber": big_number, "LongName": long_name, "TooDeep": too_deep,
             "NotUtf8": not_utf8}
-    return look[name](bundle, offset) if name in look else Told("the text is refused here")
+    return look[name](bundle, offset) if name in look else Told("the text is rejected here")
 
 
 def syntax(bundle, offset):
     """A token that cannot stand there."""
     place = place_of_fault(bundle.design, offset)
     if place is None:
-        return Told("the text cannot go on like this: no design begins with what stands before and this token")
-    here = "the text ends here" if place.here.kind == "end" else f"`{shown(place.here.text)}` cannot stand here"
+        return Told("unexpected token: no text of the language begins like this")
+    here = "unexpected end of the text" if place.here.kind == "end" else f"unexpected `{shown(place.here.text)}`"
     found = cause(bundle.design, place)
     if found is None:
-        return Told(here, f"here may stand {may_stand(place)}")
+        return Told(here, f"expected {may_stand(place)}")
     what, culprit = found
-    return Told(f"{here}: {what}", f"here may stand {may_stand(place)}", culprit=culprit)
+    return Told(f"{here}: {what}", f"expected {may_stand(place)}", culprit=culprit)
 
 
 def shown(text):
@@ -73,7 +73,7 @@ def shown(text):
 def bad_byte(bundle, offset):
     """A byte that begins no token."""
     if offset == 0 and bundle.data.startswith(BYTE_ORDER_MARK):
-        return Told("a byte order mark stands before the text", "take it off, as tools/bundle does")
+        return Told("the text begins with a byte order mark", "remove it, as tools/bundle does")
     byte = bundle.data[offset : offset + 1]
     found = next((what for start, what in BYTES if bundle.data.startswith(start, offset)), None)
     letter = re.match(rb"[\xc2-\xf4][\x80-\xbf]*", bundle.data[offset : offset + 4])
@@ -90,31 +90,31 @@ def no_divider(bundle, _offset):
     if near:
         line = bundle.place(near.start())[0]
         return Told("the bundle ends, and no line is exactly %%%",
-                    f"line {line} is no divider: %%% has to be a line of its own, with no blank; see "
+                    f"line {line} is not a divider: %%% must be a line of its own, without blanks; see "
                     f"docs/misleading.md")
     return Told("the bundle ends, and no line is exactly %%%",
-                "tools/bundle MODEL.aadl SCENARIO.json makes a bundle, and ./pals takes the files themselves")
+                "tools/bundle MODEL.aadl SCENARIO.json makes a bundle, and ./pals accepts the files themselves")
 
 
 def open_annex(bundle, offset):
     """An annex that is never closed."""
     end = re.search(rb"(?im)^[ \t]*end[ \t]+\w+\.\w+[ \t]*;", bundle.design[offset:])
     culprit = offset + end.start() if end else None
-    return Told("the annex that begins here has no `**}` behind it",
-                "write `**};` where it ends" + (", likely before this:" if end else ""), culprit=culprit)
+    return Told("the annex that begins here has no closing `**}`",
+                "write `**};` at its end" + (", likely before this:" if end else ""), culprit=culprit)
 
 
 def open_string(_bundle, _offset):
     """A text that is never closed."""
-    return Told("the text in quotes that begins here has no closing quote on its line",
-                'write `"` where it ends: a text stands on one line')
+    return Told("the string that begins here has no closing quote on its line",
+                'write `"` at its end: a string is on one line')
 
 
 def big_number(bundle, offset):
     """A number that is too great."""
     if bundle.data[offset : offset + 19] == b"9223372036854775808":
-        return Told("the number is above 9223372036854775807", "for the least number write -9223372036854775807 - 1")
-    return Told("the number is above 9223372036854775807", "numbers have 64 bits: count in greater units")
+        return Told("the number is above 9223372036854775807", "for the minimum write -9223372036854775807 - 1")
+    return Told("the number is above 9223372036854775807", "numbers have 64 bits: count in larger units")
 
 
 def long_name(_bundle, _offset):
@@ -125,10 +125,10 @@ def long_name(_bundle, _offset):
 def too_deep(_bundle, _offset):
     """An opener that is too deep."""
     return Told("this opener makes the text nested more than 64 deep",
-                "take brackets out, or use a variable for a part of the expression")
+                "remove parentheses, or use a variable for a part of the expression")
 
 
 def not_utf8(_bundle, _offset):
     """A byte that is no UTF-8."""
-    return Told("this byte is no UTF-8",
-                "save the file as UTF-8; names have ASCII letters alone, and comments may have any")
+    return Told("this byte is not UTF-8",
+                "save the file as UTF-8; names have only ASCII letters; comments may have any")

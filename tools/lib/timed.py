@@ -30,11 +30,11 @@ class World:
         self.model, self.rounds, self.times, self.broken = model, rounds, times, broken
         self.bounds, self.period = model.bounds, model.period
         if self.bounds is None or not self.period:
-            raise Refused("the root has no period or not all of its bounds; ./pals check tells what is missing")
+            raise Refused("the root has no period or not all of its bounds; ./pals check reports them")
         self.nodes = model.threads
         self.rate = {path: model.rate(thread) for path, thread in zip(self.nodes, model.by_path.values())}
         if not all(self.rate.values()):
-            raise Refused("a component has no rate; ./pals check tells which")
+            raise Refused("a component has no rate; ./pals check reports it")
         self.sent = {path: model.steps_sent(rate) for path, rate in self.rate.items()}
         self.clocks = {path: self.clock_of(path) for path in self.nodes}
         self.links = defaultdict(list)
@@ -125,7 +125,7 @@ def broken_of(word, model):
     name, _, rest = word.partition(":")
     what, _, number = rest.partition(":")
     if name not in BREAKS or (number and not (number.isascii() and number.isdigit() and len(number) < 7)):
-        raise Refused(f"{word} breaks nothing: say NAME:WHAT or NAME:WHAT:ROUND, NAME being {choice(BREAKS)}")
+        raise Refused(f"{word} breaks nothing: use NAME:WHAT or NAME:WHAT:ROUND, NAME being {choice(BREAKS)}")
     kind = BREAKS[name][0]
     known = model.threads if kind == "node" else sorted(model.links())
     if what not in known:

@@ -89,7 +89,7 @@ class Timetable:
         """A processor: what it has room for, and a lane for each component; gives where it ends."""
         self.sheet.text(24, y + 14, self.said(processor), "" if processor.fits else "red")
         x, share = 24 + wide(self.said(processor)) * 1.05 + 16, processor.sum / max(processor.most, 1)
-        self.sheet.box("room", (x, y + 5), (120, 10), f"{share:.1%} of what there is")
+        self.sheet.box("room", (x, y + 5), (120, 10), f"{share:.1%} of its time")
         self.sheet.box("used" if processor.fits else "over", (x, y + 5), (max(min(share, 1) * 120, 1), 10))
         y += HEAD
         paths = list(dict.fromkeys(slot.path for slot in processor.slots))

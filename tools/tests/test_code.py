@@ -131,7 +131,7 @@ def test_each_operator_and_trap():
 
 
 def adapted(adaptor, place, group):
-    """What an adaptor gives of a group, by the table of docs/behaviours.md."""
+    """What an adaptor gives of a group, by the table of docs/language.md."""
     there = [value for value in group if value is not None]
     if adaptor == "at":
         return group[place]
@@ -155,7 +155,7 @@ def steps_read(source_rate, rate, adaptor, place, message):
 
 
 def test_adaptors_in_c():
-    """Each adaptor gives what the table of docs/behaviours.md says, of values up to the ends of 64 bits."""
+    """Each adaptor gives what the table of docs/language.md says, of values up to the ends of 64 bits."""
     source, asked, wanted = random.Random(11), [], []
     for _ in range(20000 if MORE else 3000):
         rate, length = source.choice((1, 2, 3, 4, 8)), source.choice((1, 2, 3, 4, 5, 7, 8))

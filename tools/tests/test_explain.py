@@ -44,12 +44,12 @@ def test_explain_tells_likely_causes():
     """A byte order mark, a divider with a blank, a keyword as a name, and what the subset leaves out are named."""
     design = page("examples/two_counters.aadl")
     for bundle, answer, wanted in (
-        ("\ufeff" + design, "text 1:1 BadByte", "a byte order mark stands before the text"),
-        (design + "%%% \n{}", "text 45:3 NoDivider", "line 44 is no divider"),
+        ("\ufeff" + design, "text 1:1 BadByte", "the text begins with a byte order mark"),
+        (design + "%%% \n{}", "text 45:3 NoDivider", "line 44 is not a divider"),
         (design.replace("x + i + 1", "on + i + 1"), "text 19:29 Syntax",
-         "`on` is a keyword inside of a behaviour annex"),
+         "`on` is a keyword inside a behaviour annex"),
         (design.replace("process Pair\n", "process Pair extends P\n"), "text 22:14 Syntax",
-         "may have no `extends` here"),
+         "the subset of AADL has no `extends` here"),
     ):
         status, text = explained(bundle.encode(), answer)
         expect((status, wanted in text), (3, True), f"{answer}\n{text}")
@@ -139,7 +139,7 @@ def test_explain_shows_likely_properties():
     for line in (
         "b.pals:29:42: Input_Adapter is ignored; PALS_Profile::Input_Adaptor is likely meant (misspelt-property)",
         "b.pals:38:2: Timing_Properties::Period is ignored; Period is likely meant (misspelt-property)",
-        "b.pals:38:37: Deadline is ignored: it means nothing here (ignored-property)",
+        "b.pals:38:37: Deadline is ignored: it has no meaning here (ignored-property)",
     ):
         expect(line in text.split("\n"), True, text)
     text = explained(f"{design}%%%\n".encode(), "34:23 3 NoPeriod\n")[1]

@@ -65,7 +65,7 @@ end Top.impl;
 end Train;
 """
 GIVEN = '%%%\n{"rounds": 2, "inputs": {"limit": [2]}}\n'
-NOT_ACCEPTED = "lint: b.pals: the design is not accepted; ./pals check tells why\n"
+NOT_ACCEPTED = "lint: b.pals: the design is not accepted; ./pals check reports the reason\n"
 
 
 def found(design, *words, scenario=GIVEN, refused=False):
@@ -81,7 +81,7 @@ def test_a_dead_link_is_told():
     status, rules, text = found(TRAIN)
     expect((status, rules), (1, [("31", "unsent-steps"), ("34", "dead-link")]), text)
     for part in (
-        'the link to cab.supervisor.speed is dead for ever: cab.odometer sends 3 of its 4 steps, and "last" reads none '
+        'the link to cab.supervisor.speed is dead: cab.odometer sends 3 of its 4 steps, and "last" reads none '
         'of them',
         '"latest" reads the last one that is sent, and so does "at 3" in the first group',
         "all 4 are sent with a period of 36 ms or more at the root",
@@ -178,7 +178,7 @@ def test_what_is_meant_is_quiet():
     expect((status, said), (1, "lint: there is no system implementation Tip.impl: take Top.impl\n"),
            "a root that is none")
     status, text, said = on_bundle("lint", b"package A")
-    expect((status, text, "no text of the language" in said), (1, "", True), "no text of the language")
+    expect((status, text, "not a text of the language" in said), (1, "", True), "no text of the language")
 
 
 def test_explain_lints_what_is_accepted():

@@ -76,7 +76,7 @@ stop early p.b.i 0 9500000
 def test_timeline_draws_each_kind():
     """Journals with readings and without, with a bundle and without; and refuses what is of no run."""
     for words, given, parts in (
-        ([], JOURNAL, ["reading", "early", "stop: the message of round 0 came to p.b.i"]),
+        ([], JOURNAL, ["reading", "early", "stop: the message of round 0 arrived at p.b.i"]),
         ([], read(os.path.join(EXAMPLES, "lost_message.journal")), ["event", "ignored", "lost", "+1 copy"]),
         (["--rounds", "1..1", "examples/turn_world.pals"], b"", ["alarm of round 1", "step 3"]),
     ):

@@ -144,7 +144,7 @@ def test_words_that_are_none():
         expect(tool("rows2vcd", word, given=b"round 0\n")[0], 2, f"a round of {word[:9]}")
     with tempfile.TemporaryDirectory() as folder:
         status, _, said = tool("fail_alloc", "--program", folder)
-        expect((status, "is no program" in said), (1, True), "a folder as a program")
+        expect((status, "is not a program" in said), (1, True), "a folder as a program")
         for name in ("bundle", "lint", "explain"):
             expect(tool(name, folder)[0], 1, f"a folder in place of a file for {name}")
     expect(tool("fail_alloc", "--program", "/no/program")[0], 1, "no program")

@@ -87,8 +87,9 @@ def test_reports_of_the_examples():
             expect_page(text.decode(), f"the page of {name}")
             expect(b"the design is accepted" in text, True, f"the verdict of {name}")
     design = read(os.path.join(EXAMPLES, "two_counters.pals"))
-    for old, new, wanted in ((b"9 ms", b"8 ms", "below the least"), (b'"rounds"', b'"round"', "has no field"),
-                             (b"Delayed", b"Delayed Delayed", "cannot stand here"), (b"end Two;", b"end To;", "end")):
+    for old, new, wanted in ((b"9 ms", b"8 ms", "below the minimum"), (b'"rounds"', b'"round"', "has no field"),
+                             (b"Delayed", b"Delayed Delayed", "unexpected `Delayed`"),
+                             (b"end Two;", b"end To;", "end")):
         status, text, said = on_bundle("report", design.replace(old, new, 1), *program)
         expect((status, said, wanted in text), (0, "", True), f"the page of {new}")
         expect_page(text, f"the page of {new}")

@@ -143,7 +143,7 @@ def test_inputs_of_tables():
     with Files(t_csv="goal\n1\n2\n", s_json=given) as files:
         found = json.loads(tool("inputs", files.path("t_csv"), files.path("s_json"))[1])
         expect(found, {"rounds": 9, "inputs": {"goal": [1, 2], "x": [1]}, "clocks": "meet"}, "a scenario with a table")
-    for table, said in (("goal\n1.5\n", ":2: 1.5 is no whole number"), ("a,a\n", "none twice"), ("", "name each"),
+    for table, said in (("goal\n1.5\n", ":2: 1.5 is not a whole number"), ("a,a\n", "none twice"), ("", "name each"),
                         ("round,a\n0,1\n0,2\n", ":3:"), ("a\n1,2\n", "2 cells"),
                         ("a\n9223372036854775808\n", "64 bits")):
         with Files(t_csv=table) as files:
@@ -201,7 +201,7 @@ def test_campaigns_compare_with_a_file():
         os.chmod(files.path("one"), stat.S_IRWXU)
         for name, words, wanted, said in (
                 ("all_rows", [], 0, "1 of 1 scenarios"), ("no_lines", [], 0, "none is false"),
-                ("less_rows", [], 1, "the row is false first in round 4"), ("short_rows", [], 1, "say --rounds 9"),
+                ("less_rows", [], 1, "the row is false first in round 4"), ("short_rows", [], 1, "use --rounds 9"),
                 ("short_rows", ["--rounds", "9"], 0, "none is false"), ("bad_rows", [], 1, "no row"),
                 ("all_rows", ["--input", "beat=true"], 1, "false first in round 2"),
                 ("all_rows", ["--expect", files.path("one")], 2, "take one of")):
