@@ -1,6 +1,6 @@
 """Steps of one thread, computed from the tree of its behaviour: what they send, and the operator at which one traps.
 
-Truth values are the numbers 0 and 1. `docs/behaviours.md` defines the steps. The program is proved, and this interpreter
+Truth values are the numbers 0 and 1. `docs/language.md` defines the steps. The program is proved, and this interpreter
 is not: it finds places in the text, which the program does not report.
 """
 

@@ -139,11 +139,11 @@ def remark(model, halt):
         name = operator.right.name.text if isinstance(operator.right, Read) else "d"
         return Found(RULE, halt.path, operator.offset, f"{place}: the divisor of `{operator.word}` is 0 here",
                      why_zero(model, halt), AFTER, f"test the divisor first, as `if ({name} != 0) .. end if`; see "
-                     "docs/behaviours.md, Traps")
+                     "docs/language.md, Traps")
     shown = f"{values[0]} {operator.word} {values[1]}" if len(values) == 2 else f"{operator.word} {values[0]}"
     return Found(RULE, halt.path, operator.offset,
                  f"{place}: the result of `{operator.word}` does not fit 64 bits here", f"{shown} was computed", AFTER,
-                 "limit the operands first, as `if (x < 1000) .. end if`; see docs/behaviours.md, Traps")
+                 "limit the operands first, as `if (x < 1000) .. end if`; see docs/language.md, Traps")
 
 
 def why_zero(model, halt):
@@ -168,7 +168,7 @@ def unsure(model, shown):
     sure = "" if len(places) == 1 else "the operator is one of this behaviour" if places else ""
     offset = places[0].offset if places else thread.impl.name.offset if thread and thread.impl else 0
     return Found(RULE, shown.path, offset, f"{shown.path} halts in round {shown.round}: {what}", sure, AFTER,
-                 "see docs/behaviours.md, Traps")
+                 "see docs/language.md, Traps")
 
 
 def trapping(behaviour, kind):

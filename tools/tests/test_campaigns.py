@@ -18,7 +18,7 @@ from tests.test_scenarios import JUDGE, Files, campaign
 
 # A program that answers at once until a file is there, and then takes a fifth of a second.
 SLOW = JUDGE.replace("import json, sys\n", "import json, os, sys, time\nif os.path.exists(sys.argv[0] + '.slow'): "
-                                           "time.sleep(3)\nopen(sys.argv[0] + '.slow', 'w')\n")
+                                           "time.sleep(1)\nopen(sys.argv[0] + '.slow', 'w')\n")
 
 
 class Sums(Shrink):
@@ -62,7 +62,9 @@ def interrupted(how):
         words = [sys.executable, f"{TOP}/tools/campaign", "--program", files.path("judge"), "--input", "beat=true",
                  "--jobs", "1", f"{EXAMPLES}/pacemaker.aadl", files.path("s_json")]
         with open(f"{folder}/found.json", "wb") as file:
-            with subprocess.Popen(words, stdout=file, stderr=subprocess.PIPE) as run:
+            # A shell ignores interrupts in commands that it runs in the background, and so would the campaign.
+            with subprocess.Popen(words, stdout=file, stderr=subprocess.PIPE,
+                                  preexec_fn=lambda: signal.signal(signal.SIGINT, signal.SIG_DFL)) as run:
                 begun = time.monotonic()
                 while not os.path.getsize(f"{folder}/found.json"):
                     if run.poll() is not None or time.monotonic() - begun > WITHIN:

@@ -50,7 +50,7 @@ def test_compiled_campaigns_agree_with_the_program():
             campaign.compare(range(NUMBERS))
             for number in range(NUMBERS):
                 found = campaign.search(number, number + 1, 1, lambda reached: None)
-                wanted = judge(plan, campaign.inputs(number), ROUNDS)
+                wanted = judge(plan, campaign.inputs(number), ROUNDS).false
                 expect(found and found[1:], wanted and tuple(wanted), f"scenario {number} of seed {seed}")
                 false += found is not None
     expect(0 < false, True, "some are false")

@@ -157,7 +157,7 @@ def value_of(text):
 
 
 def test_values_by_hand():
-    """Quotients and remainders of docs/behaviours.md, precedence, short-circuits, and traps at their operator."""
+    """Quotients and remainders of docs/language.md, precedence, short-circuits, and traps at their operator."""
     great = 2**63 - 1
     for text, wanted in (
         ("-7 / 2", -3), ("-7 rem 3", -1), ("7 mod (-3)", -2), ("9 - 4 - 3", 2), ("-x + p * 2", -1), ("p'fresh", 1),
@@ -171,7 +171,7 @@ def test_values_by_hand():
 
 
 def test_adaptors_by_hand():
-    """The adaptors of docs/behaviours.md."""
+    """The adaptors of docs/language.md."""
     for adaptor, places, rate, wanted in (
         ("repeat", [7], 4, [7] * 4), ("first", [7], 4, [7, None, None, None]), ("at 2", [7], 2, [None, 7]),
         ("average", [4, None, 5, None], 1, [4]), ("average", [-4, None, -5, None], 1, [-4]),
