@@ -142,6 +142,10 @@ def test_cover_finds_what_is_dead():
             file.write(text)
         status, found, said = cover(path, "--dead")
         expect((status, {key.split(" ", 1)[0] for key in found}), (0, {"60:13", "60:3"}), said)
+        status, text, said = tool("lint", "--dead", path)
+        dead = [line for line in text.decode().splitlines() if line.endswith("(dead-code)")]
+        places = [line.split(": ")[0].rpartition("d.aadl:")[2] for line in dead]
+        expect((status, sorted(places)), (1, ["60:13", "60:3"]), said)
         status, found, said = cover(os.path.join(EXAMPLES, "pacemaker.aadl"), "--dead", "--input", "beat=true,false")
         expect((status, found), (0, {}), said)
         status, found, said = cover(os.path.join(EXAMPLES, "turn_controller.aadl"), "--input", "goal=0", "--dead")

@@ -6,13 +6,14 @@ import random
 import re
 import tempfile
 
-from lib.bundles import read
+from lib.bundles import Refused, read
 from lib.proving import steps, terms, vectors
 from lib.proving.coverage import Coverage
 from lib.proving.evaluate import Run
 from lib.proving.formula_text import read_property
 from lib.proving.opened import Opened
 from lib.proving.questions import Questions
+from lib.proving.solver import SecondOpinion
 from tests.common import EXAMPLES, HERE, Wrong, built, expect, script, tool
 from tests.nodes import MORE
 from tests.proving import made, needed
@@ -155,6 +156,20 @@ def test_certificates_are_checked():
                 json.dump(change, file)
             status, text, said = tool(*check, path)
             expect((status != 0, "Traceback" in said), (True, False), f"a certificate that is wrong: {said}")
+
+
+def test_a_second_opinion_finds_a_fault():
+    """cvc5 confirms a formula that has no solution; one that has a solution is a fault of the first solver."""
+    needed("cvc5")
+    second = SecondOpinion()
+    second.take("p cnf 2 3\n1 0\n-1 2 0\n-2 0\n")
+    expect(second.words(), "cadical and cvc5", "a formula without a solution")
+    try:
+        second.take("p cnf 2 2\n1 0\n-1 2 0\n")
+    except Refused as why:
+        expect("differ" in str(why), True, "a formula with a solution")
+    else:
+        raise Wrong("no fault is found")
 
 
 def changes(made):

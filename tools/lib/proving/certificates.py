@@ -111,15 +111,15 @@ def facts_in(questions, data):
     return facts
 
 
-def check_certificate(questions, data, tell=lambda text: None):
+def check_certificate(questions, data, tell=lambda text: None, second=None):
     """Checks the steps of a certificate; gives the names of the properties that they show."""
     try:
-        return check_steps(questions, data, tell)
+        return check_steps(questions, data, tell, second)
     except (KeyError, TypeError, ValueError, AttributeError) as why:
         raise Refused(f"the certificate has a part that has no meaning: {str(why)[:60]}") from why
 
 
-def check_steps(questions, data, tell):
+def check_steps(questions, data, tell, second):
     """The same, for a certificate whose parts have a meaning."""
     shown = []
     facts = facts_in(questions, data)
@@ -134,12 +134,13 @@ def check_steps(questions, data, tell):
             query = questions.query(name, set(step["components"]), lemmas)
         else:
             raise Refused(f"step {number + 1} of the certificate depends on a property that no earlier step shows")
-        check_invariant(questions.circuit(query), step["clauses"], f"step {number + 1} ({name or 'ranges'})")
+        check_invariant(questions.circuit(query), step["clauses"], f"step {number + 1} ({name or 'ranges'})",
+                        second)
         shown += [] if name is None else [name]
     return shown
 
 
-def check_invariant(circuit, texts, what):
+def check_invariant(circuit, texts, what, second=None):
     """Shows by three queries that clauses hold at first, that a round keeps them, and that they give the property."""
     variables = {name: node for node, name in circuit.graph.latches}
     clauses = []
@@ -158,5 +159,5 @@ def check_invariant(circuit, texts, what):
     queries = {"does not hold at first": (zero, clauses), "is not kept by a round": (clauses, kept),
                "does not give the property": (clauses, [[it ^ 1] for it in circuit.outputs])}
     for fault, (given, wanted) in queries.items():
-        if not implied(circuit.graph, given, wanted):
+        if not implied(circuit.graph, given, wanted, second):
             raise Refused(f"{what}: the invariant {fault}")

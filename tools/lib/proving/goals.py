@@ -41,16 +41,17 @@ class Goals:
         """The keys of all goals, in the order of components."""
         return self.found
 
-    def position(self, key):
-        """The line and the column of a goal; 0 and 0 if the code has no positions."""
+    def offset(self, key):
+        """The offset of a goal in the design; None if the code has no positions."""
         path, kind, place, _ = key
         if kind == "group":
-            offset = self.ports[path, place]
-        elif self.places[path] is None:
-            return 0, 0
-        else:
-            offset = self.places[path][place].offset
-        return self.opened.position(offset)
+            return self.ports[path, place]
+        return self.places[path] and self.places[path][place].offset
+
+    def position(self, key):
+        """The line and the column of a goal; 0 and 0 if the code has no positions."""
+        offset = self.offset(key)
+        return (0, 0) if offset is None else self.opened.position(offset)
 
     def text(self, key):
         """A goal in words."""
