@@ -14,7 +14,8 @@ from lib.interpreter import Frame, Trap
 from lib.program import ask_program
 from lib.random_designs import DesignMaker, design_text, scenario
 from lib.traps import traps_of
-from tests.common import built, expect, explained, on_bundle, tool
+from tests.common import EXAMPLES, built, expect, explained, on_bundle, tool
+from tests.test_scenarios import Files
 
 # A control law that divides by an in port, which holds 0 until the meter's first message arrives in round 1.
 LAW = """package Control public
@@ -207,3 +208,15 @@ def test_constant_conditions():
     ):
         expect(verdict(expression(text)), wanted, text)
     expect(isinstance(expression("x"), tree.Read), True, "a name")
+
+
+def test_a_campaign_without_room_for_traps_says_so():
+    """A scenario with 64 properties has no room for the one that shows halts: --strict rejects it."""
+    properties = {f"p{at}": ["not", ["halted", "controller.pacer"]] for at in range(64)}
+    with Files(s_json=json.dumps({"rounds": 2, "properties": properties})) as files:
+        words = ("campaign", "--program", built(), "--count", "2", os.path.join(EXAMPLES, "pacemaker.aadl"),
+                 files.path("s_json"))
+        status, _, said = tool(*words)
+        expect((status, "components that halt are not looked for" in said), (0, True), said)
+        status, _, said = tool(words[0], "--strict", *words[1:])
+        expect((status, "64: omit one" in said), (1, True), said)
