@@ -6,7 +6,7 @@ use Rattle.bundle_designs.specs.AcceptedAndRefusedPackages.{IsPackageRefused}
 use Rattle.answer_laws.specs.proof.BundleContents.{HasTree, MeansDesign, MeansScenario}
 use Rattle.answer_laws.proofs.UniqueDesignsAndRefusals.{read_or_refused, package_refused}
 
--- what is refused is not there
+-- a rejected text has no tree
 pub no_tree : (bundle a : List ℕ) → IsTextRefused bundle a → HasTree bundle → ⊥
 no_tree bundle a x h = read_or_refused bundle h.text h.scenario h.tree a h.parsed x
 
@@ -16,7 +16,7 @@ no_design root bundle a x h = package_refused root bundle h.0 h.1 a h.2 x
 pub refused_tree : (root bundle a : List ℕ) → IsPackageRefused root bundle a → HasTree bundle
 refused_tree root bundle a x = record { text = x.text; scenario = x.scenario; tree = x.tree; parsed = x.parsed }
 
--- what has the one has the other
+-- a bundle with a design has a tree
 pub has_tree : (root bundle : List ℕ) → MeansDesign root bundle → HasTree bundle
 has_tree root bundle h = record { text = h.2.text; scenario = h.1; tree = h.2.tree; parsed = h.2.parsed }
 

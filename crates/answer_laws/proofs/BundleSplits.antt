@@ -1,4 +1,4 @@
--- A bundle is divided in one way.
+-- A bundle has at most one division.
 use Rattle.std.proofs.Common.{◌≡◌, ◌∙◌, ◌⊎◌, inl, inr, ℕ, zero, suc, ◌<◌, ◌≤◌, Bool, true, false, cond, List, []}
 use Rattle.std.proofs.Common.{length, take, Option, Some, None, sym, ap, arith}
 use Rattle.std.proofs.Math.ListN.{drop_of_length-le}
@@ -21,7 +21,7 @@ split_by bundle a b s t x y (inr (inr more)) = absurd (too_soon bundle b a t s y
 pub one_split : (bundle a b s t : List ℕ) → IsSplit bundle a s → IsSplit bundle b t → (a ≡ b) × (s ≡ t)
 one_split bundle a b s t x y = split_by bundle a b s t x y (cases_order x.at y.at)
 
--- no line begins behind the end
+-- no line begins after the end
 never_past : (b : Bool) → cond b (behind_divider []) None ≡ None
 never_past true = λ i. None
 never_past false = λ i. None

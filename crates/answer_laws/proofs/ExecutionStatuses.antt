@@ -1,4 +1,4 @@
--- The status of an answer of a command that needs step codes, by what the bundle has.
+-- The status of an answer of a command that needs step codes, by the contents of the bundle.
 use Rattle.std.proofs.Common.{◌≡◌, ◌∙◌, ◌⊎◌, ◌↔◌, inl, inr, ℕ, nat_eq, Bool, true, false, List, refl, sym, subst}
 use Rattle.std.specs.Prelude.{MatchBool}
 use Rattle.std.proofs.lemmas.Bool.{eqb-true}
@@ -13,7 +13,7 @@ use Rattle.answer_laws.proofs.UniqueBundleScenarios.{meant_or_refused}
 use Rattle.answer_laws.proofs.ScenarioAnswerStatuses.{IsMade, execution_status, no_refused_run, apart}
 use Rattle.answer_laws.proofs.UniqueExecutionAnswers.{long_code, long_or_short, executions_agree}
 
--- what a status says, by its number
+-- the meaning of a status, by its number
 abbrev pub StatusMeans : Execution → List ℕ → List ℕ → ℕ → Type 0
 StatusMeans what root bundle s =
     MatchBool (nat_eq s 3) (HasTree bundle → ⊥)
@@ -23,8 +23,8 @@ StatusMeans what root bundle s =
     (GivesStatus what root bundle s))))
 
 module _ (what : Execution) (root bundle : List ℕ) where
-  -- ---- what the bundle has at each status, from one that lacks nothing to one that has nothing
-  -- a design without a code that is too long: what is made of a scenario, or 5 where there is none
+  -- ---- the contents of the bundle at each status, from complete to empty
+  -- a design without a code that is too long: the result for a scenario, or 5 without a scenario
   abbrev pub WithCodes : ℕ → Type 0
   WithCodes s = ((s ≡ 5) × LacksScenario what root bundle) ⊎ GivesStatus what root bundle s
 
@@ -32,11 +32,11 @@ module _ (what : Execution) (root bundle : List ℕ) where
   abbrev pub WithDesign : ℕ → Type 0
   WithDesign s = ((s ≡ 13) × HasLongCode root bundle) ⊎ WithCodes s
 
-  -- a text of the grammar: these, or 4 where there is no design
+  -- a text of the grammar: these, or 4 without a design
   abbrev pub WithTree : ℕ → Type 0
   WithTree s = ((s ≡ 4) × (HasTree bundle × (MeansDesign root bundle → ⊥))) ⊎ WithDesign s
 
-  -- anything: these, or 3 where there is no such text
+  -- any bundle: these, or 3 without such a text
   abbrev pub Stands : ℕ → Type 0
   Stands s = ((s ≡ 3) × (HasTree bundle → ⊥)) ⊎ WithTree s
 
@@ -44,7 +44,7 @@ module _ (what : Execution) (root bundle : List ℕ) where
   abbrev pub IsAlone : ℕ → Type 0
   IsAlone n = (s : ℕ) → GivesStatus what root bundle s → GivesStatus what root bundle n → s ≡ n
 
-  -- ---- a status that is made says what is made
+  -- ---- a status of a result determines the result
   made_by : (text design code scenario : Bool) (s : ℕ) → nat_eq s 3 ≡ text → nat_eq s 4 ≡ design → nat_eq s 13 ≡ code
       → nat_eq s 5 ≡ scenario → IsMade s
       → GivesStatus what root bundle s
@@ -68,7 +68,7 @@ module _ (what : Execution) (root bundle : List ℕ) where
       made_by (nat_eq s 3) (nat_eq s 4) (nat_eq s 13) (nat_eq s 5) s refl refl refl refl
       (execution_status what x.design x.scenario s x.text x.makes) x
 
-  -- ---- what each needs
+  -- ---- the requirements of each status
   scenario_of : (s : ℕ) → GivesStatus what root bundle s → MeansScenario root bundle (command_of what root)
   scenario_of s x = (x.design, x.scenario, x.means)
 
@@ -86,7 +86,7 @@ module _ (one_design : OneDesign) (what : Execution) (root bundle : List ℕ) wh
   codes_of s (inl x) long = x.1.1 long
   codes_of s (inr x) long = long_or_short one_design root bundle x.design x.means.bytes long x.means.accepted x.short
 
-  -- ---- an answer stands at its status
+  -- ---- each answer has its status
   stands_refused : (s : ℕ) (a : List ℕ) → IsScenarioRefusedIn root bundle (command_of what root) s a
       → LacksScenario what root bundle
   stands_refused s a x = (
@@ -109,7 +109,7 @@ module _ (one_design : OneDesign) (what : Execution) (root bundle : List ℕ) wh
     makes = x.makes;
   }))))
 
-  -- ---- a bundle stands at one status, if what has a scenario is made of one there
+  -- ---- a bundle has one status, if a scenario has one result
   executed : (s : ℕ) (x : GivesStatus what root bundle s) → IsExecuted what root bundle s x.text
   executed s x = record { design = x.design; scenario = x.scenario; means = x.means; short = x.short; makes = x.makes }
 
@@ -140,7 +140,7 @@ module _ (one_design : OneDesign) (what : Execution) (root bundle : List ℕ) wh
   same_status s n alone (inr x) (inl y) = absurd (y.1 (tree_of what root bundle s x))
   same_status s n alone (inr x) (inr y) = same_design s n alone x y
 
-  -- an answer is of such a status just if the bundle has what stands there
+  -- an answer has such a status if and only if the bundle has the contents for it
   pub exactly : (s n : ℕ) (a : List ℕ) → IsAlone what root bundle n → IsExecutionAnswer what root bundle s a
       → (StatusMeans what root bundle n → Stands what root bundle n) → (s ≡ n) ↔ StatusMeans what root bundle n
   exactly s n a alone x into = (
@@ -159,7 +159,7 @@ module _ (one_design : OneDesign) (what : Execution) (root bundle : List ℕ) wh
   never_made n which =
       λ s x y. absurd (apart n n (execution_status what y.design y.scenario n y.text y.makes) refl which)
 
-  -- a command that is no run makes one
+  -- a command other than `run` has one result
   pub one_made : ExecutionPremises → is_run (command_of what root) ≡ false → (n : ℕ) → IsAlone what root bundle n
   one_made laws not_run n =
       λ s x y. (executions_agree one_design what root bundle laws not_run s n x.text y.text (executed s x)

@@ -187,7 +187,7 @@ module _ (laws : ExistenceLaws) where
   has_answer (Budget root) bundle form = executed laws root bundle execution.Budget
   has_answer (Ring nodes rounds) bundle form = ringed nodes rounds bundle
 
--- ---- and no other, if it is no run
+-- ---- and no other, if the command is not `run`
 agrees : AnswerIsDecided → (command : Command) (bundle : List ℕ) → is_run command ≡ false → (s t : ℕ) (a b : List ℕ)
     → IsAnswerTo command bundle s a → IsAnswerTo command bundle t b
     → (s ≡ t) × (a ≡ b)

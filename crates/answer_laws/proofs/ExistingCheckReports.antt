@@ -12,7 +12,7 @@ use Rattle.bound_checker.specs.LeastMultiples.{greatest_rate, IsSuited, IsLeastM
 use Rattle.pals_report.specs.CheckReports.{rates, check_lines, IsCheckReport}
 use Rattle.design_laws.proofs.LeastNumbers.{IsLeast, HasLeast, least}
 
--- ---- what holds of all of a list can be told
+-- ---- a property of all elements of a list can be decided
 after : {X : Type 0} (P : X → Type 0) (x : X) (xs : List X) → P x → All P xs → (k : ℕ) (d : X) → k < length (x ∷ xs)
     → P (get_or (x ∷ xs) k d)
 after P x xs p rest zero d lt = p

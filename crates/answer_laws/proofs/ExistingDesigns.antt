@@ -17,7 +17,7 @@ use Rattle.answer_laws.specs.proof.BundleContents.{HasTree}
 use Rattle.answer_laws.specs.proof.ExistencePremises.{ExistenceLaws}
 use Rattle.answer_laws.proofs.ExistingTrees.{IsRefused, tree_or_refused}
 
--- a design that keeps the rules, and a scenario's bytes behind its text
+-- a design that satisfies the rules, and a scenario's bytes after its text
 pub record HasDesign (root bundle : List ℕ) : Type 0 where
   pub design : DesignParts
   pub bytes : List ℕ

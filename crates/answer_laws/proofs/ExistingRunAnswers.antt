@@ -1,4 +1,4 @@
--- A run of each scenario comes to its end, and an answer tells it.
+-- A run of each scenario reaches its end, and an answer reports it.
 use Rattle.std.proofs.Common.{◌≡◌, ◌⊎◌, inl, inr, ℕ, ◌<◌, ◌≤◌, Bool, List, [], ◌++◌, length, Option, Some, None, refl}
 use Rattle.std.proofs.Common.{ap, if◌then◌else◌}
 use Rattle.pals_base.specs.declared.limits.TheConstants.{ROUNDS}
@@ -47,7 +47,7 @@ begins : (run : Run) (clocks : Clocks) → AreClocksFor run.design clocks → Ha
 begins run Meet are = tt
 begins run (Lists clocks) are = fresh run clocks are
 
--- ---- what is told of a run at its end
+-- ---- the answer for a run at its end
 abbrev Tells : Run → Clocks → Bool → ℕ → List ℕ → Type 0
 Tells run clocks trace status text =
     ((status ≡ DONE) × IsCompletedRun run clocks trace text) ⊎ ((status ≡ STOPPED) × IsStoppedRun run clocks text)

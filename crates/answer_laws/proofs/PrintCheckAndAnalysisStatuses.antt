@@ -1,4 +1,4 @@
--- The statuses of the answers of `print`, `check` and the analyses, by what the bundle has.
+-- The statuses of the answers of `print`, `check` and the analyses, by the contents of the bundle.
 use Rattle.std.proofs.Common.{◌≡◌, inl, inr, ℕ, ◌<◌, List}
 use Rattle.pals_top.specs.RefusalAnswers.{IsBundleRefused}
 use Rattle.pals_top.specs.BundleScenarios.{HasScenarioFault}

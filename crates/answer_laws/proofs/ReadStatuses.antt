@@ -1,4 +1,4 @@
--- The statuses of a failed read and of too many bytes come exactly where the source failed or had too many: no
+-- The statuses of a failed read and of too many bytes occur if and only if the source failed or had too many bytes: no
 -- answer to a bundle has them.
 use Rattle.std.proofs.Common.{◌≡◌, ◌≢◌, ◌∙◌, ◌↔◌, inl, inr, ℕ, ◌-◌, ◌^◌, ◌<◌, List, length, true, false, Some, refl}
 use Rattle.std.proofs.Common.{sym, ap, arith}

@@ -38,7 +38,7 @@ use Rattle.answer_laws.proofs.UniqueRunEnds.{two_ended, completed_or_ended, goin
 -- ---- an answer to a bundle that means a design and a scenario
 module _ (one_design : OneDesign) (root bundle : List ℕ) (design : DesignParts) (scenario : Scenario) (trace : Bool)
     (means : HasScenario root bundle (command.Run root trace) design scenario) where
-  -- a code is too long, or it tells a run
+  -- a code is too long, or the answer reports a run
   told_or_long : (s : ℕ) (a : List ℕ) → IsExecutionAnswer (execution.Run trace) root bundle s a
       → IsCodeTooLong root bundle s a ⊎ (AreShort design × IsRunAnswer design scenario trace s a)
   told_or_long s a (inl x) = absurd (accepted_or_refused root bundle design means.bytes s a means.accepted x)
@@ -59,7 +59,7 @@ module _ (one_design : OneDesign) (root bundle : List ℕ) (design : DesignParts
   is_short s a x short =
       long_or_short one_design root bundle design means.bytes (long_code root bundle s a x) means.accepted short
 
-  -- where none is
+  -- if no code is too long
   told : (s : ℕ) (a : List ℕ) → AreShort design → IsExecutionAnswer (execution.Run trace) root bundle s a
       → IsRunAnswer design scenario trace s a
   told s a short x = elim (told_or_long s a x) [

@@ -1,4 +1,4 @@
--- For the law that Booleans of a scenario's runs are 0 or 1: all that a scenario gives fits.
+-- For the law that Booleans of a scenario's runs are 0 or 1: every value that a scenario gives has its type.
 use Rattle.std.proofs.Common.{◌≡◌, inl, inr, ℕ, List, All, codes, Option, Some, None, Result, Ok, subst}
 use Rattle.std.specs.Prelude.{find, not}
 use Rattle.serde_json.specs.Data.{Data}
@@ -24,7 +24,7 @@ use Rattle.scenario_json.specs.Scenarios.{plants_field, processors_field, fields
 use Rattle.answer_laws.proofs.InputValueKinds.{ListsFit, inputs_field_fit}
 use Rattle.answer_laws.proofs.ReplicaFaultValueKinds.{RoundFaultFits, faults_field_fit}
 
--- the values of its inputs, and those of its faults
+-- the values of the scenario's inputs and of its faults
 pub record ValuesFit (design : DesignParts) (scenario : Scenario) : Type 0 where
   pub inputs : ListsFit design scenario.env.lists
   pub faults : All (RoundFaultFits design) scenario.faults
@@ -41,7 +41,7 @@ then_keeps m go Q each = record { kept = λ s e. let a = ok_bind m go s e in (ea
 made_keeps : (made : Scenario) (Q : Scenario → Type 0) → Q made → Keeps (Ok made) Q
 made_keeps made Q holds = record { kept = λ s e. subst Q (ok_same made s e) holds }
 
--- what is read from each field on, the last one first
+-- the result of reading from each field on, the last one first
 abbrev made : ℕ → List (List PortValue) → List Event → Clocks → List (List ℕ) → List (List ℕ) → List PropertyValue
     → List NodeNo → List RoundFault → List Pair → List Processor → Scenario
 made n i v c l t p r f pl pr =

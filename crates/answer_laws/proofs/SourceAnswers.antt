@@ -1,4 +1,4 @@
--- What a call of a command answers to what its source tells.
+-- The answer of a call to the bytes that its source shows.
 use Rattle.std.proofs.Common.{◌≡◌, inl, inr, ℕ, ◌-◌, ◌^◌, ◌<◌, ◌≤◌, List, length, Some, refl, ap, subst}
 use Rattle.pals_base.specs.declared.limits.TheConstants.{BUNDLE_BYTES}
 use Rattle.pals_io.specs.SourcesAndSinks.{SourceView}

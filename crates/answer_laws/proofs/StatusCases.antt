@@ -2,8 +2,8 @@
 -- three.
 use Rattle.std.proofs.Common.{◌≡◌, ◌∙◌, ◌⊎◌, ◌↔◌, inl, inr, ℕ, ◌<◌, ◌≤◌, sym, arith}
 
--- The status by what is there: a text, a design and a scenario, each of which has the ones before it. Where all are
--- there the status is one of some.
+-- The status by the contents: a text, a design and a scenario, each of which requires the ones before it. With all
+-- three the status is one of several.
 abbrev pub StatusCase : (ℕ → Type 0) → ℕ → Type 0 → Type 0 → Type 0 → Type 0
 StatusCase Done s text design scenario =
     (Done s × scenario) ⊎ ((s ≡ 3) × (text → ⊥)) ⊎ ((s ≡ 4) × text × (design → ⊥)) ⊎ ((s ≡ 5) × design × (scenario → ⊥))
@@ -11,7 +11,7 @@ StatusCase Done s text design scenario =
 apart : (s m n : ℕ) → s ≡ m → s ≡ n → (m ≡ n → ⊥) → ⊥
 apart s m n e f differ = differ (sym e ∙ f)
 
--- 0 or 1 alone
+-- only 0 or 1
 abbrev pub IsSmall : (ℕ → Type 0) → Type 0
 IsSmall Done = (s : ℕ) → Done s → s < 2
 

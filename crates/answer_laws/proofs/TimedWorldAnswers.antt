@@ -28,7 +28,7 @@ module _ (run : Run) where
     before : IsWithin run w (take index events)
     fault_is : fault_of run (world_left run w (take index events)) event ≡ Some why
 
-  -- behind the first event
+  -- after the first event
   later : (w : World) (e : Event) (events : List Event) (index : ℕ) (why : EventFault)
       → FaultAt w (e ∷ events) (suc index) why
       → FaultAt (world_after run w e) events index why

@@ -1,4 +1,4 @@
--- A command that is no run has one answer to a bundle: one status, and one text.
+-- A command other than `run` has one answer to a bundle: one status and one text.
 use Rattle.std.proofs.Common.{◌≡◌, ◌∙◌, inl, inr, ℕ, true, false, List, sym, ap, subst}
 use Rattle.std.proofs.lemmas.Bool.{true≢false}
 use Rattle.pals_model.specs.declared.design.DesignParts.{DesignParts}
@@ -125,7 +125,7 @@ module _ (one_design : OneDesign) (one_fault : OneFault) (made : AnalysisPremise
     executions_agree not_run s t a b (inr x) (inl y) = absurd (answered_or_refused s t a b x y)
     executions_agree not_run s t a b (inr x) (inr y) = one_answered one_design what root bundle laws not_run s t a b x y
 
-  -- ---- each command that is no run; no other has an answer
+  -- ---- each command other than `run`; no other arguments have an answer
   pub answers_agree : (command : Command) (bundle : List ℕ) (s t : ℕ) (a b : List ℕ) → is_run command ≡ false
       → IsCommandAnswer command bundle s a
       → IsCommandAnswer command bundle t b → Agree s a t b

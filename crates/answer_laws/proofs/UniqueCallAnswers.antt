@@ -1,4 +1,4 @@
--- A call that is no run has one answer, which its words and what its source shows decide.
+-- A call other than `run` has one answer, a function of its arguments and of the bytes that its source shows.
 use Rattle.std.proofs.Common.{◌≡◌, ◌∙◌, inl, inr, ℕ, ◌+◌, ◌-◌, ◌^◌, ◌<◌, ◌≤◌, min, List, length, true, false, Option}
 use Rattle.std.proofs.Common.{Some, None, sym, ap, subst, arith}
 use Rattle.std.specs.Prelude.{IfSome}
@@ -11,7 +11,7 @@ use Rattle.pals_top.specs.ProgramInput.{Reading, HasRead}
 use Rattle.pals_top.specs.Answers.{reads_source, IsCommandAnswer, IsSourceAnswer, IsAnswer}
 use Rattle.pals_top.specs.proof.FlaggedAndRunCommands.{is_run}
 
--- a command that is no run and a bundle have one answer
+-- a command other than `run` and a bundle have one answer
 abbrev pub AnswerIsDecided : Type 0
 AnswerIsDecided =
     (command : Command) (bundle : List ℕ) (s t : ℕ) (a b : List ℕ) → is_run command ≡ false

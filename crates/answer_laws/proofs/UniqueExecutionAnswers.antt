@@ -1,4 +1,4 @@
--- A command that needs step codes and is no run has one answer to a bundle.
+-- A command other than `run` that needs step codes has one answer to a bundle.
 use Rattle.std.proofs.Common.{◌≡◌, ◌∙◌, ◌⊎◌, inl, inr, ℕ, ◌<◌, false, List, length, ◌++◌, sym, ap, subst, arith}
 use Rattle.std.proofs.lemmas.Bool.{cases_lt}
 use Rattle.pals_base.specs.declared.limits.TheConstants.{INSTRUCTIONS}
@@ -81,7 +81,7 @@ module _ (one_design : OneDesign) (root bundle : List ℕ) where
       x.text_is ∙ ((λ i. overlong_code_line (design i) (node i) (size i) ++ line_end) ∙ sym y.text_is)
 
 module _ (one_design : OneDesign) (what : Execution) (root bundle : List ℕ) where
-  -- ---- what is made
+  -- ---- the results
   pub executions_agree : ExecutionPremises → is_run (command_of what root) ≡ false → (s t : ℕ) (a b : List ℕ)
       → IsExecuted what root bundle s a → IsExecuted what root bundle t b → Agree s a t b
   executions_agree laws not_run s t a b x y =

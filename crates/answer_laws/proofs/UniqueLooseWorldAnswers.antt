@@ -30,18 +30,18 @@ EventsEnd run events (end.Stopped why) =
     (t : BusState) × (journal : List JournalEntry) × StepsToStop run events why t journal
 EventsEnd run events (end.Refused index fault) = StepsToFault run events index fault
 
--- the end, with what is left there
+-- the end, with the bus and journal at it
 abbrev Leaves : Run → List Event → LooseEnd → Type 0
 Leaves run events how = (t : BusState) × (journal : List JournalEntry) × StepsTo run events how t journal
 
--- where an event is not allowed, nothing is said of what is left
+-- if an event is not allowed, the bus and journal are unspecified
 abbrev leaves : (run : Run) (events : List Event) (how : LooseEnd) → EventsEnd run events how → Leaves run events how
 leaves run events end.All x = x
 leaves run events (end.Stopped why) x = x
 leaves run events (end.Refused index fault) x = (opening run, [], x)
 
 -- ---- answers
--- the text that tells how the events of a run end
+-- the text for the end of the events of a run
 abbrev told_at : Run → List Event → LooseEnd → BusState → List JournalEntry → List ℕ
 told_at run events end.All t journal = worldtext run.design run.env events
 told_at run events (end.Stopped why) t journal =
@@ -71,7 +71,7 @@ end_of design scenario s a (inr (inl x)) =
 end_of design scenario s a (inr (inr x)) =
     record { how = end.Refused x.1.index x.1.fault; ends = x.1.refused; status_is = x.0; text_is = x.1.text_is }
 
--- what is left there is told alike
+-- both report the bus and journal at the end
 told_alike : (run : Run) (events : List Event) (how : LooseEnd) (t u : BusState) (journal more : List JournalEntry)
     → LeaveTheSame how t u journal more
     → told_at run events how t journal ≡ told_at run events how u more

@@ -1,5 +1,5 @@
--- A run's answers tell one end: two ends are equal, and no run both has all its rounds and ends. In time no end is a
--- stop.
+-- A run's answers report one end: two ends are equal, and no run both has all its rounds and ends before. In time no
+-- end is a stop.
 use Rattle.std.proofs.Common.{◌≡◌, ◌∙◌, ◌⊎◌, inl, inr, ℕ, ◌<◌, Bool, true, false, List, length, ◌++◌, Some, None, sym}
 use Rattle.std.proofs.Common.{ap, arith}
 use Rattle.std.proofs.lemmas.Bool.{cases_lt}
@@ -44,7 +44,7 @@ first_of run Meet s node goal agree ends before = ends
 first_of run (Lists lists) s node goal agree ends before =
     (record { within = is_there run s node ends.0.0 agree ends.0.1; ended = ends.0; before = before }, ends.1)
 
--- nothing does where all nodes are done
+-- no list ends if all nodes are done
 done_at_end : (run : Run) (later : Clocks) (s : BusState) → AllDone run s → AllAtEnd run later s
 done_at_end run Meet s done = done
 done_at_end run (Lists lists) s done = λ node within. inl (done node within)
@@ -96,7 +96,7 @@ module _ (run : Run) (clocks : Clocks) (rules : IsRunOf run) where
       let both : None ≡ Some x.why = sym going ∙ x.stop in
       absurd (cc)
 
-  -- no list has ended where each has a pick for its last target
+  -- no list has ended if each has a pick for its last target
   pub none_ended : PickedAreDone → AllPicked run clocks → (a : List ℕ) → IsEndedRun run clocks a → ⊥
   none_ended are picked a x =
       let done =

@@ -19,11 +19,11 @@ use Rattle.pals_top.specs.TimedWorlds.{world_of}
 use Rattle.answer_laws.proofs.TimedWorldAnswers.{one_timed}
 use Rattle.answer_laws.proofs.UniqueLooseWorldAnswers.{end_of, one_world}
 
--- two answers are of one status, and have one text
+-- two answers have the same status and the same text
 abbrev pub Agree : ℕ → List ℕ → ℕ → List ℕ → Type 0
 Agree s a t b = (s ≡ t) × (a ≡ b)
 
--- both are told by equations
+-- both are given by equations
 by_equations : (s t n : ℕ) (a b text : List ℕ) → (s ≡ n) × (a ≡ text) → (t ≡ n) × (b ≡ text) → Agree s a t b
 by_equations s t n a b text x y = (x.0 ∙ sym y.0, x.1 ∙ sym y.1)
 

@@ -12,9 +12,9 @@ ghost use Rattle.answer_laws.specs.proof.BundleContents.{MeansDesign};
 
 use design_laws::packages::designs_of_texts_keep_their_rules;
 
-/// The design that a bundle means keeps the rules of designs, so its period is at least the least one
-/// that the bound allows. A bundle means a design where its design text has a tree, the package has an
-/// instance below the root, and the list of all that is wrong with that instance is empty.
+/// The design that a bundle means satisfies the rules of designs, so its period is at least the minimum
+/// period of the bound. A bundle means a design if its design text has a tree, the package has an instance
+/// below the root, and the list of the instance's violations is empty.
 pub fn accepted_designs_keep_their_rules()
     ensures rules { (root bundle : List ℕ) (design : DesignParts) (scenario : List ℕ)
         → IsAccepted root bundle design scenario → IsDesign design }

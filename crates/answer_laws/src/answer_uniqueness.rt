@@ -1,5 +1,5 @@
-//! A bundle and a command that is no run have one answer, and so has a call. Each law is the contract of a function
-//! that does nothing.
+//! A bundle and a command other than `run` have one answer, and so has a call. Each law is the contract of a function
+//! with an empty body.
 ghost use Rattle.std.specs.Prelude.{◌≡◌, ◌<◌, ◌-◌, ◌^◌, ℕ, false, List, Option, Some, IfSome};
 ghost use Rattle.pals_runs.specs.declared.commands.Command.{Command};
 ghost use Rattle.pals_top.specs.Answers.{IsCommandAnswer, IsAnswer};
@@ -14,8 +14,8 @@ use plant_fuse::laws::one_report;
 use round_budget::laws::text_is_one;
 use scenario_laws::plant_laws::pairs_can_be_fused;
 
-/// The cases of an answer exclude each other, and each has one text: so each status comes exactly where
-/// its case does, and the bundle decides what a command that is no run answers to it, byte for byte.
+/// The cases of an answer exclude each other, and each has one text. So each status occurs if and only if
+/// its case does, and the bundle determines the answer of every command other than `run`, byte for byte.
 pub fn answer_is_decided()
     ensures { (command : Command) (bundle : List ℕ) (s t : ℕ) (a b : List ℕ) → is_run command ≡ false
         → IsCommandAnswer command bundle s a → IsCommandAnswer command bundle t b → (s ≡ t) × (a ≡ b) }
@@ -29,8 +29,8 @@ pub fn answer_is_decided()
     text_is_one();
 }
 
-/// What the program's source shows decides the answer of a call, with the words, if these are no run:
-/// where the source tells what is left, and its count of failed calls can still rise.
+/// The bytes that the program's source shows and the arguments determine the answer of a call other than
+/// `run`, if the source shows its remaining bytes and its count of failed calls can still rise.
 pub fn answer_of_a_call_is_decided()
     ensures { (command : Option Command) (seen : Reading) (left : List ℕ) (s t : ℕ) (a b : List ℕ)
         → IfSome command (λ c. is_run c ≡ false) → seen.before.left ≡ Some left → seen.before.faults < 2 ^ 64 - 1

@@ -7,10 +7,10 @@ ghost use Rattle.answer_laws.specs.proof.BooleansInRuns.{FusedOfScenariosFit};
 use crate::accepted_designs::accepted_designs_keep_their_rules;
 use scenario_laws::plant_laws::pairs_can_be_fused;
 
-/// Where a bundle means a design and a scenario, each Boolean of each round is 0 or 1: what the scenario
-/// gives, for root in ports and as faults, each variable, each held input, each place of a message and
-/// each output, of the composition, of `vote` and of `fuse`, and in each state of the bus. So `true` and
-/// `false` in a report say all that there is.
+/// If a bundle means a design and a scenario, each Boolean of each round is 0 or 1: the scenario's values
+/// for root in ports and faults, each variable, each held input, each place of a message and each output,
+/// of the composition, of `vote` and of `fuse`, and in each state of the bus. So `true` and `false` in a
+/// report are the only two values.
 pub fn booleans_are_two_values()
     ensures given { ScenariosFit }
     ensures states { StatesOfScenariosFit }

@@ -16,7 +16,7 @@ ghost use Rattle.pals_top.specs.RefusalAnswers.{IsBundleRefused};
 use design_laws::packages::one_design;
 use design_laws::unique_faults::one_fault;
 
-/// A bundle is divided by one of its lines, in one way, or has no such line.
+/// At most one line divides a bundle.
 pub fn one_split()
     ensures one { (bundle a b s t : List ℕ) → IsSplit bundle a s → IsSplit bundle b t → (a ≡ b) × (s ≡ t) }
     ensures divided { (bundle text scenario : List ℕ) → IsSplit bundle text scenario → HasNoDivider bundle → ⊥ }
@@ -38,8 +38,8 @@ pub fn accepted_is_not_refused()
         → IsAccepted root bundle design scenario → IsBundleRefused root bundle status text → ⊥ }
 {}
 
-/// Of a package that is refused, either its first fault is named or all that is wrong with its instance,
-/// and there is one text that does so.
+/// For a rejected package, the answer names either its first fault or all violations of its instance, and
+/// exactly one text does so.
 pub fn one_refusal()
     ensures violations { (text : List ℕ) (tree : PackageTree ℕ) (root a b : List ℕ)
         → HasViolations text tree root a → HasViolations text tree root b → a ≡ b }

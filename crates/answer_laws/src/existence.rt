@@ -1,5 +1,5 @@
-//! Each bundle has an answer of each command, and one of each that is no run. Each law is the contract of a function
-//! that does nothing.
+//! Each bundle has an answer of each command, and one of each command other than `run`. Each law is the contract of a
+//! function with an empty body.
 ghost use Rattle.answer_laws.specs.proof.ExistingAnswers.{EachBundleHasAnAnswer, EachBundleHasOneAnswer};
 
 use crate::answer_uniqueness::answer_is_decided;
@@ -16,9 +16,9 @@ use scenario_laws::scenario_meaning::scenario_or_fault;
 use scenario_laws::scenario_suitability::scenarios_suit;
 use step_compiler::laws::layout_is_one;
 
-/// Each command that has a form has an answer to each bundle, whatever the root: there are a status and
-/// a text that the theorem on a call of the program allows. No answer to a bundle says that there was
-/// not enough memory, or that a call of the source or the sink failed.
+/// Each valid command has an answer to each bundle, whatever the root: there are a status and a text that
+/// the theorem on a call of the program allows. No answer to a bundle reports that memory ran out, or that
+/// a call of the source or the sink failed.
 pub fn each_bundle_has_an_answer()
     ensures { EachBundleHasAnAnswer }
 {
@@ -38,8 +38,7 @@ pub fn each_bundle_has_an_answer()
     each_run_ends();
 }
 
-/// Each command that has a form and is no run has exactly one answer to each bundle: one status and one
-/// text.
+/// Each valid command other than `run` has exactly one answer to each bundle: one status and one text.
 pub fn exactly_one_answer()
     ensures { EachBundleHasOneAnswer }
 {

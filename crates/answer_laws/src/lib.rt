@@ -1,5 +1,5 @@
-//! Why a bundle has one answer: what it means is one, and the cases of an answer exclude each other. And what holds
-//! of the several answers of a run, and of the values that rounds have.
+//! Why a bundle has one answer: it has one meaning, and the cases of an answer exclude each other. Also laws of
+//! the several answers of a run, and of the values in rounds.
 #![tactic(auto)]
 
 pub mod accepted_designs;

@@ -13,7 +13,7 @@ use design_laws::packages::one_design;
 use run_laws::laws::runs_in_time;
 use scenario_laws::scenario_suitability::scenarios_suit;
 
-/// `run` answers 0, 6 or 7 exactly where the bundle means a scenario and no step code is too long.
+/// `run` returns 0, 6 or 7 if and only if the bundle means a scenario and no step code is too long.
 pub fn statuses_of_runs()
     ensures { (root bundle : List ℕ) (trace : Bool) (status : ℕ) (text : List ℕ)
         → IsExecutionAnswer (execution.Run trace) root bundle status text
@@ -22,10 +22,10 @@ pub fn statuses_of_runs()
     one_design();
 }
 
-/// Where the bundle means a scenario whose run is in time, `run` has one answer without a trace, and never
-/// 6. Where the picks of each node reach its last target, as where nodes meet, and no step code is too
-/// long, it answers 0 and what `sync` answers, in a trace with a journal behind. With nodes that meet and
-/// delays within the bounds it always does.
+/// If the bundle means a scenario whose run is in time, `run` has one answer without a trace, and never 6.
+/// If also the picks of each node reach its last target, as they do in virtual time, and no step code is
+/// too long, it returns 0 and the output of `sync`, followed by the journal in a trace. In virtual time
+/// with delays within the bounds it always does.
 pub fn runs_in_time_are_synchronous()
     ensures one { OneAnswerInTime }
     ensures going { NoneIsStopped }
@@ -39,8 +39,8 @@ pub fn runs_in_time_are_synchronous()
     runs_in_time();
 }
 
-/// What `run --trace` writes at status 0, and what `run` writes at status 6, is a sound trace: the
-/// verdict on its lines says so, with as many rows, and with the stop that ended it, which is the last line.
+/// The output of `run --trace` at status 0, and of `run` at status 6, is a sound trace: the verdict on its
+/// lines has as many rows, and the stop that ended the run, which is the last line.
 pub fn traces_of_runs_are_sound()
     ensures done { DoneTracesAreSound }
     ensures stopped { StoppedTracesAreSound }

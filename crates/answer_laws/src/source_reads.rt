@@ -1,5 +1,5 @@
-//! What a call of the program answers to what its source tells. Each law is the contract of a function
-//! that does nothing.
+//! The answer of a call to the bytes that its source shows. Each law is the contract of a function with an
+//! empty body.
 ghost use Rattle.std.specs.Prelude.{◌≡◌, ◌↔◌, ◌<◌, ◌≤◌, ◌-◌, ◌^◌, ℕ, List, Some, true, length};
 ghost use Rattle.pals_base.specs.declared.limits.TheConstants.{BUNDLE_BYTES};
 ghost use Rattle.pals_runs.specs.declared.commands.Command.{Command};
@@ -7,10 +7,10 @@ ghost use Rattle.pals_top.specs.CommonAnswerTexts.{read_fault_line, too_long_lin
 ghost use Rattle.pals_top.specs.Answers.{reads_source, IsCommandAnswer, IsAnswer};
 ghost use Rattle.pals_top.specs.ProgramInput.{Reading};
 
-/// Of words that are a form and read a bundle: where the source tells what is left, and its count of failed calls can
-/// still rise, a call in which no read failed answers exactly these bytes, if they are no more than a
-/// bundle may have, and else says that they are too many, at status 12. A call in which a read failed
-/// says so, at status 9.
+/// The arguments are valid and read a bundle. If the source shows its remaining bytes, and its count of failed calls
+/// can still rise, a call in which no read failed answers exactly these bytes, if they fit the limit of a
+/// bundle, and otherwise reports at status 12 that they are too many. A call in which a read failed reports
+/// this at status 9.
 pub fn calls_answer_their_bytes()
     ensures read { (command : Command) (seen : Reading) (left : List ℕ) (status : ℕ) (text : List ℕ)
         → reads_source command ≡ true
@@ -27,8 +27,8 @@ pub fn calls_answer_their_bytes()
         → IsAnswer (Some command) seen status text → (status ≡ 9) × (text ≡ read_fault_line) }
 {}
 
-/// The status of such a call is 9 exactly where a read failed, and 12 exactly where no read failed
-/// and more bytes were left than a bundle may have.
+/// The status of such a call is 9 if and only if a read failed, and 12 if and only if no read failed and
+/// more bytes remained than a bundle may have.
 pub fn statuses_of_calls()
     ensures failed { (command : Command) (seen : Reading) (status : ℕ) (text : List ℕ) → reads_source command ≡ true
         → seen.before.faults < 2 ^ 64 - 1

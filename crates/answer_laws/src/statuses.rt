@@ -15,7 +15,7 @@ use design_laws::packages::one_design;
 use loose_world::world_laws::one_end;
 use round_budget::laws::text_is_one;
 
-/// `print` answers 0 exactly where the bundle has a design text of the grammar, and 3 exactly where it has none.
+/// `print` returns 0 if the bundle has a design text of the grammar, and 3 otherwise.
 pub fn statuses_of_print()
     ensures done { (bundle : List ℕ) (status : ℕ) (text : List ℕ) → IsPrintAnswer bundle status text
         → (status ≡ 0) ↔ HasTree bundle }
@@ -23,8 +23,8 @@ pub fn statuses_of_print()
         → (status ≡ 3) ↔ (HasTree bundle → ⊥) }
 {}
 
-/// `check` answers 0 exactly where the bundle means a design, 3 exactly where it has no design text of
-/// the grammar, and 4 exactly where it has one and means no design.
+/// `check` returns 0 if and only if the bundle means a design, 3 if and only if it has no design text of
+/// the grammar, and 4 if and only if it has such a text and means no design.
 pub fn statuses_of_check()
     ensures done { (root bundle : List ℕ) (status : ℕ) (text : List ℕ) → IsCheckAnswer root bundle status text
         → (status ≡ 0) ↔ MeansDesign root bundle }
@@ -34,8 +34,8 @@ pub fn statuses_of_check()
         → (status ≡ 4) ↔ (HasTree bundle × (MeansDesign root bundle → ⊥)) }
 {}
 
-/// A command that needs a design and a scenario answers 0 or 1 exactly where the bundle means both, 3
-/// and 4 as `check` does, and 5 exactly where the bundle means a design and no scenario.
+/// A command that needs a design and a scenario returns 0 or 1 if and only if the bundle means both, 3 and
+/// 4 as `check` does, and 5 if and only if the bundle means a design and no scenario.
 pub fn statuses_of_analyses()
     ensures done { (what : Analysis) (root bundle : List ℕ) (status : ℕ) (text : List ℕ)
         → IsAnalysisAnswer what root bundle status text
@@ -53,10 +53,10 @@ pub fn statuses_of_analyses()
     one_design();
 }
 
-/// A command that needs step codes answers 3 and 4 as `check` does, and 13 exactly where the bundle
-/// means a design with a step code that is too long. Of a design without one it answers 5 exactly
-/// where the bundle has no scenario for it, or what is made of the scenario has this status; and a
-/// command that is no run answers 0, 1 or 6 exactly where what is made of the scenario has this status.
+/// A command that needs step codes returns 3 and 4 as `check` does, and 13 if and only if the bundle means
+/// a design with a step code that is too long. For a design without such a code it returns 5 if and only if
+/// the bundle has no scenario for it, or if the result for the scenario has this status. A command other
+/// than `run` returns 0, 1 or 6 if and only if the result for the scenario has this status.
 pub fn statuses_of_executions()
     ensures text { (what : Execution) (root bundle : List ℕ) (status : ℕ) (text : List ℕ)
         → IsExecutionAnswer what root bundle status text

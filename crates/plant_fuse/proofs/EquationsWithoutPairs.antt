@@ -1,4 +1,4 @@
--- Without pairs the equations of fused composition are those of the composition: the claim WithoutPairs.
+-- Without pairs the equations of fused composition are the equations of the composition: the claim WithoutPairs.
 use Rattle.std.proofs.Common.{◌≡◌, ◌∙◌, ℕ, zero, suc, ◌+◌, ◌-◌, ◌*◌, ◌/◌, ◌%◌, ◌<◌, ◌≤◌, List, [], ◌∷◌, ◌++◌, length}
 use Rattle.std.proofs.Common.{map, Option, Some, None, slice_get, slice_index_or, refl, sym, ap, ap₂, subst, arith}
 use Rattle.std.proofs.lemmas.Nat.{mul-le, div-mul-add, mod-mul-add}
@@ -96,7 +96,7 @@ table_is f from (x ∷ xs) (y ∷ ys) d size same =
 pub no_pairs : (design : DesignParts) → ArePairs design []
 no_pairs design = record { each = All-nil (IsPair design); apart = λ i j d less within. absurd (omega arith) }
 
--- ---- what is read
+-- ---- the inputs
 value_alone : (design : DesignParts) (env : Env) (ins : Inputs) (rate step : ℕ) (s : PortSource)
     → value_read design [] env ins rate step s ≡ from_round design [] env ins rate step s
 value_alone design env ins rate step source.Nothing = refl
@@ -189,7 +189,7 @@ module _ (design : DesignParts) (env : Env) (rounds : ℕ) (ins : Inputs) (sound
         ∙ ap (λ (f : Frame). frame_after c.behaviour f own_feed) (frames node c is_c)
         ∙ sym (state_goes_on design env node round c is_c)
 
-    -- what is left in the round
+    -- the outputs of the round
     abbrev pub left : List (List PortValue)
     left = outputs c.behaviour (state design env node round) own_feed
 

@@ -10,7 +10,7 @@ use Rattle.plant_fuse.proofs.StepDependencies.{Agree, same_reads, next_agree}
 
 module _ (design : DesignParts) (pairs : List Pair) (env : Env) (rounds : ℕ) (sound : IsDesign design)
     (are : ArePairs design pairs) where
-  -- ---- one that there is: the inputs read again and again
+  -- ---- existence: the inputs, read again and again
   again : ℕ → Inputs
   again zero = reads design pairs env rounds []
   again (suc m) = reads design pairs env rounds (again m)

@@ -1,5 +1,5 @@
--- What is made round by round stands, after any number of rounds, where the solution for these rounds does: the
--- claim RoundsFollow.
+-- Computing one round after another gives, after any number of rounds, the configuration of the solution for these
+-- rounds: the claim RoundsFollow.
 use Rattle.std.proofs.Common.{◌≡◌, ◌∙◌, ℕ, zero, suc, ◌+◌, ◌*◌, List, [], ◌∷◌, map, refl, sym, ap, ap₂, subst, arith}
 use Rattle.pals_base.specs.declared.frames.Frame.{Frame}
 use Rattle.pals_base.specs.SingleStep.{initial}

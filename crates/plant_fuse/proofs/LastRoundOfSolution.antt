@@ -1,5 +1,5 @@
--- What stands after one round more of a solution comes from what stood before by one round of the equations: the
--- claim RoundsGoOn.
+-- The configuration after one more round of a solution follows from the configuration before it by one round of the
+-- equations: the claim RoundsGoOn.
 use Rattle.std.proofs.Common.{◌≡◌, ◌∙◌, ℕ, zero, suc, ◌+◌, ◌-◌, ◌*◌, ◌/◌, ◌%◌, ◌<◌, Bool, true, false, List, [], ◌∷◌}
 use Rattle.std.proofs.Common.{length, map, take, drop, replicate, Option, Some, None, slice_get, slice_index_or, refl}
 use Rattle.std.proofs.Common.{sym, ap, ap₂, subst, arith}
@@ -124,7 +124,7 @@ module _ (design : DesignParts) (pairs : List Pair) (env : Env) (rounds : ℕ) (
       same_messages design pairs sound are env (rounds * 128) first ins (agree design pairs env rounds ins sound are is)
       rounds (omega arith)
 
-  -- ---- what is left
+  -- ---- the outputs
   left_by_o : (node port i : ℕ) (o : Option Component) → slice_get design.components node ≡ o
       → slice_index_or (slice_index_or (outputs_in o (inputs_to ins node)) (rounds * rate_in o + i) []) port Absent
       ≡ slice_index_or (slice_index_or (outputs_from o (frame_at before node) (inputs_to vectors node)) i
@@ -153,7 +153,7 @@ module _ (design : DesignParts) (pairs : List Pair) (env : Env) (rounds : ℕ) (
   same_left node port i place at =
       ap (left_by design ins node port) at ∙ left_by_o node port i (slice_get design.components node) refl
 
-  -- ---- what is read
+  -- ---- the inputs
   module _ (node : ℕ) (c : Component) (is_c : slice_get design.components node ≡ Some c) (i : ℕ)
       (below : i < c.rate) where
     abbrev step : ℕ
@@ -271,7 +271,7 @@ module _ (design : DesignParts) (pairs : List Pair) (env : Env) (rounds : ℕ) (
       same_vector node c is_c i below
       ∙ ap (round_vector design pairs (values_at env rounds) before vectors node c) same))
 
-  -- ---- what stands after it
+  -- ---- the configuration after the round
   pub same_tuple : (node port : ℕ)
       → round_tuple design ins node port rounds ≡ tuple_from design before vectors node port
   same_tuple node port =

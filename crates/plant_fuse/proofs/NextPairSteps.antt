@@ -1,4 +1,4 @@
--- One step more of a plant and one of its controller, each beside the rows that the other has left so far.
+-- One more step of a plant and one of its controller, each with the rows that the other has produced so far.
 use Rattle.std.proofs.Common.{◌≡◌, ◌∙◌, ℕ, zero, suc, ◌+◌, ◌≤◌, List, [], ◌∷◌, ◌++◌, length, map, take, Option, Some}
 use Rattle.std.proofs.Common.{refl, sym, ap, ap₂, subst, arith}
 use Rattle.std.proofs.lemmas.List.{get_or_append_left, get_or_push, get_or-take}

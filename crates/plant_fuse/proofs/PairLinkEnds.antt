@@ -61,7 +61,7 @@ module _ (design : DesignParts) (pairs : List Pair) (are : ArePairs design pairs
           get_same : (n : ℕ) → n < length pairs → (e : Pair) → slice_index_or pairs n e ≡ slice_index_or pairs n pair
           get_same n low e = get_or_default pairs n e pair low
 
-  -- a link forth goes to a controller, from a plant of its rate that is none
+  -- a link forth goes to a controller, from a plant of the same rate that is not a controller
   pub record IsForth (link : Link) : Type 0 where
     pub rates : rate_of design link.source.0 ≡ rate_of design link.target.0
     pub plant : is_controller pairs link.source.0 ≡ false

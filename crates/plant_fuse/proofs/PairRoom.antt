@@ -15,7 +15,7 @@ use Rattle.plant_fuse.specs.proof.RoundWork.{IsPaired}
 abbrev no_part : Part
 no_part = record { frame = no_frame; outs = [] }
 
--- what stands in the lists fits its steps
+-- the elements of the lists fit its steps
 pub paired_fits : (design : DesignParts) (parts next : List Part) (stages : List Stage) (node partner : ℕ)
     (side : PairedComponent) (stage : Stage) (part : Part)
     → IsPaired design parts node partner side

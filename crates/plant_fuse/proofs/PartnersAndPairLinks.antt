@@ -1,4 +1,4 @@
--- The partner of each component of a pair, that pairs share no component, and which links stand inside a pair.
+-- The partner of each component of a pair, that pairs share no component, and which links are inside a pair.
 use Rattle.std.proofs.Common.{◌≡◌, ◌≢◌, ◌∙◌, ◌⊎◌, inl, inr, ℕ, zero, suc, ◌<◌, Bool, true, false, nat_eq, List, [], ◌∷◌}
 use Rattle.std.proofs.Common.{length, Option, Some, None, slice_get, slice_index_or, refl, sym, ap, subst, subst₂}
 use Rattle.std.specs.Prelude.{if◌then◌else◌, ◌&&◌}
@@ -13,7 +13,7 @@ use Rattle.plant_fuse.specs.FusedComposition.{goes, is_to_plant, is_to_controlle
 use Rattle.plant_fuse.specs.proof.PartnersAndPairLinks.{partner_of, is_inside}
 use Rattle.plant_fuse.proofs.PairLinkEnds.{goes_parts}
 
--- ---- one that stands in no pair
+-- ---- a component in no pair
 none_by : (pair : Pair) (rest : Option NodeNo) (a b : Bool)
     → (if a then Some pair.controller else if b then Some pair.plant else rest) ≡ None
     → (a ≡ false) × ((b ≡ false) × (rest ≡ None))
@@ -36,7 +36,7 @@ none_apart (first ∷ pairs) node (suc k) pair none is =
     none_by first (partner_of pairs node) (nat_eq first.plant.0 node) (nat_eq first.controller.0 node) none in
     none_apart pairs node k pair parts.1.1 is
 
--- ---- one that stands in a pair
+-- ---- a component in a pair
 pub record StandsIn (pairs : List Pair) (node : ℕ) (partner : NodeNo) : Type 0 where
   pub k : ℕ
   pub pair : Pair
@@ -275,7 +275,7 @@ module _ (design : DesignParts) (pairs : List Pair) (are : ArePairs design pairs
               ∙ sym other
         ]
 
-  -- a link to one that stands in no pair is outside all
+  -- a link to a component in no pair is outside all pairs
   pub to_alone_back : (node : ℕ) (link : Link) → partner_of pairs node ≡ None → link.target.0 ≡ node
       → is_to_plant pairs link ≡ false
   to_alone_back node link none target =
@@ -292,7 +292,7 @@ module _ (design : DesignParts) (pairs : List Pair) (are : ArePairs design pairs
       (none_apart pairs node goes_there.k goes_there.pair none goes_there.is_at).1
       (sym goes_there.target ∙ target)))
 
-  -- ---- a link goes to the partner of its source exactly where it is inside a pair
+  -- ---- a link goes to the partner of its source if and only if it is inside a pair
   inside_by : (link : Link) (o : Option NodeNo) → partner_of pairs link.source.0 ≡ o → is_inside o link ≡ true
       → (is_to_plant pairs link ≡ true) ⊎ (is_to_controller pairs link ≡ true)
   inside_by link None at is = absurd (cc)

@@ -1,5 +1,4 @@
--- After the run of a round, the frames, messages and parts of the fused product are those that the equations of the
--- round give.
+-- After a round, the frames, messages and parts of the fused product are the solution of the round's equations.
 use Rattle.std.proofs.Common.{◌≡◌, ◌∙◌, ◌⊎◌, inl, inr, ℕ, ◌+◌, Bool, true, false, List, [], ◌∷◌, length, map, Some}
 use Rattle.std.proofs.Common.{slice_get, slice_index_or, All, refl, sym, ap, ap₂, arith}
 use Rattle.std.specs.Prelude.{if◌then◌else◌}

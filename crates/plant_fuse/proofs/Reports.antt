@@ -34,7 +34,7 @@ module _ (design : DesignParts) (pairs : List Pair) (env : Env) (rounds : ℕ) (
   abbrev first : Inputs
   first = first_rounds design rounds ins
 
-  -- the rows of fewer rounds are those of the solution for these
+  -- the rows of fewer rounds are the rows of the solution for these rounds
   earlier_rows : fused_report design first rounds ≡ fused_report design ins rounds
   earlier_rows =
       ap text_of

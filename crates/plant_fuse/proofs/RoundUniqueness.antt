@@ -24,7 +24,7 @@ use Rattle.plant_fuse.proofs.StepRanks.{is_controller, bump}
 use Rattle.plant_fuse.proofs.PairLinkEnds.{forth_is, read_from_target}
 use Rattle.plant_fuse.proofs.StepDependencies.{same_output}
 
--- the place of a step in its round: a controller's behind its plant's
+-- the position of a step in its round: a controller's follows its plant's
 abbrev place_in : List Pair → ℕ → ℕ → ℕ
 place_in pairs node step = 2 * step + bump (is_controller pairs node)
 

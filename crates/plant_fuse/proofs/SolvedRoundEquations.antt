@@ -1,5 +1,5 @@
--- After the run of a round, what its steps have read solves the equations of the round, and so do the rows and parts
--- of each component.
+-- After a round, the inputs of its steps solve the equations of the round, and so do the rows and parts of each
+-- component.
 use Rattle.std.proofs.Common.{◌≡◌, ◌∙◌, inl, inr, ℕ, zero, suc, ◌-◌, ◌<◌, ◌≤◌, Bool, true, false, nat_eq, List, [], ◌∷◌}
 use Rattle.std.proofs.Common.{length, map, Option, Some, None, slice_get, slice_index_or, refl, sym, ap, ap₂, subst}
 use Rattle.std.proofs.Common.{arith}
@@ -43,7 +43,7 @@ use Rattle.plant_fuse.proofs.PairLinkEnds.{read_from_target}
 use Rattle.plant_fuse.proofs.PartnersAndPairLinks.{some_stands, pair_at, to_plant_forth, to_plant_back, to_controller_back}
 use Rattle.plant_fuse.proofs.PartnersAndPairLinks.{to_controller_forth, to_alone_back, to_alone_forth}
 
--- ---- reads hang on what is left alone
+-- ---- inputs depend only on outputs
 module _ (design : DesignParts) (pairs : List Pair) (values : List PortValue) (before : Configuration)
     (left other : LeftValues) (same : (node port step : ℕ) → left node port step ≡ other node port step) where
   before_same : (number : ℕ) (link : Link) (step : ℕ)
@@ -107,7 +107,7 @@ module _ (round : RoundInputs) (pairs : List Pair) (are : ArePairs round.design.
   abbrev pub all_read : Inputs
   all_read = table vectors_of 0 design.components
 
-  -- ---- the steps of a component that stands in no pair
+  -- ---- the steps of a component in no pair
   module _ (node : ℕ) (c : Component) (none : partner_of pairs node ≡ None) where
     alone_link : (step number : ℕ) (o : Option Link) → ((link : Link) → o ≡ Some link → link.target.0 ≡ node)
         → slice_index_or (brought round c.rate (source.Link number)) step Absent
@@ -342,7 +342,7 @@ module _ (round : RoundInputs) (pairs : List Pair) (are : ArePairs round.design.
       by None none = left_alone node c is_c none
       by (Some partner) some = left_by_pair node c partner is_c some
 
-  -- ---- so what is read is what is to be read
+  -- ---- so the inputs are the inputs of the equations
   pub inputs_at : (node : ℕ) (c : Component) → slice_get design.components node ≡ Some c
       → inputs_to all_read node ≡ vectors_of node c
   inputs_at node c is_c = table_at vectors_of 0 design.components node node c [] (omega arith) is_c
@@ -397,7 +397,7 @@ module _ (round : RoundInputs) (pairs : List Pair) (are : ArePairs round.design.
         reads_same design pairs round.values.now before left (left_in design before all_read) left_is c.rate step
         (sources_of design node c)))
 
-    -- what stands at each component
+    -- the rows and the part of each component
     pub rows_at_node : (node : ℕ) (c : Component) → slice_get design.components node ≡ Some c
         → rows node ≡ outputs c.behaviour (frame_at before node) (inputs_to all_read node)
     rows_at_node node c is_c =

@@ -1,4 +1,4 @@
--- States that follow one another, one round each, stand where the solution does: the claim StatesFollow.
+-- States that follow one another, one round each, agree with the solution: the claim StatesFollow.
 use Rattle.std.proofs.Common.{◌≡◌, ◌∙◌, inl, inr, ℕ, zero, suc, ◌<◌, List, sym, ap, ap₂, subst, arith}
 use Rattle.std.proofs.lemmas.Bool.{cases_lt}
 use Rattle.pals_model.specs.declared.design.DesignParts.{DesignParts}
@@ -20,7 +20,7 @@ use Rattle.plant_fuse.proofs.RoundUniqueness.{round_is_one}
 use Rattle.plant_fuse.proofs.IteratedRounds.{opens}
 use Rattle.plant_fuse.proofs.SolutionParts.{last_parts, earlier_parts}
 
--- a state of a design and its pairs stands where a solution does
+-- a state of a design and its pairs agrees with a solution
 pub record StandsAt (design : DesignParts) (pairs : List Pair) (rounds : ℕ) (ins : Inputs)
     (state : FuseState) : Type 0 where
   pub design_is : state.design ≡ design

@@ -34,7 +34,7 @@ use Rattle.plant_fuse.proofs.StepRanks.{rank_from_round, rank_of_rounds}
 use Rattle.plant_fuse.proofs.PairLinkEnds.{back_rates, forth_is, read_from_target}
 
 -- ---- outputs
--- what is left in a step hangs on the vectors up to it
+-- the output of a step depends on the vectors up to it
 pub same_output : (b : BehaviourParts) (frame : Frame) (xs ys : List (List PortValue)) (step : ℕ)
     → ((k : ℕ) → k ≤ step → slice_get xs k ≡ slice_get ys k)
     → slice_index_or (outputs b frame xs) step [] ≡ slice_index_or (outputs b frame ys) step []
@@ -167,7 +167,7 @@ module _ (design : DesignParts) (pairs : List Pair) (sound : IsDesign design) (a
         → vector_of design pairs env v node c step ≡ vector_of design pairs env w node c step
     vectors_same node c is step low = same_vector node c is step low
 
-    -- where all steps of the first rounds are of lower rank, all that they read is the same
+    -- if all steps of the first rounds have a lower rank, all their inputs are the same
     pub same_reads : (rounds : ℕ) → rounds * 128 ≤ m → reads design pairs env rounds v ≡ reads design pairs env rounds w
     unfolding reads
     same_reads rounds past =

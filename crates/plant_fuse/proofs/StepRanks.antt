@@ -1,4 +1,4 @@
--- The rank of each step of a round: an order in which the steps can be made, each after those that it reads from.
+-- The rank of each step of a round: an order in which every step follows the steps that it reads from.
 use Rattle.std.proofs.Common.{◌≡◌, inl, inr, ℕ, ◌+◌, ◌*◌, ◌/◌, ◌%◌, ◌<◌, ◌≤◌, Bool, true, false, List, Option, Some}
 use Rattle.std.proofs.Common.{None, slice_get, refl, ap, arith}
 use Rattle.std.specs.List.{list_any}

@@ -56,7 +56,7 @@ module _ {X : Type 0} (old new last : List X) (i j : ℕ) (was x y : X) (taken :
       ∙ ap (λ zs. slice_get zs k) taken.now_is
       ∙ get_set_other old i k taken.other not_i
 
-  -- what is seen of the elements stays where it is the same of both
+  -- a property of the elements stays if it is the same for both
   module _ {S : Type 0} (size : X → S) (second : X) (at_second : slice_get old j ≡ Some second)
       (size_x : size x ≡ size was) (size_y : size y ≡ size second) where
     seen_at : (k : ℕ) → slice_get (map size last) k ≡ slice_get (map size old) k

@@ -1,7 +1,7 @@
--- Fused composition: a plant and its controller make the steps of a round hand in hand. The controller's
--- step reads what the plant's step of the same number left, and the plant's step what the controller's step
--- before it left. All else is as in the composition. These are equations over whole lists, of the steps of
--- any number of rounds.
+-- Fused composition: a plant and its controller run the steps of a round in alternation. The controller's step reads
+-- the outputs of the plant's step of the same number, and the plant's step reads the outputs of the controller's
+-- previous step. Otherwise it is the composition. The equations are over whole lists, of the steps of any number of
+-- rounds.
 use Rattle.std.specs.Prelude.{◌≡◌, ◌≢◌, ℕ, zero, suc, ◌+◌, ◌*◌, ◌/◌, ◌%◌, ◌<◌, nat_eq, Bool, ◌&&◌, if◌then◌else◌, List}
 use Rattle.std.specs.Prelude.{[], map, replicate, length, take, All, AllPairs, Option, Some, None, slice_get}
 use Rattle.std.specs.Prelude.{slice_index_or}
@@ -47,7 +47,7 @@ pub record IsPair (design : DesignParts) (pair : Pair) : Type 0 where
   pub from_plant : All (λ link. link.source.0 ≡ pair.plant.0 → link.target.0 ≡ pair.controller.0) design.links
   pub to_plant : All (λ link. link.target.0 ≡ pair.plant.0 → link.source.0 ≡ pair.controller.0) design.links
 
--- no component stands in both
+-- no component is in both
 pub record AreApart (a b : Pair) : Type 0 where
   pub plants : a.plant.0 ≢ b.plant.0
   pub controllers : a.controller.0 ≢ b.controller.0
@@ -103,8 +103,8 @@ messages_before design pairs ins zero =
     map (λ (link : Link). replicate (rate_of design link.source.0) Absent) design.links
 messages_before design pairs ins (suc round) = map (message_on design pairs ins round) design.links
 
--- ---- what a step reads
--- as in the composition: the step's place of what its round brings
+-- ---- the inputs of a step
+-- as in the composition: the step's place of the vectors of its round
 abbrev pub from_round : DesignParts → List Pair → Env → Inputs → ℕ → ℕ → PortSource → PortValue
 from_round design pairs env ins rate step source =
     slice_index_or (brought_tuple design (values_at env (step / rate)) (messages_before design pairs ins (step / rate)) rate
@@ -137,12 +137,12 @@ abbrev pub frame_before : Inputs → ℕ → Component → ℕ → Frame
 frame_before ins node c step = frame_after c.behaviour (initial c.behaviour) (take step (inputs_to ins node))
 
 -- ---- the equations
--- what all steps of the first rounds read, where they leave what they leave at these inputs
+-- the inputs of all steps of the first rounds, if the steps have the outputs of these inputs
 unfoldable pub reads : DesignParts → List Pair → Env → ℕ → Inputs → Inputs
 reads design pairs env rounds ins =
     map (λ numbered. map (vector_of design pairs env ins numbered.0 numbered.1) (upwards 0 (rounds * numbered.1.rate)))
     (enumerate_from 0 design.components)
 
--- the inputs of the first rounds are those that are read where they are the inputs
+-- the inputs of the first rounds are a fixed point of `reads`
 abbrev pub IsFused : DesignParts → List Pair → Env → ℕ → Inputs → Type 0
 IsFused design pairs env rounds ins = ins ≡ reads design pairs env rounds ins

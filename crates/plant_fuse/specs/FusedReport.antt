@@ -1,4 +1,4 @@
--- The report of fused composition: that of the composition, from what the components leave at the solution of the
+-- The report of fused composition: the composition's report, from the parts of the components at the solution of the
 -- equations.
 use Rattle.std.specs.Prelude.{◌≡◌, ℕ, suc, ◌*◌, List, map, flat_map, slice_get}
 use Rattle.std.specs.List.{enumerate_from}
@@ -20,7 +20,7 @@ fused_part design ins round node c = record {
   outs = map (λ (tap : Tap). round_tuple design ins node tap.out_port round) (taps_of design node);
 }
 
--- what all of them leave
+-- the parts of all components
 abbrev pub fused_parts : DesignParts → Inputs → ℕ → List Part
 fused_parts design ins round =
     map (λ numbered. fused_part design ins round numbered.0 numbered.1) (enumerate_from 0 design.components)

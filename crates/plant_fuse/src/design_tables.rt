@@ -8,8 +8,8 @@ use pals_runs::Pair;
 use std::alloc::Global;
 use sync_product::wiring::Wiring;
 
-/// The pairs; for each component the other one of its pair, if it stands in one; and where the ports of
-/// each component lead.
+/// The pairs; for each component the other component of its pair, if it is in one; and the links of the
+/// ports of each component.
 pub struct Tables {
     pub pairs: ItemList<Pair>,
     pub partners: ItemList<Option<NodeNo>>,
@@ -58,7 +58,7 @@ fn all_partners(
     Ok(partners)
 }
 
-// The other one of the first pair in which a component stands.
+// The other component of the first pair that contains a component.
 fn partner(pairs: &[Pair], node: usize) -> Option<NodeNo>
     ensures { result ≡ partner_of pairs.now node }
 {

@@ -20,7 +20,7 @@ pub fn first_bad(design: &DesignParts, pairs: &[Pair]) -> Option<usize>
     None
 }
 
-// Whether a pair can be fused, beside the others.
+// Whether a pair can be fused, given the other pairs.
 fn can_be_fused(design: &DesignParts, pairs: &[Pair], index: usize) -> bool
     requires { index < length pairs.now }
     ensures { IsTrue result ↔ CanBeFused design.now pairs.now index }
@@ -57,7 +57,7 @@ fn all_stay_inside(links: &[Link], pair: &Pair) -> bool
     links.iter().all(|link| stays_inside(link, pair))
 }
 
-// Whether the other end of a link is the controller where one end is the plant.
+// Whether the other end of a link is the controller if one end is the plant.
 fn stays_inside(link: &Link, pair: &Pair) -> bool
     ensures { result ≡ stays_inside pair.now link.now }
 {
@@ -78,7 +78,7 @@ fn stands_apart(pairs: &[Pair], index: usize) -> bool
     true
 }
 
-// Whether no component stands in both.
+// Whether no component is in both.
 fn are_apart(a: &Pair, b: &Pair) -> bool
     ensures { IsTrue result ↔ AreApart a.now b.now }
 {

@@ -12,8 +12,8 @@ pub fn one_solution()
     ensures onward { SolutionGoesOn }
 {}
 
-/// Each round of a solution comes from what stood before it, and there is one way in which it can: so
-/// what is made round by round is the solution.
+/// Each round of a solution follows uniquely from the configuration before it: so computing one round after
+/// another gives the solution.
 pub fn rounds_go_on()
     ensures onward { RoundsGoOn }
     ensures one { RoundIsOne }
@@ -25,13 +25,13 @@ pub fn steps_are_made()
     ensures { StepsAreMade }
 {}
 
-/// Products that go on round by round stand where the solution does, and show what the components leave
-/// in each round.
+/// Products that advance round by round agree with the solution, and show the parts of the components in
+/// each round.
 pub fn products_follow()
     ensures { StatesFollow }
 {}
 
-/// Without pairs what stands after these rounds is what the composition has.
+/// Without pairs the configuration after these rounds is the composition's.
 pub fn without_pairs()
     ensures { WithoutPairs }
 {}

@@ -1,5 +1,5 @@
-//! The fused composition of a design, round by round: a plant and its controller make the steps of a
-//! round hand in hand. Its definition and its laws stand in `specs`.
+//! The fused composition of a design, round by round: a plant and its controller run the steps of a round in
+//! alternation. Its definition and its laws are in `specs`.
 #![tactic(auto)]
 
 mod design_tables;

@@ -13,7 +13,7 @@ use sync_product::component_stage::{Stage, write_taps};
 use sync_product::round_inputs::{RoundInputs, value_brought};
 use sync_product::wiring::WiredComponent;
 
-/// A component of a pair, with the number of its partner, and the frame that it goes on from.
+/// A component of a pair, with the number of its partner, and the frame that it continues from.
 #[derive(Clone, Copy)]
 pub struct PairedComponent<'a> {
     pub wired: WiredComponent<'a>,
@@ -28,8 +28,8 @@ pub struct FusedPair<'a> {
     pub controller: PairedComponent<'a>,
 }
 
-/// Makes the steps of a round of a plant and its controller. At Ok the parts and the rows of the stages
-/// are those of the steps; the sizes stay in every case.
+/// Runs the steps of a round of a plant and its controller. At Ok the parts and the rows of the stages are
+/// the results of the steps; the sizes stay in every case.
 pub fn make_pair_steps(
     round: RoundInputs,
     fused: FusedPair,

@@ -22,9 +22,9 @@ use sync_product::component_stage::Stage;
 use sync_product::opening::{opening_messages, opening_parts, stages};
 use sync_product::round_inputs::RoundInputs;
 
-/// The fused composition of a design and its pairs after some rounds: its configuration, and what each
-/// component left in the last round. Contracts see these beside the design and the pairs. It has its
-/// memory twice: a round is made in the other half, and becomes what stands at its end.
+/// The fused composition of a design and its pairs after some rounds: its configuration, and the parts of
+/// the components in the last round. Its model also has the design and the pairs. It has its memory twice:
+/// a round is computed in the other half, which then becomes the current one.
 pub struct FuseProduct {
     design: Arc<Design>,
     tables: Tables,
@@ -35,7 +35,7 @@ pub struct FuseProduct {
     next_messages: ItemList<Tuple>,
 }
 
-// By hand, so that a product let go is one call, which the crates above cite.
+// By hand, so that dropping a product is one call, which the crates above cite.
 impl Drop for FuseProduct {
     fn drop(self) {
         let FuseProduct {
@@ -122,9 +122,9 @@ impl FuseProduct {
         })
     }
 
-    /// Goes one round further. The values are those of the root in ports in this round, in the
-    /// order of the design's feeds, each name where it comes first; a value that is missing at the
-    /// end is absent, and those past the last port mean nothing. If there is not enough memory, nothing
+    /// Advances by one round. The values are the values of the root in ports in this round, in the order of
+    /// the design's feeds, each name at its first occurrence; a missing value at the end is absent, and
+    /// values past the last port are ignored. If memory runs out, nothing
     /// changes.
     pub fn advance(&mut self, values: &[PortValue]) -> Result<(), NoMemory>
         ensures ok { OnOk result (IsAdvanced self.old values.now self.new) }

@@ -16,9 +16,9 @@ use pals_runs::Pair;
 use sync_product::component_stage::Stage;
 use sync_product::round_inputs::RoundInputs;
 
-/// Makes the steps of all components, from their frames in the parts of the round before: those that
-/// stand in no pair by themselves, and a plant and its controller hand in hand. At Ok the new parts and
-/// the rows of the stages are those of the steps; the sizes stay in every case.
+/// Runs the steps of all components, from their frames in the parts of the round before: components in no
+/// pair by themselves, and a plant and its controller in alternation. At Ok the new parts and the rows of
+/// the stages are the results of the steps; the sizes stay in every case.
 pub fn run_all(
     round: RoundInputs,
     tables: &Tables,
@@ -42,7 +42,7 @@ pub fn run_all(
     Ok(())
 }
 
-// Makes the steps of the components that stand in no pair.
+// Runs the steps of the components in no pair.
 fn run_alone(
     round: RoundInputs,
     tables: &Tables,

@@ -1,4 +1,4 @@
-//! Stages and parts that are taken out of their lists and put back. The calls take no memory.
+//! Stages and parts that are taken out of their lists and put back. The calls do not allocate.
 ghost use Rattle.std.specs.Prelude.{◌≡◌, ◌<◌, length, slice_set};
 ghost use Rattle.plant_fuse.specs.proof.TakenElements.{TakenFrom};
 

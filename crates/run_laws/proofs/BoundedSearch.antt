@@ -1,5 +1,5 @@
--- Searches over the numbers below a bound: the first that has a property, or one of least value, is found, or none
--- has it.
+-- Searches over the numbers below a bound: either the first number with a property, or a number with the smallest
+-- value, exists, or no number has the property.
 use Rattle.std.proofs.Common.{◌≡◌, ◌⊎◌, inl, inr, ℕ, zero, suc, ◌<◌, ◌≤◌, subst, arith}
 use Rattle.std.proofs.lemmas.Bool.{cases_lt}
 

@@ -1,5 +1,5 @@
--- A list clock that answers has picked for its node's next action, and one that does not has ended; and a message
--- that is due can arrive, and the run goes on.
+-- A list clock that shows a reading has picked it for its node's next action; a list clock that shows none has ended.
+-- A deliverable message can arrive, and the run can continue.
 use Rattle.std.proofs.Common.{◌-◌, inl, inr, Bool, cond, ◌≡◌, ℕ, ◌<◌, ◌≤◌, true, List, length, Some, refl, sym, ap, ◌∙◌}
 use Rattle.std.proofs.Common.{subst, arith}
 use Rattle.std.proofs.lemmas.Option.{slice_get_within}
@@ -79,7 +79,7 @@ message_keeps f n port tuple Kept = refl
 message_keeps f n port tuple Ignored = refl
 message_keeps f n port tuple Early = refl
 
--- a clock shows the same reading where no target falls
+-- a clock shows the same reading if no target is reached
 shows_still : (run : Run) (clocks : Clocks) (s t : BusState) (node at goal now : ℕ) → now ≡ goal
     → ((other later : ℕ) → other < length run.design.components → target_of run t other ≡ Some later
     → (n : ℕ) × (target_of run s other ≡ Some n) × (n ≤ later))
@@ -91,7 +91,7 @@ shows_still run Meet s t node at goal now same rises shows = (
 )
 shows_still run (Lists clocks) s t node at goal now same rises shows = (shows.0, (let most = shows.1 in omega arith))
 
--- a node still has what it waits for where no source has sent less, and no list that had ended goes on
+-- a node still waits for the same inputs if no source has sent fewer rounds and every ended list stays ended
 waits_still : (run : Run) (clocks : Clocks) (s t : BusState) (node : ℕ)
     → ((lists : List ClockState) (k : ℕ) → clocks ≡ Lists lists → HasEnded run lists s k → HasEnded run lists t k)
     → (node_at t node).count ≡ (node_at s node).count

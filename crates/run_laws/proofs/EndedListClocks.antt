@@ -1,4 +1,4 @@
--- Where a list has no reading for its node's next target, no event of a run is that node's.
+-- If a list has no reading for its node's next target, no event of a run belongs to that node.
 use Rattle.std.proofs.Common.{◌≡◌, ◌≢◌, ℕ, List, [], slice_get, Option, Some, None, refl, sym, ap, ◌∙◌, subst}
 use Rattle.std.proofs.lemmas.Option.{same_Some}
 use Rattle.pals_base.specs.declared.basic_types.NodeNo.{NodeNo}

@@ -36,7 +36,7 @@ cause_plain NotSent = refl
 cause_plain InTransit = refl
 cause_plain Lost = refl
 
--- a name, a round and what is left
+-- a name, a round and the remaining words
 node_words : (design : DesignParts) (node round : ℕ) (reading : Option ℕ) (rest : List (List ℕ)) → IsDesign design
     → IsOfNode design node round reading → ArePlain rest
     → ArePlain (node_word design node ∷ decimal round ∷ rest)
@@ -103,7 +103,7 @@ cause_is NotSent go = refl
 cause_is InTransit go = refl
 cause_is Lost go = refl
 
--- a name and a round alone
+-- only a name and a round
 named_last : (name : List ℕ) (round : ℕ) (go : List ℕ → ℕ → LineForm) → round ≤ ROUNDS
     → named (name ∷ decimal round ∷ []) (λ n r left. at_end (go n r) left) ≡ Some (go name round)
 named_last name round go within = named_is name round [] (λ n r left. at_end (go n r) left) within

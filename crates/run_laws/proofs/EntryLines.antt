@@ -1,4 +1,4 @@
--- The line of each entry tells it.
+-- Reading the line of an entry gives the entry.
 use Rattle.std.proofs.Common.{◌≡◌, ℕ, Option, Some, None, sym, ap, ◌∙◌}
 use Rattle.std.specs.Option.{option_map, option_and_then}
 use Rattle.std.proofs.lemmas.Option.{same_Some}

@@ -121,7 +121,7 @@ pub latest_after : (design : DesignParts) (k : ℕ) (journal told : List Journal
     → latest design k (journal ++ told) ≡ later design k (latest design k journal) told
 latest_after design k journal told = fold-append (λ b e. last_of k b (timed design e)) 0 journal told
 
--- ---- list clocks: no reading that is left is below the last one shown
+-- ---- list clocks: no remaining reading is below the last reading shown
 pub record NoneFalls (clock : ClockState) (last : ℕ) : Type 0 where
   pub order : IsNonDecreasing clock.left
   pub above : All (λ reading. last ≤ reading) clock.left

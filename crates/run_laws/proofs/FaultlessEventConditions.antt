@@ -1,5 +1,5 @@
--- What a world without a fault for an event tells of it: its node or link exists, may do what the event says, and is
--- in time.
+-- Consequences of an event without a fault in a world: its node or link exists, the node or link may do the event, and
+-- the event is in time.
 use Rattle.std.proofs.Common.{◌≡◌, ℕ, ◌+◌, ◌<◌, ◌≤◌, Bool, true, false, length, Option, Some, None, refl}
 use Rattle.std.specs.Prelude.{not, nat_lt, is_some, if◌then◌else◌}
 use Rattle.std.specs.Option.{unwrap_or}

@@ -1,4 +1,4 @@
--- A stop is the last entry of a journal: before it no entry tells one, and the run stands at it.
+-- A stop is the last entry of a journal: no earlier entry is a stop, and the state of the run has this stop.
 use Rattle.std.proofs.Common.{◌≡◌, ◌∙◌, ℕ, List, [], ◌∷◌, ◌++◌, Option, Some, None, refl, sym, ap, subst}
 use Rattle.std.specs.Prelude.{All}
 use Rattle.std.proofs.lemmas.List.{append_assoc}
@@ -21,7 +21,7 @@ use Rattle.bus_machine.specs.Machine.{arrival, early_stop}
 use Rattle.bus_machine.specs.Replay.{Replays, opens, goes_on, entries, start_entry, stop_entry}
 use Rattle.bus_machine.proofs.NodeEventBusAgreement.{on_step_stop}
 
--- ---- entries that tell no stop
+-- ---- entries that are not a stop
 abbrev stop_told : JournalEntry → Option Stop
 stop_told (entry.Stopped why) = Some why
 stop_told _ = None
@@ -37,13 +37,13 @@ abbrev behind_first : List JournalEntry → List JournalEntry
 behind_first [] = []
 behind_first (x ∷ more) = more
 
--- a list that has a stop is none of these
+-- a list with a stop is not such a list
 has_stop : (front back : List JournalEntry) (why : Stop) → All IsNoStop (front ++ entry.Stopped why ∷ back) → ⊥
 has_stop [] back why none = none-some why (sym (All-head IsNoStop (entry.Stopped why) back none))
 has_stop (x ∷ front) back why none =
     has_stop front back why (All-tail IsNoStop x (front ++ entry.Stopped why ∷ back) none)
 
--- where such entries stand before the last one, no stop but that one is there, and nothing behind it
+-- if no entry before the last one is a stop, the only stop in the list is the last entry
 one_stop : (before front back : List JournalEntry) (other why : Stop) → All IsNoStop before
     → front ++ entry.Stopped why ∷ back ≡ before ++ entry.Stopped other ∷ [] → (back ≡ []) × (other ≡ why)
 one_stop [] [] back other why none same = (ap behind_first same, same_Some other why (sym (ap first_stop same)))
@@ -54,7 +54,7 @@ one_stop (x ∷ before) [] back other why none same =
 one_stop (x ∷ before) (y ∷ front) back other why none same =
     one_stop before front back other why (All-tail IsNoStop x before none) (ap behind_first same)
 
--- ---- how entries end, where a run stands at this stop or at none
+-- ---- the last entries of a journal whose run has this stop, or none
 abbrev EndAt : Option Stop → List JournalEntry → Type 0
 EndAt None told = All IsNoStop told
 EndAt (Some why) told = (front : List JournalEntry) × All IsNoStop front × (told ≡ front ++ entry.Stopped why ∷ [])
@@ -62,11 +62,11 @@ EndAt (Some why) told = (front : List JournalEntry) × All IsNoStop front × (to
 alone : (x : JournalEntry) → IsNoStop x → All IsNoStop (x ∷ [])
 alone x none = All-cons IsNoStop x [] none (All-nil IsNoStop)
 
--- one entry that tells no stop, where none stands
+-- one entry that is not a stop, in a run without a stop
 goes : (stop : Option Stop) (x : JournalEntry) → IsNoStop x → stop ≡ None → EndAt stop (x ∷ [])
 goes stop x none going = subst (λ (o : Option Stop). EndAt o (x ∷ [])) (sym going) (alone x none)
 
--- more entries behind some that tell no stop
+-- more entries after entries that are not a stop
 end_more : (stop : Option Stop) (before more : List JournalEntry) → All IsNoStop before → EndAt stop more
     → EndAt stop (before ++ more)
 end_more None before more none ends = All-append IsNoStop before more none ends
@@ -105,7 +105,7 @@ event_ends run s (Arrive link round reading) going = arrive_ends link round read
 event_ends run s (Drop link round) going = goes _ _ refl going
 event_ends run s (Repeat link round) going = goes _ _ refl going
 
--- ---- so a journal ends where its run stands
+-- ---- so the end of a journal is the stop of its run
 journal_ends : (run : Run) (journal : List JournalEntry) (s : BusState) → Replays run journal s → EndAt s.stop journal
 journal_ends run journal s opens = All-nil IsNoStop
 journal_ends run journal s (goes_on {journal = before} {s = t} e replays step) =

@@ -63,7 +63,7 @@ start_rises run front s node reading least (Some link) read misses =
     subst (λ k. Rises run front (Some (record { node = k; reading = reading }))) (sym here)
     (read_rises run front node.0 least reading read)
 
--- behind an entry with this reading, another one with it rises
+-- after an entry with this reading, another entry with the same reading does not fall
 again_rises : (run : Run) (front : List JournalEntry) (node : ℕ) (reading : Option ℕ) (x : JournalEntry)
     → timed run.design x ≡ Some (record { node = node; reading = reading })
     → Rises run (front ++ x ∷ []) (Some (record { node = node; reading = reading }))

@@ -69,7 +69,7 @@ stay s j k m count sent =
       sends = add_zero_from _ _ (stays_at rounds_of s j k m sent);
     }
 
--- ---- what an event tells
+-- ---- the readings that an event adds
 shown : Option ℕ → Bool → ℕ
 shown reading b = length (cond b (listed reading) [] ++ [])
 

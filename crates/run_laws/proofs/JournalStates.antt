@@ -1,4 +1,4 @@
--- Where a run stands is a function of its journal: each entry tells what it does to the state before it.
+-- The state of a run is a function of its journal: each entry determines its effect on the state before it.
 use Rattle.std.proofs.Common.{◌≡◌, ◌∙◌, ℕ, List, [], ◌∷◌, Option, Some, None, refl, sym, ap}
 use Rattle.std.specs.List.{fold}
 use Rattle.std.proofs.lemmas.List.Sums.{fold-append}
@@ -15,7 +15,7 @@ use Rattle.bus_machine.specs.Machine.{BusEvent, Start, Step, Finish, Send, Arriv
 use Rattle.bus_machine.specs.Machine.{after_start, after_arrive, arrival, early_stop}
 use Rattle.bus_machine.specs.Replay.{Replays, opens, goes_on, entries, start_entry, stop_entry}
 
--- the state that an entry leaves; the stop of an early arrival stands already where its own entry comes
+-- the state after an entry; an early arrival has already set the stop when the stop's own entry follows
 abbrev left_by : Run → BusState → JournalEntry → BusState
 left_by run s (entry.Arrive link round reading result) = after run s (Arrive link round reading)
 left_by run s (entry.Start node round reading) = after_start run s node reading None

@@ -1,5 +1,5 @@
--- Each event without a fault keeps what a world keeps of its time, so arrivals are kept and counts are close; and a
--- list of events within the bounds goes right.
+-- Each event without a fault maintains the timing invariant of a world, so every arrival is stored and round counts
+-- are close. A list of events within the bounds goes right.
 use Rattle.std.proofs.Common.{List, [], ◌∷◌, ◌++◌, sym, subst}
 use Rattle.std.proofs.lemmas.Option.{none-some}
 use Rattle.pals_runs.specs.declared.events_and_faults.Event.{Event}
@@ -50,7 +50,7 @@ pub counts_are_close : CountsAreClose
 counts_are_close run w one other rules keeps here there = counts_close run w rules keeps one other here there
 
 -- ---- lists
--- what stands before the rest of a list, and the rest is within the bounds from there
+-- the invariant holds before the rest of a list, and the rest is within the bounds from there
 left_keeps : (run : Run) (w : World) (before later : List Event) → IsRunOf run → KeepsTime run w
     → IsWithin run w (before ++ later)
     → KeepsTime run (world_left run w before) × IsWithin run (world_left run w before) later

@@ -42,7 +42,7 @@ use Rattle.run_laws.proofs.JournalStartsAndSends.{rounds_are_shown}
 use Rattle.run_laws.proofs.MeetingLines.{step_now}
 use Rattle.run_laws.proofs.StartAndSendReadings.{send_round}
 
--- a line that is of a node's action, at this reading
+-- a line of a node's action, at this reading
 abbrev LineIs : Run → List ClockState → List JournalEntry → JournalEntry → Type 0
 LineIs run clocks front e = (t : Timed) → timed run.design e ≡ Some t → ShowsPick run clocks front e t
 

@@ -1,5 +1,5 @@
--- What a start, a send and an arrival change of what is known of a link's messages, and that they keep their times:
--- for LinksAreTimed.
+-- How a start, a send and an arrival change the view of a link's messages, and that the messages meet their times: the
+-- proof of LinksAreTimed.
 use Rattle.std.proofs.Common.{◌≡◌, ◌≢◌, inl, inr, ℕ, suc, ◌+◌, ◌-◌, ◌<◌, ◌≤◌, nat_eq, nat_le, Bool, true, false, not}
 use Rattle.std.proofs.Common.{◌&&◌, cond, List, [], ◌∷◌, ◌++◌, length, take, drop, slice_get, All, Option, Some, None}
 use Rattle.std.proofs.Common.{refl, sym, ap, ap₂, ◌∙◌, subst, arith, length-append}
@@ -120,7 +120,7 @@ none_if : (slot : Option (List PortValue)) → (is_some slot ≡ true → ⊥) �
 none_if None not_full = refl
 none_if (Some tuple) not_full = absurd (not_full refl)
 
--- ---- the target's clock goes on
+-- ---- the target's clock advances
 abbrev later : LinkView → ℕ → LinkView
 later v at = record v { latest = at }
 
@@ -298,7 +298,7 @@ due_before due at d is same =
     sym (ap (λ o. option_map_or (λ x. nat_le x (unwrap_or (Some at) 0)) o false) same) ∙ is in
     leb-true d at here
 
--- it is kept, or comes early
+-- it is stored, or it is early
 kept_or_early : (round count flying : ℕ) (slot : Option (List PortValue)) (taken : Option ℕ) (late next : Bool)
     → nat_le count round ≡ late → nat_eq (round + 1) count ≡ next → taken ≡ None → 1 ≤ flying
     → Whereabouts round count slot flying taken
@@ -372,7 +372,7 @@ own_place round count left slot tuple Kept used is none = let kept = kept_when r
 own_place round count left slot tuple Ignored used is none = absurd (used refl)
 own_place round count left slot tuple Early used is none = came_early none refl
 
--- what the arriving copy tells
+-- the properties of the arriving copy
 pub record Arriving (delay : ℕ → ℕ) (v : LinkView) (round at : ℕ) : Type 0 where
   pub sent : round < length v.sends
   pub due : ℕ

@@ -1,4 +1,4 @@
--- What entries of a journal add to what is shown of a link.
+-- How entries of a journal extend the view of a link.
 use Rattle.std.proofs.Common.{◌≡◌, ◌≢◌, ℕ, ◌+◌, ◌≤◌, nat_eq, Bool, true, false, cond, List, [], ◌∷◌, ◌++◌, Option, Some}
 use Rattle.std.proofs.Common.{None, refl, sym, ap, ap₂, ◌∙◌, subst, arith}
 use Rattle.std.proofs.lemmas.Bool.{eqb-true, eq-eqb, ne_eqb}
@@ -34,7 +34,7 @@ same_view delay v w a b c d e f g timed =
       taken = g i;
     })) timed
 
--- ---- what entries add to what is shown
+-- ---- the effect of entries on the view
 pub send_at : (j k : ℕ) (node : NodeNo) (at : ℕ) (reading : Option ℕ) → node.0 ≡ j → j ≡ k → reading ≡ Some at
     → if_at k node reading ++ [] ≡ at ∷ []
 send_at j k node at reading is same shows = ap₂ (λ b o. cond b (listed o) [] ++ []) (eq-eqb node.0 k (is ∙ same)) shows
@@ -77,7 +77,7 @@ grows_by run clocks s e journal k falls (is_told j at reads tells) =
 abbrev pub TimedIn : Run → BusState → List JournalEntry → ℕ → Link → Type 0
 TimedIn run s journal number link = IsTimed (delay_of run.delays number) (view run s journal number link)
 
--- an event that does nothing on this link but that its target's clock may go on
+-- an event with no effect on this link, except that its target's clock may advance
 pub stays_timed : (run : Run) (s t : BusState) (journal told : List JournalEntry) (number : ℕ) (link : Link)
     → TimedIn run s journal number link → s.stop ≡ None
     → latest run.design link.target.0 journal ≤ latest run.design link.target.0 (journal ++ told)

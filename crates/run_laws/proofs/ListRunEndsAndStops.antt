@@ -1,5 +1,5 @@
--- With list clocks: at the end each round is in time, a node is done where its picks reach its last target, and else
--- they end before its next one; and what a stop tells.
+-- With list clocks: at the end each round is in time; a node is done if its picks reach its last target, and otherwise
+-- they end before its next target; and the cause of a stop.
 use Rattle.std.proofs.Common.{◌≡◌, inl, inr, ℕ, suc, ◌+◌, ◌-◌, ◌*◌, ◌<◌, ◌≤◌, true, List, [], ◌∷◌, length, slice_get}
 use Rattle.std.proofs.Common.{Option, Some, None, refl, sym, ap, ◌∙◌, subst, arith, length-append}
 use Rattle.std.specs.Prelude.{◌≢◌, IfSome}
@@ -129,7 +129,7 @@ ends_are_timely run clocks journal s rules runs over number number_within round 
     (sent.0, (both_chosen run (Lists clocks) journal s l.source.0 rules runs).1 round sent.0 sent.1, omega arith)
 
 -- ---- stops
--- where its source has not sent a round and has come to its clock's end, its picks end before its send
+-- if its source has not sent a round and has reached its clock's end, the source's picks end before its send
 never_picked : (run : Run) (clocks : List ClockState) (journal : List JournalEntry) (s : BusState)
     (k number round at : ℕ) → IsRunOf run → Runs run (Lists clocks) journal s → k < length run.design.components
     → HasEnded run clocks s k

@@ -38,7 +38,7 @@ one_or : {X : Type 0} (p : X → Bool) (x : X) (xs : List X) (b : Bool) → 1 �
 one_or p x xs true some later = refl
 one_or p x xs false some later = later (omega arith)
 
--- where one passes or more, a first one is found
+-- if at least one element passes, the first one is found
 pub one_is_found : {X : Type 0} (p : X → Bool) (xs : List X) → 1 ≤ count_by p xs → is_some (find p xs) ≡ true
 one_is_found p [] some = absurd (omega arith)
 one_is_found p (x ∷ xs) some =

@@ -1,4 +1,4 @@
--- What is left of a world where one node, its moments or a flight changes.
+-- The parts of a world that stay the same when one node, its moments or one flight changes.
 use Rattle.std.proofs.Common.{◌≡◌, ◌≢◌, inl, inr, ℕ, ◌<◌, Bool, true, false, List, [], length, None, refl, sym, ap}
 use Rattle.std.proofs.Common.{subst}
 use Rattle.std.specs.Prelude.{slice_index_or, if◌then◌else◌}
@@ -68,7 +68,7 @@ module _ (run : Run) (w : World) (bus : BusState) (since ready : List ℕ) (sent
         (slice_index_or ready k 0) m) (sym (changes.sent_stays k other)) three
   ]
 
-  -- the node that changes, by what it becomes
+  -- the node that changes, by its new state
   pub stands_put : (node : ℕ) (m : NodeState) (at_since at_ready : ℕ) (moments : List ℕ)
       → Stands run.design.gamma (plan_of run.design node) m (reading_at w node) w.time at_since at_ready moments
       → node_at bus node ≡ m → slice_index_or since node 0 ≡ at_since → slice_index_or ready node 0 ≡ at_ready
@@ -110,7 +110,7 @@ module _ (run : Run) (w : World) (bus : BusState) (since ready : List ℕ) (sent
         links = links;
       }
 
--- ---- links, where a node keeps its count, its slots and what it has sent
+-- ---- links, if a node's count, slots and sent rounds stay the same
 pub record KeepsRounds (n m : NodeState) : Type 0 where
   pub count : m.count ≡ n.count
   pub slots : m.slots ≡ n.slots

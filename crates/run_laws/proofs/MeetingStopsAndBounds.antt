@@ -1,4 +1,4 @@
--- What a stop and an end tell with nodes that meet, and that delays within the bounds let no stop come: MeetingsStop,
+-- The causes of stops and ends in virtual time, and that delays within the bounds prevent every stop: MeetingsStop,
 -- MeetingsEnd and NoMeetingStops.
 use Rattle.std.proofs.Common.{◌≡◌, ℕ, zero, suc, ◌+◌, ◌-◌, ◌*◌, ◌/◌, ◌<◌, ◌≤◌, max, List, length, slice_get, Option}
 use Rattle.std.proofs.Common.{Some, None, refl, sym, ap, ◌∙◌, subst, arith}
@@ -145,7 +145,7 @@ meetings_end run journal s rules runs done number round late =
     omega arith
 
 -- ---- the bounds
--- a backoff and the least time of a message are two skews, and a message that is sent in time has time to arrive
+-- a backoff plus the minimum delay is at least two skews, and a message that is sent in time can arrive in time
 pub record Bounds (run : Run) (node : ℕ) : Type 0 where
   pub early : 2 * run.design.gamma.eps ≤ (plan_of run.design node).release_offset + run.design.gamma.mu_min
   pub late : max (backoff run.design.gamma)

@@ -108,7 +108,7 @@ missed_link run s node link is =
       begun = found'.0;
     }
 
--- ---- where none is missing, each slot is full
+-- ---- if no input is missing, each slot is full
 none_by : (count : ℕ) (o : Option ℕ) (b : Bool) → nat_eq count 0 ≡ b → 1 ≤ count
     → (if b then None else o) ≡ None → o ≡ None
 none_by count o true is some none = absurd (let zero' = eqb-true count 0 is in omega arith)

@@ -1,5 +1,5 @@
--- The actions of a node and their targets, one after another: how many there are, which one stands where, and how
--- far they have brought the node.
+-- The actions of a node and their targets, in sequence: how many there are, the position of each, and the progress of
+-- the node after them.
 use Rattle.std.proofs.Common.{◌≡◌, ℕ, zero, suc, ◌+◌, ◌*◌, ◌<◌, ◌≤◌, nat_eq, nat_le, nat_lt, Bool, true, false, not}
 use Rattle.std.proofs.Common.{◌&&◌, ◌||◌, cond, length, slice_get, Some, refl, sym, ap, ap₂, ◌∙◌, subst, arith}
 use Rattle.std.proofs.lemmas.Bool.{ltb-true, ltb-false, false≢true}
@@ -57,7 +57,7 @@ abbrev pub bit : Bool → ℕ
 bit true = 1
 bit false = 0
 
--- how many actions are in what it has done
+-- the number of actions that a node has completed
 abbrev pub size : Plan → Progress → ℕ
 size plan p = p.round * (plan.rate + 1) + p.steps + bit p.sent
 
@@ -65,7 +65,7 @@ pub record IsSized (plan : Plan) (n : ℕ) (p : Progress) : Type 0 where
   pub size_is : size plan p ≡ n
   pub steps : p.steps ≤ plan.rate
 
--- what is known of a plan
+-- the properties of a plan
 pub record IsPlan (plan : Plan) : Type 0 where
   pub rate : 1 ≤ plan.rate
   pub few : plan.sent_steps ≤ plan.rate
@@ -87,7 +87,7 @@ sends_next : (plan : Plan) (p : Progress) → p.steps ≤ plan.rate → p.sent �
 sends_next plan p most unsent = let none : bit p.sent ≡ 0 = ap bit unsent in
     record { size_is = omega arith; steps = most }
 
--- where all steps are finished and the send is not next, it is sent
+-- if all steps are finished and the send is not next, the round is sent
 pub sent_if : (plan : Plan) (steps : ℕ) (sent : Bool) → plan.sent_steps ≤ steps → steps ≡ plan.rate
     → (not sent && nat_le plan.sent_steps steps
     && (nat_eq steps plan.rate || nat_le plan.release_offset (steps * plan.step_period))) ≡ false → sent ≡ true

@@ -158,7 +158,7 @@ unchanged : (run : Run) (clocks : List ClockState) (n : NodeState) (k : ℕ) (jo
     → Has run clocks k n journal → Has run clocks k n (journal ++ [])
 unchanged run clocks n k journal before = subst (Has run clocks k n) (sym (append-nil journal)) before
 
--- ---- each event, of the entries that it tells
+-- ---- each event, by its entries
 abbrev Goes : Run → List ClockState → BusState → BusState → ℕ → List ℕ → List JournalEntry → Type 0
 Goes run clocks s t k shown told =
     Has run clocks k (node_at s k) shown → Has run clocks k (node_at t k) (shown ++ acts k told)

@@ -26,7 +26,7 @@ use Rattle.run_laws.specs.proof.WorldLaws.{OpeningKeepsTime}
 use Rattle.run_laws.proofs.WorldNodeTiming.{Stands, StandsAt, deadline_is, both_in_time, send_last}
 use Rattle.run_laws.proofs.WorldLinkTiming.{rule_of, one_of_false}
 
--- ---- what stands where
+-- ---- positions in the opening
 abbrev pub no_time : ℕ
 no_time = 0
 

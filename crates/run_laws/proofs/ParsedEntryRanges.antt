@@ -1,4 +1,4 @@
--- What a line tells is an entry of the design.
+-- The entry that a line denotes belongs to the design.
 use Rattle.std.proofs.Common.{◌≡◌, ℕ, ◌<◌, ◌≤◌, nat_le, Bool, true, false, ◌&&◌, cond, List, [], ◌∷◌, length, Option}
 use Rattle.std.proofs.Common.{Some, None, refl, sym, subst}
 use Rattle.std.specs.Prelude.{codes, decimal, bytes_eq, IfSome}
@@ -61,7 +61,7 @@ Fits (RepeatLine name round) = round ≤ ROUNDS
 Fits (EarlyLine name round reading) = (round ≤ ROUNDS) × IsReading reading
 Fits (MissedLine name round reading cause) = (round ≤ ROUNDS) × IsReading reading
 
--- what is read, if anything is, is such a form
+-- if a form is read, its numbers are within their limits
 abbrev AllFit : Option LineForm → Type 0
 AllFit o = IfSome o Fits
 
@@ -117,7 +117,7 @@ timed_fit words go fits =
     (λ name round more few. read_fit more (λ reading left. at_end (go name round reading) left)
     (λ reading left at. end_fit (go name round reading) left (fits name round reading few at)))
 
--- a name and a round alone
+-- only a name and a round
 round_fit : (words : List (List ℕ)) (go : List ℕ → ℕ → LineForm)
     → ((name : List ℕ) (round : ℕ) → round ≤ ROUNDS → Fits (go name round))
     → AllFit (named words (λ name round left. at_end (go name round) left))
@@ -194,7 +194,7 @@ link_within design name n found =
     let at = found_at (λ (link : Link). bytes_eq name (link_name design link)) design.links n found in
     slice_get_within design.links n at.0 at.1
 
--- what is told of this number, if any is found
+-- the entry for this number, if the number is found
 told_by : (P : JournalEntry → Type 0) (o : Option ℕ) (go : ℕ → JournalEntry) (e : JournalEntry)
     → ((n : ℕ) → o ≡ Some n → P (go n)) → option_map go o ≡ Some e → P e
 told_by P None go e fits got = absurd (cc)

@@ -11,7 +11,7 @@ use Rattle.pals_runs.specs.JournalLines.{spaced}
 use Rattle.run_laws.specs.LineForms.{is_there, words_of}
 
 -- ---- plain words
--- a word that has such bytes alone, and one or more
+-- a word of one or more such bytes
 abbrev pub is_plain : List ℕ → Bool
 is_plain word = list_all is_inner word && is_there word
 

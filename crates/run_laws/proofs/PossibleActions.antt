@@ -34,14 +34,14 @@ use Rattle.run_laws.proofs.NodePicksAndRunReplay.{runs_agree, node_agrees, plan_
 use Rattle.run_laws.proofs.ClockAnswersAndDueArrivals.{due_takes}
 use Rattle.run_laws.proofs.BoundedSearch.{first_or_none}
 
--- ---- what is possible
--- an event that keeps to the clocks, and is allowed
+-- ---- possible events
+-- an event that respects the clocks and is allowed
 pub record CanGo (run : Run) (clocks : Clocks) (s : BusState) : Type 0 where
   pub event : BusEvent
   pub keeps : KeepsTo run clocks s event
   pub allowed : is_allowed run s event ≡ true
 
--- ---- what is due to a node
+-- ---- the copies that are deliverable to a node
 abbrev Found : Option ℕ → List FlightCopy → Type 0
 Found reading flight =
     (place : ℕ) × (copy : FlightCopy) × (slice_get flight place ≡ Some copy) × (is_due reading copy ≡ true)
@@ -94,7 +94,7 @@ due_on run s node reading number within =
           absurd (other (ap (λ (m : Link). m.target.0) (same_Some l link (sym is ∙ is_link)) ∙ to)))
     ]
 
--- ---- a start, or first the arrival of what is due
+-- ---- a start, or first the arrival of a deliverable message
 starts : (run : Run) (clocks : Clocks) (journal : List JournalEntry) (s : BusState) (node : NodeNo) (at : ℕ)
     → IsRunOf run → Runs run clocks journal s
     → Does run clocks s node (Some at) (next_start s node) → is_waiting (node_at s node.0).phase ≡ true

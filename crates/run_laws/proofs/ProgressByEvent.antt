@@ -1,4 +1,4 @@
--- How each event changes how far a node has come among its actions, and what its next action is.
+-- How each event changes a node's position among its actions, and its next action.
 use Rattle.std.proofs.Common.{◌≡◌, ◌≢◌, inl, inr, ℕ, suc, ◌+◌, ◌-◌, ◌*◌, ◌<◌, ◌≤◌, nat_eq, nat_le, nat_lt, Bool, true}
 use Rattle.std.proofs.Common.{false, ◌&&◌, ◌||◌, cond, List, slice_get, Some, refl, sym, ap, ap₂, ◌∙◌, subst, arith}
 use Rattle.std.proofs.Common.{add-one}
@@ -242,7 +242,7 @@ sends_follow plan rounds done n round rules held follows is =
     (next_is plan done n (action.Send round) rules held follows is)
     (ap (λ (q : Progress). progress_after q (action.Send round)) come.1 ∙ sends_by plan rounds n n.phase round is other)
 
--- where it does nothing of its own, its progress stays
+-- if a node does no action of its own, its progress stays the same
 pub same_progress : (plan : Plan) (done : ℕ) (n m : NodeState) → Follows plan done n → n.phase ≢ Waiting
     → m.count ≡ n.count → progress_in plan m m.phase ≡ progress_in plan n n.phase → Follows plan done m
 same_progress plan done n m (inl first) other count same = absurd (other first.phase)
@@ -289,7 +289,7 @@ finish_follows plan rounds done n step follows runs within =
     (finished_by plan rounds step n _ _ (nat_lt (step + 1) plan.rate) refl within refl refl refl refl refl refl
     ∙ sym (ap (progress_in plan n) runs))
 
--- a message changes slots alone
+-- a message changes only slots
 kept_progress : (plan : Plan) (n : NodeState) (port : ℕ) (tuple : List PortValue) (p : Phase)
     → progress_in plan n p ≡ progress_in plan (with_message n port tuple Kept) p
 kept_progress plan n port tuple Waiting = refl

@@ -155,8 +155,8 @@ send_less plan rounds send n may =
     let less = send_by plan rounds send n n.phase all parts.1 in
     omega arith
 
--- ---- of a run: what is left of its nodes, and the copies in flight
--- how many links a node sends on
+-- ---- of a run: the remaining work of its nodes, and the copies in flight
+-- the number of links on which a node sends
 abbrev links_of : Run → ℕ → ℕ
 links_of run node =
     sum_below (λ number. one_if (nat_eq (link_at run.design number).source.0 node)) (length run.design.links)
@@ -176,7 +176,7 @@ all_flying run s = sum_below (flying s) (length run.design.links)
 abbrev pub work_left : Run → BusState → ℕ
 work_left run s = nodes_left run s + all_flying run s
 
--- where one node has less left
+-- if one node has less work
 one_node_less : (run : Run) (s : BusState) (j less : ℕ) (m : NodeState) → Agrees run s
     → j < length run.design.components
     → node_left (plan_of run.design j) run.rounds (links_of run j + 1) m + less ≤ work_at run s j
@@ -195,7 +195,7 @@ abbrev pub stop_lines : Option Stop → ℕ
 stop_lines None = 0
 stop_lines (Some why) = 1
 
--- each line takes at least one from what is left; the one of a stop takes nothing
+-- each line reduces the remaining work by at least one; the line of a stop does not
 abbrev pub Lessens : Run → BusState → BusState → ℕ → Type 0
 Lessens run s t lines = lines + work_left run t ≤ work_left run s + stop_lines t.stop
 
@@ -382,7 +382,7 @@ opening_work run node within =
     ap (node_left plan run.rounds (links_of run node + 1)) (node_opens run node within)
     ∙ ap (λ r. r * (2 * plan.rate + (links_of run node + 1)) + 0) all ∙ omega arith
 
--- the most that is left
+-- the upper bound of the remaining work
 pub most_left : (run : Run) → work_left run (opening run) + 1 ≤ most_lines run
 most_left run =
     let nodes = length run.design.components in

@@ -95,7 +95,7 @@ value_no_space : (kind : Kind) (v : ℤ) → NoSpace (value_text kind v)
 value_no_space Integer v = signed_no_space v
 value_no_space Boolean v = truth_no_space (is_true v)
 
--- ---- a word with `=` is no number
+-- ---- a word with `=` is not a number
 within_append : (P : ℕ → Type 0) (xs : List ℕ) (y : ℕ) (ys : List ℕ) → All P (xs ++ y ∷ ys) → P y
 within_append P [] y ys all = All-head P y ys all
 within_append P (x ∷ xs) y ys all = within_append P xs y ys (All-tail P x (xs ++ y ∷ ys) all)
@@ -116,7 +116,7 @@ chunk_is_no_round p =
     (subst (All Digit) (sym same) (decimal_digits n)) in absurd (omega (arith, range.1))) in
     ap (λ b. cond (b && nat_le n ROUNDS) (Some n) None) other
 
--- ---- what has no form
+-- ---- lines without a form
 none_if : (b : Bool) (x y : Option LineForm) → x ≡ None → y ≡ None → cond b x y ≡ None
 none_if true x y left right = left
 none_if false x y left right = right

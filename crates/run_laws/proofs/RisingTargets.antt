@@ -26,7 +26,7 @@ use Rattle.bus_machine.specs.ActionsAndTargets.{next_in}
 use Rattle.run_laws.specs.NodeActions.{turn, progress_in, upcoming, Follows}
 use Rattle.run_laws.proofs.ProgressByEvent.{turn_acts, turn_brings}
 
--- ---- what is known of a plan's times
+-- ---- the properties of a plan's times
 pub record IsTimedPlan (plan : Plan) : Type 0 where
   pub last_sent : (plan.sent_steps - 1) * plan.step_period ≤ plan.release_offset
   pub release : plan.release_offset < plan.period
@@ -232,7 +232,7 @@ held_rises plan n m false times some count =
     rises_to _ _ (alarm plan.period (round_of n) + plan.release_offset) (alarm plan.period m.count) refl refl
     (let same : alarm plan.period m.count ≡ alarm plan.period n.count = ap (alarm plan.period) count in omega arith)
 
--- what a phase says of the steps
+-- the properties of the steps in a phase
 abbrev pub Steps : Plan → NodeState → Phase → Type 0
 Steps plan n Waiting = Unit {0}
 Steps plan n (Running step) = step < plan.rate

@@ -56,7 +56,7 @@ verdict_is run rows index a (e ∷ es) none =
 pub not_before : (reading : Option ℕ) (at alarm : ℕ) → reading ≡ Some at → alarm ≤ at → is_before reading alarm ≡ false
 not_before reading at alarm is le = ap (λ o. is_before o alarm) is ∙ le-ltb at alarm le
 
--- where each rule is kept, none is broken
+-- if each rule holds, no rule is violated
 pub none_of : (order falls waits tells : Bool) (early : Option TraceRule) → order ≡ true → falls ≡ false → early ≡ None
     → waits ≡ false → tells ≡ true
     → cond (not order) (Some rule.Order)

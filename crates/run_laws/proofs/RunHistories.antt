@@ -1,4 +1,4 @@
--- What nodes do that keep to their clocks is a history.
+-- The events of nodes that respect their clocks form a history.
 use Rattle.std.proofs.Common.{◌≡◌, ℕ, ◌+◌, ◌*◌, ◌≤◌, true, List, Option, Some, None, refl, subst, arith}
 use Rattle.std.specs.Prelude.{is_some}
 use Rattle.std.specs.Option.{unwrap_or}
@@ -27,7 +27,7 @@ use Rattle.run_laws.proofs.StartAndSendReadings.{shown_for, send_round}
 use Rattle.run_laws.specs.HistoriesAndTraces.{IsRead, IsInTime, History, opens, goes_on}
 use Rattle.run_laws.specs.proof.RunTraces.{RunsAreHistories}
 
--- what is done is read from the node's clock, no less than its target
+-- each action has a reading of the node's clock, at least its target
 read_for : (run : Run) (clocks : Clocks) (journal : List JournalEntry) (s : BusState) (node : NodeNo)
     (reading : Option ℕ) (a : NodeAction) (least : ℕ) → IsRunOf run → Runs run clocks journal s
     → (d : Does run clocks s node reading a) → least ≤ d.at

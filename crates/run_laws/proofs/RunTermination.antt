@@ -1,4 +1,4 @@
--- Each run comes to its end: it can go on until then, and each event leaves less to do.
+-- Each run reaches its end: it can continue until then, and each event reduces the remaining work.
 use Rattle.std.proofs.Common.{◌≡◌, ◌⊎◌, inl, inr, ℕ, zero, suc, ◌+◌, ◌<◌, ◌≤◌, nat_lt, Bool, true, false, cond, List}
 use Rattle.std.proofs.Common.{[], ◌∷◌, ◌++◌, length, map, slice_get, Option, Some, None, refl, sym, ap, ◌∙◌, subst}
 use Rattle.std.proofs.Common.{arith, append_assoc, length-append}
@@ -59,7 +59,7 @@ acts_or_done plan n (Between steps) = inl (_, refl)
 acts_or_done plan n Holding = inl (_, refl)
 acts_or_done plan n Done = inr refl
 
--- the target of a node, 0 where it is done
+-- the target of a node, 0 if it is done
 abbrev goal_of : Run → BusState → ℕ → ℕ
 goal_of run s node = unwrap_or (target_of run s node) 0
 
@@ -122,7 +122,7 @@ meeting_goes run journal s rules runs =
     ]
 
 -- ---- with list clocks
--- a reading is left for the next action of a node
+-- the list has a reading for the next action of a node
 record IsReady (run : Run) (clocks : List ClockState) (s : BusState) (node : ℕ) : Type 0 where
   pub action : NodeAction
   pub next : upcoming (plan_of run.design node) (node_at s node) ≡ Some action
@@ -130,7 +130,7 @@ record IsReady (run : Run) (clocks : List ClockState) (s : BusState) (node : ℕ
   pub later : List ℕ
   pub left : left_for run clocks node action ≡ at ∷ later
 
--- a step of a node runs, or a reading is left for its next action
+-- a step of a node is running, or the list has a reading for its next action
 abbrev IsGoing : Run → List ClockState → BusState → ℕ → Type 0
 IsGoing run clocks s node = ((step : ℕ) × ((node_at s node).phase ≡ Running step)) ⊎ IsReady run clocks s node
 
@@ -159,7 +159,7 @@ goes_or_over run clocks s node = elim (next_or_not (plan_of run.design node) (no
   ]
 ]
 
--- what is left after a target begins with a reading that is no less
+-- the rest of a list from a target on begins with a reading of at least the target
 first_by : (goal r at : ℕ) (rs later : List ℕ) (b : Bool) → nat_lt r goal ≡ b
     → cond b (remaining_from rs goal) (r ∷ rs) ≡ at ∷ later
     → (remaining_from rs goal ≡ at ∷ later → goal ≤ at) → goal ≤ at
@@ -180,7 +180,7 @@ same_readings [] node left = refl
 same_readings (c ∷ cs) zero left = refl
 same_readings (c ∷ cs) (suc node) left = ap (λ rs. c.readings ∷ rs) (same_readings cs node left)
 
--- a source has sent as many rounds, or has come to its list's end
+-- a source has sent as many rounds, or has reached its list's end
 source_sent : (run : Run) (clocks : List ClockState) (s : BusState) (node source : ℕ) → IsRunOf run → Agrees run s
     → node < length run.design.components → source < length run.design.components
     → (node_at s node).phase ≡ Waiting
@@ -292,7 +292,7 @@ goes run clocks later journal told same e = record {
   come = e.come;
 }
 
--- where less is left it ends, so it does
+-- if every run with less remaining work ends, this run ends
 abbrev EndsBelow : Run → ℕ → Type 0
 EndsBelow run left =
     (clocks : Clocks) (journal : List JournalEntry) (s : BusState) → Runs run clocks journal s → work_left run s < left

@@ -28,7 +28,7 @@ journal_has_lines design (e ∷ es) rules fit =
     (journal_has_lines design es rules (All-tail (IsEntryIn design) e es fit))
 
 -- ---- each run
--- what nodes do that keep to their clocks is a history, so its trace is one
+-- the events of nodes that respect their clocks form a history, so the trace of the run is the trace of a history
 pub runs_are_traces : RunsAreTraces
 runs_are_traces run clocks journal s rules runs few readings over = record {
   journal = journal;

@@ -1,4 +1,4 @@
--- An entry that breaks no rule tells an event of the machine that is in time.
+-- An entry that violates no rule belongs to an event of the machine that is in time.
 use Rattle.std.proofs.Common.{◌≡◌, ℕ, ◌+◌, ◌<◌, ◌≤◌, nat_eq, nat_lt, true, false, not, ◌&&◌, cond, List, [], ◌∷◌}
 use Rattle.std.proofs.Common.{length, All, Option, Some, None, refl, sym, ap, ap₂, ◌∙◌, subst, arith}
 use Rattle.std.specs.Prelude.{is_some, is_none, slice_index_or}
@@ -46,12 +46,12 @@ use Rattle.run_laws.proofs.MissedLinks.{missed_link}
 use Rattle.run_laws.specs.HistoriesAndTraces.{IsRead, IsInTime}
 use Rattle.run_laws.proofs.PassedRuleTests.{none_broken, if_none, none_is_due}
 
--- ---- what comes next
+-- ---- the next entry
 abbrev pub listed : Option JournalEntry → List JournalEntry
 listed None = []
 listed (Some e) = e ∷ []
 
--- an entry is the first one of an event that is allowed and in time; what else the event tells is of the design
+-- an entry is the first entry of an allowed event in time; the other entries of the event belong to the design
 pub record IsNext (run : Run) (front : List JournalEntry) (s : BusState) (e : JournalEntry) : Type 0 where
   pub event : BusEvent
   pub is_event : event_of run.design e ≡ Some event
@@ -89,7 +89,7 @@ target_within design link rules within =
     (slice_get-get_or design.links link no_link within) in
     rule.target.node_is
 
--- a line of a start is none of a stop: their third letters differ
+-- the line of a start is not the line of a stop: their third letters differ
 other_letter : (a b : ℕ) → a ≡ 97 → b ≡ 111 → a ≡ b → ⊥
 other_letter a b is_a is_o same = absurd (omega arith)
 

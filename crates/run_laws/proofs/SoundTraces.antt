@@ -72,7 +72,7 @@ pub latest_one : (design : DesignParts) (k : ℕ) (journal : List JournalEntry) 
     → latest design k (journal ++ x ∷ []) ≡ last_of k (latest design k journal) (timed design x)
 latest_one design k journal x = fold-append (λ b e. last_of k b (timed design e)) 0 journal (x ∷ [])
 
--- the clock that an entry is read from is of a node that is there
+-- the clock that an entry shows belongs to an existing node
 at_node : (n node : ℕ) (reading : Option ℕ) (t : Timed) → node < n
     → Some (record { node = node; reading = reading }) ≡ Some t → t.node < n
 at_node n node reading t within is = subst (λ (u : Timed). u.node < n) (same_Some _ _ is) within
@@ -245,7 +245,7 @@ over_or run s (inl stands) = inl stands
 over_or run s (inr all) = inr (λ node within. done_at s.nodes node all)
 
 -- ---- the journal
--- what the lines that are left tell
+-- the entries of the remaining lines
 pub record IsRest (run : Run) (rows : ℕ) (front : List JournalEntry) (lines : List (List ℕ)) (rounds : ℕ)
     (why : Option Stop) : Type 0 where
   journal : List JournalEntry

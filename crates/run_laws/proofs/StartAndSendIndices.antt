@@ -54,7 +54,7 @@ pub start_place : (plan : Plan) (rounds k round : ℕ) → IsPlan plan
     → slice_get (actions plan rounds) k ≡ Some (action.Start round) → k ≡ round * (plan.rate + 1)
 start_place plan rounds k round rules is = turn_starts plan k round rules (in_all plan rounds k (action.Start round) is)
 
--- a start that is done is of a round that is counted
+-- a completed start belongs to a counted round
 pub start_done : (plan : Plan) (rounds k round done : ℕ) (n : NodeState) → IsPlan plan
     → slice_get (actions plan rounds) k ≡ Some (action.Start round) → k < done → Follows plan done n → round < n.count
 start_done plan rounds k round done n rules is below follows =
@@ -105,7 +105,7 @@ sends_by plan p round true more is action = (cc, unsent_if p.sent _ _ is)
 sends_by plan p round false true is action = absurd (cc)
 sends_by plan p round false false is action = absurd (cc)
 
--- a send stands behind the start of its round
+-- a send follows the start of its round
 turn_sends : (plan : Plan) (k round : ℕ) → (turn plan k).action ≡ action.Send round
     → (before : ℕ) × (k ≡ suc before) × (mark (turn plan k).before ≡ 2 * round)
     × (mark (turn plan (suc k)).before ≡ 2 * round + 1)
@@ -141,7 +141,7 @@ send_place plan rounds k other round is is_other =
       ]
     ]
 
--- where a node stands
+-- the position of a node
 sent_by : (sent : Bool) (count round : ℕ) → 1 ≤ count → 2 * round + 1 ≤ 2 * (count - 1) + bit sent
     → round < cond sent count (count - 1)
 sent_by true count round some le = omega arith
@@ -157,7 +157,7 @@ sent_in plan n Holding round some waits done le = sent_by n.sent n.count round s
 sent_in plan n Done round some waits done le =
     sent_by n.sent n.count round some (let same : bit n.sent ≡ 1 = ap bit (done refl) in omega arith)
 
--- a send that is done is of a round that is sent
+-- a completed send belongs to a sent round
 pub send_done : (plan : Plan) (rounds k round done : ℕ) (n : NodeState)
     → slice_get (actions plan rounds) k ≡ Some (action.Send round) → k < done → (n.phase ≡ Waiting → n.sent ≡ true)
     → (n.phase ≡ Done → n.sent ≡ true) → Follows plan done n → round < sent_rounds n

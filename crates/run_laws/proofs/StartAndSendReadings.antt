@@ -86,7 +86,7 @@ one_more times clocks shown at round size is fit = λ r t got. elim (got_more sh
       (subst (λ k. IsFor clocks (times k) at) (sym (last.0 ∙ size)) is)
 ]
 
--- where the entry is of this node, or is not
+-- if the entry belongs to this node, or to another one
 by_node : (times : ℕ → ℕ) (clocks : Clocks) (shown : List ℕ) (node : NodeNo) (k at round : ℕ) (reading : Option ℕ)
     (b : Bool) → nat_eq node.0 k ≡ b → reading ≡ Some at → (node.0 ≡ k → length shown ≡ round)
     → (node.0 ≡ k → IsFor clocks (times round) at) → Fit times clocks shown

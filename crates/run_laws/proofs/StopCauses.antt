@@ -1,4 +1,4 @@
--- What each stop of a run tells: the cause of a missed start, and that with nodes that meet the source has sent. The
+-- The cause of each stop of a run: the cause of a missed start, and that in virtual time the source has sent. The
 -- claim StopsFit.
 use Rattle.std.proofs.Common.{◌≡◌, inl, inr, ℕ, ◌+◌, ◌-◌, ◌<◌, ◌≤◌, nat_eq, nat_le, nat_lt, Bool, true, false, cond}
 use Rattle.std.proofs.Common.{◌&&◌, List, [], ◌∷◌, ◌++◌, length, slice_get, All, Option, Some, None, refl, sym, ap, ap₂}
@@ -99,7 +99,7 @@ not_due due at d is same =
           (sym here ∙ (let yes' : nat_le d at ≡ true = grind (arith, common_steps) in yes')))
     ]
 
--- what is known where a start misses a link's message
+-- the facts about a start that misses a link's message
 record Missing (run : Run) (clocks : Clocks) (journal : List JournalEntry) (s : BusState) (number : ℕ) (l : Link)
     (round at : ℕ) : Type 0 where
   pub is_link : slice_get run.design.links number ≡ Some l

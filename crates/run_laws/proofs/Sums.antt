@@ -12,8 +12,8 @@ abbrev pub sum_below : (ℕ → ℕ) → ℕ → ℕ
 sum_below f zero = 0
 sum_below f (suc n) = sum_below f n + f n
 
--- ---- of greater and lesser terms
--- where no term is greater, the sum is not
+-- ---- monotonicity
+-- if no term is greater, the sum is not greater
 pub sum_stays : (f g : ℕ → ℕ) (n : ℕ) → ((k : ℕ) → k < n → g k ≤ f k) → sum_below g n ≤ sum_below f n
 sum_stays f g zero most = omega arith
 sum_stays f g (suc n) most =
@@ -21,7 +21,7 @@ sum_stays f g (suc n) most =
     let last = most n (omega arith) in
     omega arith
 
--- where each term rises by no more than another
+-- if each term grows by at most another term, so does the sum
 pub sum_rises : (f g h : ℕ → ℕ) (n : ℕ) → ((k : ℕ) → k < n → g k ≤ f k + h k)
     → sum_below g n ≤ sum_below f n + sum_below h n
 sum_rises f g h zero most = omega arith
@@ -30,7 +30,7 @@ sum_rises f g h (suc n) most =
     let last = most n (omega arith) in
     omega arith
 
--- where one term falls, and no other rises
+-- if one term falls and no other term rises, the sum falls
 pub sum_falls : (f g : ℕ → ℕ) (n j less : ℕ) → j < n → g j + less ≤ f j → ((k : ℕ) → k < n → k ≢ j → g k ≤ f k)
     → sum_below g n + less ≤ sum_below f n
 sum_falls f g zero j less within falls most = absurd (omega arith)
@@ -59,7 +59,7 @@ pub sum_both : (f g : ℕ → ℕ) (n : ℕ) → sum_below (λ k. f k + g k) n �
 sum_both f g zero = refl
 sum_both f g (suc n) = let rest = sum_both f g n in omega arith
 
--- where no column of a table has more than one, the whole has no more than there are columns
+-- if each column of a table sums to at most one, the table sums to at most its number of columns
 pub sum_columns : (h : ℕ → ℕ → ℕ) (n m : ℕ) → ((i : ℕ) → i < m → sum_below (λ k. h k i) n ≤ 1)
     → sum_below (λ k. sum_below (h k) m) n ≤ m
 sum_columns h n zero one = let none = sum_none n in omega arith
@@ -69,7 +69,7 @@ sum_columns h n (suc m) one =
     let both = sum_both (λ k. sum_below (h k) m) (λ k. h k m) n in
     omega arith
 
--- a number is one of those below another, or none
+-- at most one number below a bound equals a given number
 bit_most : (b : Bool) → one_if b ≤ 1
 bit_most true = omega arith
 bit_most false = omega arith

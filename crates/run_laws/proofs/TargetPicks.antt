@@ -14,7 +14,7 @@ use Rattle.bus_machine.specs.ActionsAndTargets.{targets}
 use Rattle.run_laws.specs.NodeActions.{Follows}
 use Rattle.run_laws.specs.proof.ListPicks.{IsPicked}
 
--- ---- where a clock stands
+-- ---- the position of a clock
 idem_by : (r : ℕ) (later : List ℕ) (target : ℕ) (b : Bool) → nat_lt r target ≡ b
     → remaining_from (remaining_from later target) target ≡ remaining_from later target
     → remaining_from (cond b (remaining_from later target) (r ∷ later)) target ≡ cond b (remaining_from later target) (r ∷ later)
@@ -25,7 +25,7 @@ pub reached_again : (left : List ℕ) (target : ℕ) → remaining_from (remaini
 reached_again [] target = refl
 reached_again (r ∷ later) target = idem_by r later target (nat_lt r target) refl (reached_again later target)
 
--- a clock that stands at a reading that is no less than a target has reached it
+-- a clock whose current reading is at least a target has reached the target
 pub stands : (left : List ℕ) (target at : ℕ) → slice_get left 0 ≡ Some at → target ≤ at → remaining_from left target ≡ left
 stands [] target at is most = refl
 stands (r ∷ later) target at is most =
@@ -66,8 +66,8 @@ drop_next (y ∷ ys) zero x is = let same : y ≡ x = cc in ap (λ z. z ∷ ys) 
 drop_next (y ∷ ys) (suc k) x is = let next : suc k + 1 ≡ suc (k + 1) = omega arith in
     drop_next ys k x is ∙ ap (λ n. x ∷ drop n (y ∷ ys)) (sym next)
 
--- ---- of a node that has done some actions
--- what is left after the next
+-- ---- a node that has done some actions
+-- the rest of its list after the next action
 left_next : (readings ts : List ℕ) (k target : ℕ) → slice_get ts k ≡ Some target
     → left_after readings (take (k + 1) ts) ≡ remaining_from (left_after readings (take k ts)) target
 left_next readings ts k target is =
@@ -137,7 +137,7 @@ pick_at plan rounds clock n shown p target at is first most =
     ∙ at_end shown at (picks (left_after clock.readings (take (p.done + 1) ts)) (drop (p.done + 1) ts))
     p.done p.count
 
--- where its clock has none for the next one, its picks end there
+-- if its clock has no reading for the next target, its picks end there
 pub picks_end : (plan : Plan) (rounds : ℕ) (clock : ClockState) (n : NodeState) (shown : List ℕ)
     (p : IsPicked plan rounds clock n shown) (target : ℕ)
     → slice_get (targets plan rounds) p.done ≡ Some target → remaining_from clock.left target ≡ []
@@ -182,13 +182,13 @@ picks_next plan rounds clock n shown p target is =
       ]);
     }
 
--- it goes on otherwise
+-- otherwise it continues
 pub goes_otherwise : (plan : Plan) (rounds : ℕ) (clock : ClockState) (n m : NodeState) (shown : List ℕ)
     (p : IsPicked plan rounds clock n shown) → Follows plan p.done m → IsPicked plan rounds clock m shown
 goes_otherwise plan rounds clock n m shown p follows =
     record { done = p.done; follows = follows; count = p.count; shown_are = p.shown_are; left = p.left }
 
--- what it has done is a prefix of its picks
+-- the readings of its completed actions are a prefix of its picks
 pub is_prefix : (plan : Plan) (rounds : ℕ) (clock : ClockState) (n : NodeState) (shown : List ℕ)
     (p : IsPicked plan rounds clock n shown) → p.done ≤ length (targets plan rounds)
     → (later : List ℕ) × (picks clock.readings (targets plan rounds) ≡ shown ++ later)

@@ -1,4 +1,4 @@
--- Time that passes without a fault keeps what a world keeps of its time: no last allowed time is passed.
+-- Time that passes without a fault maintains the timing invariant of a world: no last allowed time is passed.
 use Rattle.std.proofs.Common.{◌≡◌, ℕ, ◌+◌, ◌-◌, ◌<◌, ◌≤◌, true, List, [], ◌∷◌, length, map, slice_get, Option, Some}
 use Rattle.std.proofs.Common.{None, refl, sym, ◌∙◌, subst, arith}
 use Rattle.std.specs.Prelude.{nat_lt, nat_le, is_some, slice_index_or}
@@ -30,7 +30,7 @@ use Rattle.run_laws.proofs.Lists.{both_none, none_first}
 use Rattle.run_laws.proofs.WorldNodeTiming.{deadline_is}
 use Rattle.run_laws.proofs.FaultlessEventConditions.{named, none_if}
 
--- ---- what the fault says
+-- ---- the meaning of the fault
 none_past : (time : ℕ) (which : EventSubject) (last : Option ℕ) → past time which last ≡ None → KeepsDeadline time last
 none_past time which None none = tt
 none_past time which (Some last) none =
@@ -107,7 +107,7 @@ module _ (run : Run) (w : World) (time : ℕ) (readings : List ℕ) where
             (slice_get-upwards (length run.design.links) number within));
       }
 
--- ---- what it keeps
+-- ---- the invariant after it
 module _ (run : Run) (w : World) (time : ℕ) (readings : List ℕ) (keeps : KeepsTime run w)
     (fine : FaultlessPass run w time readings) where
   abbrev passed : World

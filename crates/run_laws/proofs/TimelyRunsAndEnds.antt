@@ -1,4 +1,4 @@
--- Runs in time have no stop, and the ends of runs hang on the readings of their lists alone.
+-- Runs in time have no stop, and the ends of runs depend only on the readings of their lists.
 use Rattle.std.proofs.Common.{◌≡◌, ◌⊎◌, inl, inr, ℕ, zero, suc, ◌-◌, ◌<◌, ◌≤◌, Bool, true, false, cond, List, [], ◌∷◌}
 use Rattle.std.proofs.Common.{length, map, slice_get, slice_index_or, Option, Some, None, refl, sym, ap, ◌∙◌, subst}
 use Rattle.std.proofs.Common.{arith}
@@ -42,7 +42,7 @@ use Rattle.run_laws.proofs.ListRunEndsAndStops.{done_are_picked, ended_picks_end
 use Rattle.run_laws.proofs.RunTermination.{ends_are_named}
 use Rattle.run_laws.proofs.LinkTimingPreservation.{sent_of}
 
--- ---- what hangs on the readings of lists alone
+-- ---- the parts that depend only on the readings of lists
 readings_at : (node : ℕ) (clocks : List ClockState)
     → (clock_at clocks node).readings ≡ slice_index_or (map (λ (c : ClockState). c.readings) clocks) node []
 readings_at node [] = refl
@@ -95,7 +95,7 @@ sent_most : (b : Bool) (count rounds : ℕ) → count ≤ rounds → cond b coun
 sent_most true count rounds most = most
 sent_most false count rounds most = omega arith
 
--- a message that comes early is of a round of the run
+-- an early message belongs to a round of the run
 early_within : (run : Run) (journal : List JournalEntry) (s : BusState) (number round d : ℕ) (link : Link) → IsRunOf run
     → Runs run Meet journal s → slice_get run.design.links number ≡ Some link
     → due_of (delay_of run.delays number) (sends link.source.0 journal) round ≡ Some d → round < run.rounds
@@ -149,7 +149,7 @@ bounds_are_in_time run rules fits number within round =
     )
 
 -- ---- ends
--- a node that is done has not come to its list's end
+-- a node that is done has not reached its list's end
 pub done_or_ended : (run : Run) (clocks : List ClockState) (s : BusState) (node : ℕ) → (node_at s node).phase ≡ Done
     → HasEnded run clocks s node → ⊥
 done_or_ended run clocks s node done ended =
@@ -199,7 +199,7 @@ module _ (run : Run) (one two : List ClockState) (journal more : List JournalEnt
       (done_are_picked run two more t rules others node within (end node within)).1
       (picked_all run one two node same all)
 
--- it stands at one target in both
+-- the node waits for the same target in both runs
 one_goal : (run : Run) (one two : List ClockState) (journal more : List JournalEntry) (s t : BusState) (node other : ℕ)
     → IsRunOf run → Runs run (Lists one) journal s → Runs run (Lists two) more t
     → lists_in (Lists one) ≡ lists_in (Lists two) → node ≡ other → (x : IsFirstEnded run one s node)

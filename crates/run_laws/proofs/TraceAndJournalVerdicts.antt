@@ -1,5 +1,4 @@
--- The verdict on a trace whose lines begin with its design's report is the verdict on the journal's lines behind
--- that.
+-- The verdict on a trace whose first lines are its design's report is the verdict on the following lines, the journal.
 use Rattle.std.proofs.Common.{◌≡◌, ℕ, ◌+◌, ◌*◌, ◌/◌, Bool, true, false, not, cond, List, [], ◌∷◌, ◌++◌, length, take}
 use Rattle.std.proofs.Common.{drop, All, None, refl, ap, ap₂, ◌∙◌, arith}
 use Rattle.std.specs.Prelude.{is_some}

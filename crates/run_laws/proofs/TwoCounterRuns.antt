@@ -30,7 +30,7 @@ use Rattle.run_laws.specs.Runs.{goes_on}
 use Rattle.run_laws.specs.proof.TwoCounterRuns.{counters_for, SomeMeetingEnds, SomeListEnds}
 use Rattle.run_laws.proofs.MeetingStopsAndBounds.{link_is}
 
--- ---- what a test tells
+-- ---- the meaning of a test
 abbrev no_less : Run → BusState → ℕ → Bool
 no_less run s at =
     list_all (λ k. option_map_or (nat_le at) (target_of run s k) true) (upwards 0 (length run.design.components))
@@ -222,7 +222,7 @@ orders (suc zero) within =
     (more_rise 18000000 19000000 [] (omega arith) (few_rise 19000000)))
 orders (suc (suc node)) within = absurd (omega arith)
 
--- nothing has been started before: each source has sent what is awaited
+-- no round was started before, so each source has sent the awaited rounds
 none_awaited : (s : BusState) (node : ℕ) (clocks : List ClockState) → (node_at s node).count ≡ 0
     → IsAwaited two (Lists clocks) s node
 none_awaited s node clocks none = λ link l is to. inl (omega arith)

@@ -1,4 +1,4 @@
--- A line that tells an entry of a design is that entry's line.
+-- A line that denotes an entry of a design is that entry's line.
 use Rattle.std.proofs.Common.{◌≡◌, ℕ, nat_le, nat_eq, Bool, true, false, ◌&&◌, cond, List, [], ◌∷◌, Option, Some, None}
 use Rattle.std.proofs.Common.{refl, sym, ap, ◌∙◌, subst}
 use Rattle.std.specs.Prelude.{codes, decimal, bytes_eq, IfSome}
@@ -113,7 +113,7 @@ cause_is word cause got =
     cause_by word cause (is word (codes "not-sent")) (is word (codes "in-transit")) (is word (codes "lost")) refl
     refl refl got
 
--- ---- what is read of these words, if anything is, has them
+-- ---- if these words are read as a form, the form has these words
 abbrev Spells : List (List ℕ) → Option LineForm → Type 0
 Spells words o = IfSome o (λ form. words ≡ form_words form)
 
@@ -127,7 +127,7 @@ if_spells : (words : List (List ℕ)) (b : Bool) (x y : Option LineForm) → (b 
 if_spells words true x y here there = here refl
 if_spells words false x y here there = there
 
--- words behind others that are known
+-- words after known words
 abbrev Behind : Type 0
 Behind = List (List ℕ) → List (List ℕ)
 
@@ -186,7 +186,7 @@ timed_spells front words go here =
     (λ reading left. end_spells (λ ws. front (name ∷ decimal round ∷ reading_word reading ∷ ws)) (go name round reading)
     left (here name round reading)))
 
--- a name and a round alone
+-- only a name and a round
 round_spells : (front : Behind) (words : List (List ℕ)) (go : List ℕ → ℕ → LineForm)
     → ((name : List ℕ) (round : ℕ) → front (name ∷ decimal round ∷ []) ≡ form_words (go name round))
     → Spells (front words) (named words (λ name round left. at_end (go name round) left))
@@ -295,7 +295,7 @@ link_is_named design name n found =
     let at = found_at (λ (link : Link). bytes_eq name (link_name design link)) design.links n found in
     ap (name_in design) at.1 ∙ sym (same_words name (link_name design at.0) at.2)
 
--- what is told of this number has these words
+-- the entry for this number has these words
 told_by : (design : DesignParts) (words : List (List ℕ)) (o : Option ℕ) (go : ℕ → JournalEntry) (e : JournalEntry)
     → ((n : ℕ) → o ≡ Some n → entry_words design (go n) ≡ words) → option_map go o ≡ Some e
     → entry_words design e ≡ words

@@ -1,4 +1,4 @@
--- An arrival without a fault leaves its message in the slot, and keeps what a world keeps of its time.
+-- An arrival without a fault stores its message in the slot and maintains the timing invariant of a world.
 use Rattle.std.proofs.Common.{◌≡◌, ◌≢◌, inl, inr, ℕ, suc, ◌+◌, ◌<◌, nat_eq, true, false, List, [], length, Some, None}
 use Rattle.std.proofs.Common.{refl, sym, ap, ◌∙◌, subst, arith}
 use Rattle.std.specs.Prelude.{nat_lt}
@@ -99,7 +99,7 @@ module _ (run : Run) (w : World) (rules : IsRunOf run) (keeps : KeepsTime run w)
   pub arrival_is_kept : arrival run w.bus link round ≡ Kept
   arrival_is_kept = is_kept run w rules keeps link.0 round comes
 
-  -- the world behind it, by what the arrival is
+  -- the world after it, by the result of the arrival
   abbrev pub bus_arrived : Arrived → BusState
   bus_arrived a =
       record (with_flight (with_node w.bus target (with_message here port tuple a)) link.0

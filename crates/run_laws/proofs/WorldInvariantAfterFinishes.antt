@@ -1,4 +1,4 @@
--- A finish without a fault keeps what a world keeps of its time.
+-- A finish without a fault maintains the timing invariant of a world.
 use Rattle.std.proofs.Common.{◌≡◌, ◌≢◌, ℕ, suc, ◌+◌, ◌-◌, ◌*◌, ◌<◌, ◌≤◌, nat_eq, Bool, true, false, length, Option}
 use Rattle.std.proofs.Common.{Some, refl, sym, ap, ap₂, ◌∙◌, subst, arith}
 use Rattle.std.specs.Prelude.{nat_lt, max, is_some, slice_set, if◌then◌else◌}

@@ -1,4 +1,4 @@
--- A send without a fault keeps what a world keeps of its time: its messages go into flight no later than the bounds
+-- A send without a fault maintains the timing invariant of a world: its messages enter flight no later than the bounds
 -- allow.
 use Rattle.std.proofs.Common.{◌≡◌, ◌≢◌, inl, inr, ℕ, suc, ◌+◌, ◌-◌, ◌<◌, ◌≤◌, nat_eq, Bool, true, false, List, [], ◌∷◌}
 use Rattle.std.proofs.Common.{◌++◌, length, Option, Some, refl, sym, ap, ◌∙◌, subst, arith, length-append}
@@ -50,7 +50,7 @@ use Rattle.run_laws.proofs.FaultlessEventConditions.{FaultlessSend}
 use Rattle.run_laws.proofs.NodePicksAndRunReplay.{component_is}
 
 -- ---- a round of a link from the node
--- the message of the round after those that are sent goes into flight
+-- the message of the first unsent round enters flight
 send_once : (count : ℕ) (slot : Option (List PortValue)) (sent : ℕ) (flight : List FlightCopy) (r : ℕ)
     (copy : FlightCopy) → copy.round ≡ sent
     → IsOnce count slot sent flight r → IsOnce count slot (suc sent) (flight ++ copy ∷ []) r
@@ -299,7 +299,7 @@ module _ (run : Run) (w : World) (rules : IsRunOf run) (keeps : KeepsTime run w)
   pub moments_after : slice_index_or sent_at_after node.0 [] ≡ moments ++ w.time ∷ []
   moments_after = get_or-set_at w.sent_at node.0 node.0 (moments ++ w.time ∷ []) [] refl long_sent
 
-  -- a copy in flight behind the send was there before, or is the new one
+  -- a copy in flight after the send was in flight before, or is the new one
   in_time_here : (number r : ℕ) → number < length run.design.links → (link_at run.design number).source.0 ≡ node.0
       → is_in_flight r (flight_at bus_sent number) ≡ true
       → w.time ≤ slice_index_or (moments ++ w.time ∷ []) r 0 + run.design.gamma.mu_max

@@ -1,4 +1,4 @@
--- A start without a fault misses no message, and keeps what a world keeps of its time.
+-- A start without a fault misses no message and maintains the timing invariant of a world.
 use Rattle.std.proofs.Common.{◌≡◌, inl, inr, ℕ, ◌+◌, ◌-◌, ◌<◌, ◌≤◌, nat_eq, Bool, true, false, List, length, slice_get}
 use Rattle.std.proofs.Common.{Option, Some, None, refl, sym, ap, ap₂, ◌∙◌, subst, arith}
 use Rattle.std.specs.Prelude.{nat_lt, is_some, is_none, position, zip, option_map, if◌then◌else◌, slice_index_or}
@@ -338,7 +338,7 @@ module _ (run : Run) (w : World) (rules : IsRunOf run) (keeps : KeepsTime run w)
       (node_set w.bus node.0 begun in_bus) (get_or-set_at w.since node.0 node.0 w.time 0 refl long) refl refl)
       links_begun
 
-  -- the world behind the start, by what it would miss
+  -- the world after the start, by the link that it would miss
   abbrev world_started : Option ℕ → World
   world_started missed =
       changed w (after_start run w.bus node (Some (reading_at w node.0)) missed)

@@ -1,4 +1,4 @@
--- The start of a step without a fault keeps what a world keeps of its time.
+-- The start of a step without a fault maintains the timing invariant of a world.
 use Rattle.std.proofs.Common.{◌≡◌, ℕ, suc, ◌+◌, ◌-◌, ◌<◌, ◌≤◌, true, length, Option, Some, refl, ap, ◌∙◌, subst, arith}
 use Rattle.std.specs.Prelude.{is_some, slice_set}
 use Rattle.std.specs.Option.{unwrap_or}

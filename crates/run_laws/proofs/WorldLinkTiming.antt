@@ -1,5 +1,5 @@
--- The messages of links against the time of a world: what arrives is of the last round that its target has started,
--- and what a start needs has arrived.
+-- The messages of links relative to the time of a world: an arriving message belongs to the last round that its target
+-- has started, and the messages that a start reads have arrived.
 use Rattle.std.proofs.Common.{◌≡◌, inl, inr, ℕ, suc, ◌+◌, ◌-◌, ◌<◌, ◌≤◌, nat_eq, Bool, true, false, List, length}
 use Rattle.std.proofs.Common.{slice_get, Option, Some, None, refl, sym, ap, ap₂, ◌∙◌, arith}
 use Rattle.std.specs.Prelude.{nat_lt, nat_le, ◌&&◌, is_some, is_none, if◌then◌else◌}
@@ -158,7 +158,7 @@ module _ (run : Run) (w : World) (rules : IsRunOf run) (keeps : KeepsTime run w)
             none_unless_some (slot_at n link.in_port) (not_waiting n.count (slot_at n link.in_port) round last u.apart);
       }
 
-  -- so it is kept
+  -- so it is stored
   pub is_kept : (number round : ℕ) → ComesInTime number round
       → arrived (node_at w.bus (link_at run.design number).target.0) (link_at run.design number).in_port round ≡ Kept
   is_kept number round comes =

@@ -1,5 +1,5 @@
--- The nodes of a world against its time: none is past the next round's alarm by the skew, and what it has not sent
--- has time left.
+-- The nodes of a world relative to its time: no node is past the next round's alarm by the skew, and every unsent
+-- round has time left.
 use Rattle.std.proofs.Common.{◌≡◌, ◌≢◌, ◌⊎◌, inl, inr, ℕ, zero, suc, ◌+◌, ◌-◌, ◌<◌, ◌≤◌, Bool, true, false, List, []}
 use Rattle.std.proofs.Common.{◌∷◌, length, slice_get, Option, Some, None, refl, sym, ap, ◌∙◌, subst, arith}
 use Rattle.std.specs.Prelude.{max, min, not, nat_le, if◌then◌else◌, fold}
@@ -52,7 +52,7 @@ pub sends_in_time : (t last : ℕ) (may : Bool) → (may ≡ true → t ≤ last
 sends_in_time t last true in_time = in_time refl
 sends_in_time t last false in_time = tt
 
--- by what a node's plan, state and moments are
+-- by a node's plan, state and moments
 abbrev pub phase_last : Gamma → Plan → NodeState → ℕ → Phase → Option ℕ
 phase_last g plan n since Waiting = Some (last_before (start_alarm plan n) g.eps)
 phase_last g plan n since (Running step) = Some (since + g.alpha_max)
@@ -145,7 +145,7 @@ fits_at run node rules within =
     rules.design.gamma.skew.0 rate.0
     (one_below 1 run.design.components node c is_c) rules.design.bound
 
--- ---- where it stands
+-- ---- the position of a node
 pub record Stands (g : Gamma) (plan : Plan) (n : NodeState) (reading time since ready : ℕ)
     (moments : List ℕ) : Type 0 where
   pub clock : IsNear g time reading
@@ -187,7 +187,7 @@ module _ (run : Run) (node : ℕ) (n : NodeState) (time since ready : ℕ) where
       send_in_time time (max ready (last_before (release_reading plan n) run.design.gamma.eps))
       (phase_last run.design.gamma plan n since p) (may_send plan n) may in_time
 
-  -- what it is to send has time left
+  -- the next send has time left
   unsent_may : (p : Phase) (round : ℕ) → FitsAt run node
       → KeepsNode run.design.gamma (plan_of run.design node) n time since ready → InTimeAt p → n.count ≡ suc round
       → may_send (plan_of run.design node) n ≡ true → time + run.design.gamma.eps < alarm run.design.period n.count

@@ -1,5 +1,5 @@
--- What a stop, with any clocks, says of the bounds: how late or early the message's delay and its source's send
--- were; and delays that keep to them.
+-- How a stop, with any clocks, relates to the bounds: by how much the message's delay and its source's send were late
+-- or early; and delays that meet the bounds.
 use Rattle.std.specs.Prelude.{◌≡◌, ℕ, ◌+◌, ◌-◌, ◌*◌, ◌<◌, ◌≤◌, max, List, Option, Some, slice_get, length}
 use Rattle.pals_base.specs.PeriodBoundAndReleases.{alarm, backoff}
 use Rattle.pals_model.specs.Delays.{delay_of}
@@ -20,9 +20,9 @@ abbrev pub latest_send : Run → ℕ → ℕ
 latest_send run source = let plan = plan_of run.design source in
     max (backoff run.design.gamma) ((plan.sent_steps - 1) * plan.step_period + run.design.gamma.alpha_max)
 
--- a message in transit takes longer than the greatest delay of the bounds, or was sent after the latest send within
--- them; one that comes early takes less than the least delay, or its target reads two skews more than the alarm of
--- its round
+-- a message in transit takes longer than the maximum delay of the bounds, or was sent after the latest send within
+-- them; an early message takes less than the minimum delay, or its target's clock reads two skews more than the alarm
+-- of its round
 abbrev pub BoundedStop : Run → List JournalEntry → Stop → Type 0
 BoundedStop run journal (stop.Missed link round reading cause) = cause ≡ InTransit
     → (at : ℕ) → sent_at run journal link.0 round ≡ Some at
@@ -32,7 +32,7 @@ BoundedStop run journal (stop.Early link round reading) = (at : ℕ) → reading
     → run.design.gamma.mu_min ≤ delay_of run.delays link.0 round
     → alarm run.design.period round + 2 * run.design.gamma.eps ≤ at
 
--- each delay is between the least and the greatest of the bounds
+-- each delay is between the minimum and the maximum of the bounds
 abbrev pub DelaysFit : Run → Type 0
 DelaysFit run = (number round : ℕ) → number < length run.design.links
     → (run.design.gamma.mu_min ≤ delay_of run.delays number round)

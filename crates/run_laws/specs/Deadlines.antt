@@ -9,7 +9,7 @@ use Rattle.bus_machine.specs.BusStates.{node_at}
 use Rattle.bus_machine.specs.RunParameters.{Run}
 use Rattle.run_laws.specs.Worlds.{World, since_at, ready_at, flight_since}
 
--- the last reading below this alarm's clock that may be as far behind as the skew allows
+-- the last time at which a clock that is at most the skew behind still reads less than this alarm
 abbrev pub last_before : ℕ → ℕ → ℕ
 last_before reading eps = reading + eps - 1
 
@@ -23,7 +23,7 @@ phase_deadline run w node (Between steps) =
 phase_deadline run w node Holding = None
 phase_deadline run w node Done = None
 
--- of a round that may be sent: its release is due, and what is sent is finished
+-- the last time for the send of a round: after its release and the finish of the sent steps
 abbrev pub send_deadline : Run → World → ℕ → Option ℕ
 send_deadline run w node =
     let plan = plan_of run.design node in
@@ -31,7 +31,7 @@ send_deadline run w node =
     if may_send plan n then Some
     (max (ready_at w node) (last_before (release_reading plan n) run.design.gamma.eps)) else None
 
--- where there are two, the lesser counts
+-- the smaller one, if there are two
 abbrev pub lesser : Option ℕ → Option ℕ → Option ℕ
 lesser None b = b
 lesser (Some a) None = Some a

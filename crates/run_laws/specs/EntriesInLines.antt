@@ -1,4 +1,4 @@
--- What a line of a journal says of a design: the entry that it tells.
+-- The journal entry of a design that a line denotes.
 use Rattle.std.specs.Prelude.{ℕ, List, Option, option_map, option_and_then}
 use Rattle.pals_base.specs.declared.basic_types.NodeNo.{NodeNo}
 use Rattle.pals_base.specs.declared.basic_types.LinkNo.{LinkNo}
@@ -17,7 +17,7 @@ of_node design name go = option_map (λ n. go (record { 0 = n })) (node_named de
 abbrev pub of_link : DesignParts → List ℕ → (LinkNo → JournalEntry) → Option JournalEntry
 of_link design name go = option_map (λ n. go (record { 0 = n })) (link_named design name)
 
--- the entry that a form tells, where its name is the design's
+-- the entry that a form denotes, if its name belongs to the design
 abbrev pub entry_of : DesignParts → LineForm → Option JournalEntry
 entry_of design (ArriveLine name round reading result) =
     of_link design name (λ link. entry.Arrive link round reading result)

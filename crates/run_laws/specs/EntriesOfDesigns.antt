@@ -1,4 +1,4 @@
--- Which entries are of a design: of a node or a link that is there, with numbers within their limits.
+-- Which entries belong to a design: they name an existing node or link, with numbers within their limits.
 use Rattle.std.specs.Prelude.{ℕ, ◌<◌, ◌≤◌, length, Option, None, IfSome}
 use Rattle.pals_base.specs.declared.limits.TheConstants.{ROUNDS, READING}
 use Rattle.pals_model.specs.declared.design.DesignParts.{DesignParts}
@@ -7,7 +7,7 @@ use Rattle.pals_runs.specs.declared.journal.JournalEntry.{JournalEntry}
 use Rattle.pals_runs.specs.declared.journal.Stop.TheVariants as stop
 use Rattle.pals_runs.specs.declared.journal.JournalEntry.TheVariants as entry
 
--- an entry of a design is of a node or a link that is there, with numbers within their limits
+-- an entry belongs to a design if it names an existing node or link and its numbers are within their limits
 abbrev pub IsReading : Option ℕ → Type 0
 IsReading reading = IfSome reading (λ at. at ≤ READING)
 

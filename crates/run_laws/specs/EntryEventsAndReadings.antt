@@ -9,7 +9,7 @@ use Rattle.bus_machine.specs.Machine.{BusEvent, Start, Step, Finish, Send, Arriv
 use Rattle.pals_runs.specs.declared.journal.Stop.TheVariants as stop
 use Rattle.pals_runs.specs.declared.journal.JournalEntry.TheVariants as entry
 
--- a reading of a node's clock; an arrival's and a stop's are of the target
+-- a reading of a node's clock; for an arrival and a stop the node is the target
 pub record Timed : Type 0 where
   pub node : ℕ
   pub reading : Option ℕ

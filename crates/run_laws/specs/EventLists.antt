@@ -1,4 +1,4 @@
--- What a list of events leaves of a world, what it is for it to go right, and that no event of it has a fault.
+-- The world after a list of events, when a list goes right, and that no event of a list has a fault.
 use Rattle.std.specs.Prelude.{◌≡◌, ℕ, suc, ◌<◌, ◌≤◌, List, [], ◌∷◌, ◌++◌, length, None, ◌+◌}
 use Rattle.pals_base.specs.declared.basic_types.LinkNo.{LinkNo}
 use Rattle.pals_runs.specs.declared.journal.Arrived.TheVariants.{Kept}
@@ -15,14 +15,14 @@ abbrev pub world_left : Run → World → List Event → World
 world_left run w [] = w
 world_left run w (e ∷ events) = world_left run (world_after run w e) events
 
--- no stop stands, the nodes agree with the composition, and no node has started two rounds more than another
+-- the run has no stop, the nodes agree with the composition, and no node has started two rounds more than another
 pub record IsInStep (run : Run) (w : World) : Type 0 where
   pub no_stop : w.bus.stop ≡ None
   pub agrees : Agrees run w.bus
   pub close : (one other : ℕ) → one < length run.design.components → other < length run.design.components
       → (node_at w.bus one).count ≤ suc (node_at w.bus other).count
 
--- from the opening on it stands so after each first part of these events, and each message that arrives is kept
+-- after each prefix of these events from the opening on, the world is in step, and each arriving message is stored
 pub record GoRight (run : Run) (events : List Event) : Type 0 where
   pub in_step : (before later : List Event) → events ≡ before ++ later
       → IsInStep run (world_left run (opening_world run) before)

@@ -1,4 +1,4 @@
--- Histories of the nodes of a run, whose events keep to the times of the design; and traces, which tell them.
+-- Histories of the nodes of a run, whose events respect the times of the design; and traces, which record them.
 use Rattle.std.specs.Prelude.{◌≡◌, ◌≢◌, ◌⊎◌, ℕ, ◌≤◌, true, List, [], ◌++◌, map, All, Option, Some, None}
 use Rattle.pals_model.specs.declared.flight_copy.FlightCopy.{FlightCopy}
 use Rattle.pals_model.specs.Flights.{oldest}
@@ -49,7 +49,7 @@ pub record ArrivesInTime (run : Run) (journal : List JournalEntry) (s : BusState
   pub is_copy : oldest round (flight_at s link) ≡ Some copy
   pub due : is_due reading copy ≡ true
 
--- an event keeps to the times of the design; a send is not before its round's release, and no message is lost or
+-- an event respects the times of the design; a send is not before its round's release, and no message is lost or
 -- repeated
 abbrev pub IsInTime : Run → List JournalEntry → BusState → BusEvent → Type 0
 IsInTime run journal s (Start node reading) = StartsInTime run journal s node.0 reading
@@ -71,7 +71,7 @@ pub data History (run : Run) : List JournalEntry → BusState → Type 0 where
       → History run (journal ++ entries run s e) t
 
 -- ---- traces
--- a stop stands, or all nodes are done
+-- the run has stopped, or all nodes are done
 abbrev pub IsStoppedOrDone : Run → BusState → Type 0
 IsStoppedOrDone run s = (s.stop ≢ None) ⊎ AllDone run s
 
@@ -79,9 +79,9 @@ IsStoppedOrDone run s = (s.stop ≢ None) ⊎ AllDone run s
 abbrev pub trace_of : Run → List JournalEntry → BusState → List (List ℕ)
 trace_of run journal s = report_lines run.design run.env (finished_by_all run s) ++ map (entry_line run.design) journal
 
--- the lines are the report of the rounds that all nodes have finished, and then those of the journal of a history
--- that is over, since it stands at the stop or all nodes are done. Its entries are of nodes and links of the design,
--- with numbers within their limits
+-- the lines are the report of the rounds that all nodes have finished, followed by the journal of a history that is
+-- over: it has this stop, or all nodes are done. Its entries name nodes and links of the design, with numbers within
+-- their limits
 pub record IsTraceOf (run : Run) (lines : List (List ℕ)) (rounds : ℕ) (stop : Option Stop) : Type 0 where
   pub journal : List JournalEntry
   pub state : BusState

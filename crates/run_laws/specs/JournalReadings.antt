@@ -32,18 +32,18 @@ act_in node (entry.Step j round step reading) = if_at node j reading
 act_in node (entry.Send j round reading) = if_at node j reading
 act_in node _ = []
 
--- those of the starts: the one at place r is that of round r
+-- the readings of the starts: position r has the reading of round r
 abbrev pub starts : ℕ → List JournalEntry → List ℕ
 starts node journal = flat_map (start_in node) journal
 
--- those of the sends: the one at place r is that of round r
+-- the readings of the sends: position r has the reading of round r
 abbrev pub sends : ℕ → List JournalEntry → List ℕ
 sends node journal = flat_map (send_in node) journal
 
 abbrev pub acts : ℕ → List JournalEntry → List ℕ
 acts node journal = flat_map (act_in node) journal
 
--- ---- the last reading of a node's clock that the journal shows, 0 where there is none
+-- ---- the last reading of a node's clock that the journal shows, 0 if it shows none
 abbrev pub last_of : ℕ → ℕ → Option Timed → ℕ
 last_of node before None = before
 last_of node before (Some t) = if nat_eq t.node node then unwrap_or t.reading 0 else before

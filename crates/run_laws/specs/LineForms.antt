@@ -1,4 +1,4 @@
--- Which lines have the form of a journal line, and what they say.
+-- Which lines have the form of a journal line, and their parts.
 use Rattle.std.specs.Prelude.{ℕ, ◌+◌, ◌-◌, ◌*◌, nat_eq, nat_le, Bool, not, ◌&&◌, if◌then◌else◌, List, [], ◌∷◌, length}
 use Rattle.std.specs.Prelude.{fold, bytes_eq, codes, decimal, Option, Some, None, option_and_then, option_map}
 use Rattle.std.specs.List.{list_all, slice_split}
@@ -8,7 +8,7 @@ use Rattle.pals_runs.specs.declared.journal.Arrived.TheVariants.{Kept, Ignored, 
 use Rattle.pals_runs.specs.declared.journal.Cause.{Cause}
 use Rattle.pals_runs.specs.declared.journal.Cause.TheVariants.{NotSent, InTransit, Lost}
 
--- a line with its name as it stands; a reading may be none, as in a loose world
+-- a line with its name unresolved; a reading may be absent, as in a loose world
 pub data LineForm : Type 0 where
   ArriveLine : List ℕ → ℕ → Option ℕ → Arrived → LineForm
   StartLine : List ℕ → ℕ → Option ℕ → LineForm
@@ -54,7 +54,7 @@ cause_in word =
     else None
 
 -- ---- parts of a line
--- a name and a round, and then what is left
+-- a name and a round, then the remaining words
 abbrev pub named : List (List ℕ) → (List ℕ → ℕ → List (List ℕ) → Option LineForm) → Option LineForm
 named [] go = None
 named (name ∷ []) go = None
@@ -64,7 +64,7 @@ abbrev pub at_end : LineForm → List (List ℕ) → Option LineForm
 at_end form [] = Some form
 at_end form (word ∷ rest) = None
 
--- a reading, and then what is left
+-- a reading, then the remaining words
 abbrev pub read : List (List ℕ) → (Option ℕ → List (List ℕ) → Option LineForm) → Option LineForm
 read [] go = None
 read (word ∷ rest) go = option_and_then (λ reading. go reading rest) (reading_in word)
@@ -82,7 +82,7 @@ with_step name round [] = None
 with_step name round (step ∷ rest) =
     option_and_then (λ i. read rest (λ reading left. at_end (StepLine name round i reading) left)) (round_in step)
 
--- ---- what follows the first word of each line
+-- ---- the words after the first word of each line
 abbrev pub arrive_line : List (List ℕ) → Option LineForm
 arrive_line words =
     named words (λ name round more.

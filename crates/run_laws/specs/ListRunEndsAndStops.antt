@@ -1,4 +1,4 @@
--- Where nodes under list clocks come to their end, and where a run of such nodes stops.
+-- When nodes under list clocks reach their end, and where a run of such nodes stops.
 use Rattle.std.specs.Prelude.{◌≡◌, ◌≢◌, ◌⊎◌, ℕ, ◌+◌, ◌≤◌, List, length, Option, Some, slice_get}
 use Rattle.pals_clock.specs.ClockStates.{ClockState}
 use Rattle.pals_model.specs.Delays.{delay_of}
@@ -36,14 +36,14 @@ abbrev pub PicksEndAt : Run → List ClockState → ℕ → ℕ → Type 0
 PicksEndAt run clocks node goal =
     slice_get (targets (plan_of run.design node) run.rounds) (length (picks_of run clocks node)) ≡ Some goal
 
--- a stop of a link stands at the pick of its target for the start of this round
+-- a stop of a link is at the pick of its target for the start of this round
 pub record StopsAtPick (run : Run) (clocks : List ClockState) (number begins : ℕ) (reading : Option ℕ) : Type 0 where
   pub start : ℕ
   pub reading_is : reading ≡ Some start
   pub is_pick : IsPickFor run clocks (link_at run.design number).target.0 (action.Start begins) start
 
--- a message that is missed, at the start of the round after its own, is not in time, and it is not lost; where it was
--- not sent, its source's picks end before its send
+-- a message that is missed at the start of the round after its own is not in time and is not lost; if it was not sent,
+-- its source's picks end before its send
 pub record MissesInput (run : Run) (clocks : List ClockState) (number round : ℕ) (reading : Option ℕ)
     (cause : Cause) : Type 0 where
   pub stands : StopsAtPick run clocks number (round + 1) reading
@@ -52,8 +52,8 @@ pub record MissesInput (run : Run) (clocks : List ClockState) (number round : �
   pub unsent : cause ≡ NotSent → (at : ℕ)
       → IsPickFor run clocks (link_at run.design number).source.0 (action.Send round) at → ⊥
 
--- one that comes early is of the round that its target is to start, or of a later one, and it was due by the pick of
--- that very start
+-- an early message belongs to the next round that its target starts or to a later round, and it was deliverable at the
+-- pick of the start of its round
 pub record ComesEarly (run : Run) (clocks : List ClockState) (begins number round : ℕ)
     (reading : Option ℕ) : Type 0 where
   pub stands : StopsAtPick run clocks number begins reading
@@ -67,7 +67,7 @@ ListStop run clocks s (stop.Missed link round reading cause) = MissesInput run c
 ListStop run clocks s (stop.Early link round reading) =
     ComesEarly run clocks (node_at s (link_at run.design link.0).target.0).count link.0 round reading
 
--- each node is done; or, with list clocks, each is done or has come to its list's end
+-- each node is done; or, with list clocks, each node is done or has reached its list's end
 abbrev pub AllAtEnd : Run → Clocks → BusState → Type 0
 AllAtEnd run Meet s = AllDone run s
 AllAtEnd run (Lists clocks) s = AllOver run clocks s

@@ -1,4 +1,4 @@
--- With nodes that meet: what each line shows, and when a run stops.
+-- In virtual time: the reading in each line, and when a run stops.
 use Rattle.std.specs.Prelude.{◌≡◌, ℕ, ◌+◌, ◌*◌, ◌<◌, List, [], ◌∷◌, ◌++◌, length, Option, Some}
 use Rattle.pals_base.specs.PeriodBoundAndReleases.{alarm}
 use Rattle.pals_base.specs.declared.basic_types.LinkNo.{LinkNo}
@@ -53,8 +53,8 @@ pub record IsLate (run : Run) (number round : ℕ) : Type 0 where
 abbrev pub AllDone : Run → BusState → Type 0
 AllDone run s = EachNode run (λ node. (node_at s node).phase ≡ Done)
 
--- a message that is missed, at the alarm of the round after its own, is late, and in transit; one that comes early,
--- at the alarm of its own round, has no delay, and is sent at that alarm
+-- a message that is missed, at the alarm of the round after its own, is late and in transit; an early message, at the
+-- alarm of its own round, has no delay and is sent at that alarm
 abbrev pub MeetingStop : Run → Stop → Type 0
 MeetingStop run (stop.Missed link round reading cause) =
     IsLate run link.0 round × (cause ≡ InTransit) × (reading ≡ Some (alarm run.design.period (round + 1)))

@@ -8,7 +8,7 @@ use Rattle.bus_machine.specs.declared.node_action.NodeAction.{NodeAction}
 use Rattle.bus_machine.specs.ActionsAndTargets.{Progress, next_action, progress_after, next_in}
 use Rattle.bus_machine.specs.declared.node_action.NodeAction.TheVariants as action
 
--- how far a node has come, and what it does next
+-- the progress of a node, and its next action
 pub record Turn : Type 0 where
   pub before : Progress
   pub action : NodeAction
@@ -37,11 +37,11 @@ progress_in plan n (Between steps) = record { round = round_of n; steps = steps;
 progress_in plan n Holding = record { round = round_of n; steps = plan.rate; sent = n.sent }
 progress_in plan n Done = record { round = round_of n; steps = plan.rate; sent = true }
 
--- what it does next, where no step runs
+-- the next action of a node that runs no step
 abbrev pub upcoming : Plan → NodeState → Option NodeAction
 upcoming plan n = next_in plan n n.phase
 
--- `done` actions have brought a node where it stands
+-- `done` actions bring a node to its state
 pub record AtFirst (n : NodeState) (done : ℕ) : Type 0 where
   pub none_done : done ≡ 0
   pub count : n.count ≡ 0

@@ -18,7 +18,7 @@ use Rattle.pals_runs.specs.declared.journal.JournalEntry.TheVariants as entry
 use Rattle.bus_machine.specs.declared.node_action.NodeAction.TheVariants as action
 
 -- ---- picks
--- those of a node's list for all its targets
+-- the picks of a node's list for all its targets
 abbrev pub picks_of : Run → List ClockState → ℕ → List ℕ
 picks_of run clocks node = picks (clock_at clocks node).readings (targets (plan_of run.design node) run.rounds)
 

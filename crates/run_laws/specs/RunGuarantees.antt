@@ -28,9 +28,9 @@ pub record KeepsLists (run : Run) (clocks : List ClockState) (journal : List Jou
   pub lines : LinesAre run clocks [] journal
   -- a stop comes only of a message that is not in time, or that is due by a start before the one that it is for
   pub stop : IfSome s.stop (ListStop run clocks s)
-  -- where each node is done or has come to its list's end, each round of each link is in time
+  -- if each node is done or has reached its list's end, each round of each link is in time
   pub timely : AllOver run clocks s → EachLink run (λ number. (round : ℕ) → IsTimely run clocks number round)
-  -- a node is done then exactly where its picks reach its last target
+  -- then a node is done if and only if its picks reach its last target
   pub done : EachNode run (λ node. IsOver run clocks s node
       → ((node_at s node).phase ≡ Done) ↔ PicksAll run clocks node)
   -- and else they end at the target that it waits for
@@ -41,11 +41,11 @@ pub record KeepsLists (run : Run) (clocks : List ClockState) (journal : List Jou
 pub record KeepsMeetings (run : Run) (journal : List JournalEntry) (s : BusState) : Type 0 where
   -- each line shows its target
   pub lines : ShowTargets run [] journal
-  -- a message that is missed is late and in transit, and one that comes early has no delay and is sent at its alarm
+  -- a missed message is late and in transit; an early message has no delay and is sent at its alarm
   pub stop : IfSome s.stop (MeetingStop run)
-  -- where all nodes are done, no round of a link is late
+  -- if all nodes are done, no round of a link is late
   pub timely : AllDone run s → (number round : ℕ) → IsLate run number round → ⊥
-  -- with delays within the bounds no stop stands
+  -- with delays within the bounds the run has no stop
   pub bounded : DelaysFit run → s.stop ≡ None
 
 abbrev pub KeepsClocks : Run → Clocks → List JournalEntry → BusState → Type 0
@@ -54,7 +54,7 @@ KeepsClocks run (Lists clocks) journal s = KeepsLists run clocks journal s
 
 pub record KeepsClauses (run : Run) (clocks : Clocks) (journal : List JournalEntry) (s : BusState) : Type 0 where
   pub by_clocks : KeepsClocks run clocks journal s
-  -- a stop says by how much the bounds were not kept
+  -- a stop states by how much the bounds were exceeded
   pub stop : IfSome s.stop (BoundedStop run journal)
   -- the journal replays to the state, which agrees with the composition
   pub replays : Replays run journal s

@@ -1,5 +1,5 @@
--- Runs whose nodes keep to their clocks: each does its next action, at a reading that its clock shows, in any order
--- of the nodes.
+-- Runs whose nodes respect their clocks: each node does its next action, at a reading that its clock shows, in any
+-- order of the nodes.
 use Rattle.std.specs.Prelude.{◌≡◌, ◌⊎◌, ℕ, ◌<◌, ◌≤◌, true, false, List, [], ◌++◌, length, map, All, Option, Some, None}
 use Rattle.std.specs.Prelude.{option_map, slice_get, slice_index_or, slice_set}
 use Rattle.std.specs.List.Sorted.{IsNonDecreasing}
@@ -33,16 +33,16 @@ no_clock = record { readings = []; left = [] }
 abbrev pub clock_at : List ClockState → ℕ → ClockState
 clock_at clocks node = slice_index_or clocks node no_clock
 
--- the readings of all lists; none where nodes meet
+-- the readings of all lists; `None` in virtual time
 abbrev pub lists_in : Clocks → Option (List (List ℕ))
 lists_in Meet = None
 lists_in (Lists lists) = Some (map (λ (clock : ClockState). clock.readings) lists)
 
--- what is left of a node's list at the target of an action
+-- the rest of a node's list at the target of an action
 abbrev pub left_for : Run → List ClockState → ℕ → NodeAction → List ℕ
 left_for run clocks node action = remaining_from (clock_at clocks node).left (target (plan_of run.design node) action)
 
--- the reading that a node waits for, or works at; none where it is done
+-- the reading that a node waits for, or works at; `None` if it is done
 abbrev pub target_of : Run → BusState → ℕ → Option ℕ
 target_of run s node =
     option_map (target (plan_of run.design node)) (action_of (plan_of run.design node) (node_at s node))
@@ -52,8 +52,8 @@ abbrev pub IsLeast : Run → BusState → ℕ → Type 0
 IsLeast run s at =
     (other least : ℕ) → other < length run.design.components → target_of run s other ≡ Some least → at ≤ least
 
--- a node's clock shows this reading for a target: where nodes meet it is the target, and the least of all; a list
--- stands at it, and it is no less than the target
+-- a node's clock shows this reading for a target: in virtual time the reading is the target, and the smallest target of
+-- all; a list's current reading is at least the target
 abbrev pub Shows : Run → Clocks → BusState → ℕ → ℕ → ℕ → Type 0
 Shows run Meet s node target at = (at ≡ target) × IsLeast run s at
 Shows run (Lists clocks) s node target at = (slice_get (clock_at clocks node).left 0 ≡ Some at) × (target ≤ at)
@@ -92,7 +92,7 @@ NoneDue run s node reading =
     (number : ℕ) (link : Link) → slice_get run.design.links number ≡ Some link → link.target.0 ≡ node
     → All (λ copy. is_due reading copy ≡ false) (flight_at s number)
 
--- with list clocks, each source of a node has sent the round before, or has come to its list's end
+-- with list clocks, each source of a node has sent the round before, or has reached its list's end
 abbrev pub IsAwaited : Run → Clocks → BusState → ℕ → Type 0
 IsAwaited run Meet s node = Unit {0}
 IsAwaited run (Lists clocks) s node =
@@ -115,7 +115,7 @@ pub record Takes (run : Run) (clocks : Clocks) (s : BusState) (link : LinkNo) (r
   pub is_copy : oldest round (flight_at s link.0) ≡ Some copy
   pub due : is_due reading copy ≡ true
 
--- an event keeps to the clocks; no message is lost or repeated
+-- an event respects the clocks; no message is lost or repeated
 abbrev pub KeepsTo : Run → Clocks → BusState → BusEvent → Type 0
 KeepsTo run clocks s (Start node reading) = Begins run clocks s node reading
 KeepsTo run clocks s (Step node reading) = (round step : ℕ) × Does run clocks s node reading (action.Step round step)

@@ -26,7 +26,7 @@ use Rattle.pals_runs.specs.declared.journal.Stop.TheVariants as stop
 use Rattle.pals_runs.specs.declared.journal.JournalEntry.TheVariants as entry
 use Rattle.pals_runs.specs.declared.verdicts.TraceRule.TheVariants as rule
 
--- ---- order: where the machine does not allow the event, or the entry tells another round, step or result than its own
+-- ---- order: violated if the machine does not allow the event, or if the entry has another round, step or result
 abbrev pub same_result : Arrived → Arrived → Bool
 same_result Kept Kept = true
 same_result Ignored Ignored = true
@@ -39,7 +39,7 @@ stop_fits run s (stop.Missed link round reading cause) =
     nat_eq (round + 1) (node_at s (link_at run.design link.0).target.0).count
 stop_fits run s (stop.Early link round reading) = true
 
--- the numbers and the result of an entry are those of the machine; no run has a loss or a repeat
+-- the numbers and the result of an entry are the machine's; no run has a loss or a repeat
 abbrev pub fits : Run → BusState → JournalEntry → Bool
 fits run s (entry.Arrive link round reading result) = same_result result (arrival run s link round)
 fits run s (entry.Start node round reading) = nat_eq round (node_at s node.0).count
@@ -62,7 +62,7 @@ abbrev pub falls : List ℕ → Option Timed → Bool
 falls readings None = false
 falls readings (Some t) = nat_lt (reading_of t) (slice_index_or readings t.node 0)
 
--- ---- alarm and release: from which reading on an entry may stand
+-- ---- alarm and release: the smallest reading of an entry
 abbrev pub is_before : Option ℕ → ℕ → Bool
 is_before reading alarm = nat_lt (unwrap_or reading 0) alarm
 
@@ -87,7 +87,7 @@ too_early run s (entry.Drop link round) = None
 too_early run s (entry.Repeat link round) = None
 too_early run s (entry.Stopped why) = stop_alarm run s why
 
--- ---- due: a message arrives when it is due, and all that are due arrive before their target starts
+-- ---- due: a message arrives when it is due, and every due message arrives before its target starts
 abbrev pub is_due : Option ℕ → FlightCopy → Bool
 is_due reading copy = option_map_or (λ due. nat_le due (unwrap_or reading 0)) copy.due false
 
@@ -110,7 +110,7 @@ waits run s (entry.Drop link round) = false
 waits run s (entry.Repeat link round) = false
 waits run s (entry.Stopped why) = stop_waits run s why
 
--- ---- stop: the line is the first that the event tells, be it a stop or not; an early stop stands behind its arrival alone
+-- ---- stop: the line is the first line of its event; only the line of an early stop follows the line of its arrival
 abbrev pub is_line_of : DesignParts → JournalEntry → Option JournalEntry → Bool
 is_line_of design e None = false
 is_line_of design e (Some other) = bytes_eq (entry_line design e) (entry_line design other)

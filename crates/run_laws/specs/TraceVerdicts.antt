@@ -45,7 +45,7 @@ wrong_row design env report =
     if is_some other then other else if nat_eq (length report % row_size design) 0 then None else Some (length report)
 
 -- ---- the journal, line by line
--- a replay, with the last reading of each node, and the stop that the next line has to tell
+-- a replay, with the last reading of each node, and the stop that the next line must state
 pub record Audit : Type 0 where
   pub bus : BusState
   pub readings : List ℕ

@@ -1,5 +1,4 @@
--- Worlds: a run with the time, the readings of its clocks, and the moments since which things stand as they do. All are
--- nanoseconds.
+-- Worlds: a run with the time, the readings of its clocks, and the times of the last changes. All are nanoseconds.
 use Rattle.std.specs.Prelude.{ℕ, ◌+◌, nat_eq, Bool, true, false, if◌then◌else◌, List, [], ◌∷◌, ◌++◌, map, Option, Some}
 use Rattle.std.specs.Prelude.{None, is_none, slice_index_or, slice_set}
 use Rattle.pals_model.specs.declared.design.Component.{Component}
@@ -22,14 +21,14 @@ pub record World : Type 0 where
   pub time : ℕ
   -- of each node's clock
   pub readings : List ℕ
-  -- since when each node stands as it does
+  -- the time since which each node is in its phase
   pub since : List ℕ
   -- since when each node has finished as many steps of its round as are sent
   pub ready : List ℕ
   -- when each node sent each of its rounds
   pub sent_at : List (List ℕ)
 
--- the run of a world: a message takes the least time that the bounds allow
+-- the run of a world: a message takes the minimum delay of the bounds
 abbrev pub world_run : DesignParts → Env → ℕ → Run
 world_run design env rounds = record {
   design = design;
@@ -51,7 +50,7 @@ opening_world run = record {
   sent_at = map (λ (_ : Component). []) run.design.components;
 }
 
--- ---- what a world tells
+-- ---- functions of a world
 abbrev pub reading_at : World → ℕ → ℕ
 reading_at w node = slice_index_or w.readings node 0
 
@@ -65,8 +64,8 @@ ready_at w node = slice_index_or w.ready node 0
 abbrev pub flight_since : Run → World → ℕ → ℕ → ℕ
 flight_since run w link round = slice_index_or (slice_index_or w.sent_at (link_at run.design link).source.0 []) round 0
 
--- ---- what an event leaves
--- the event of the bus: what a clock tells of has the reading of its node, and an arrival has none
+-- ---- the effect of an event
+-- the event of the bus: an event that shows a clock has the reading of its node, and an arrival has no reading
 abbrev pub bus_event : World → Event → Option BusEvent
 bus_event w (event.Pass time readings) = None
 bus_event w (event.Start node) = Some (Start node (Some (reading_at w node.0)))
@@ -100,7 +99,7 @@ is_held Done = false
 abbrev pub sendings : World → ℕ → List ℕ
 sendings w node = slice_index_or w.sent_at node []
 
--- time passes in a Pass alone; each other event is one of the bus
+-- time passes only in a Pass; each other event is an event of the bus
 abbrev pub world_after : Run → World → Event → World
 world_after run w (event.Pass time readings) = record w { time = time; readings = readings }
 world_after run w (event.Start node) = record w {

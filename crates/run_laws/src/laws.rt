@@ -24,10 +24,10 @@ pub fn lists_show_picks()
     ensures lines { LinesArePicks }
 {}
 
-/// With list clocks, where each node is done or has come to its list's end, every round of every link
-/// is in time; a node is done exactly where its picks reach its last target, and else they end at the
-/// target that it waits for. Where the run stops, a message that is missed is of a round that is not in
-/// time; where it was not sent, its source's picks end before its send; and a message that comes early
+/// With list clocks, if each node is done or has reached its list's end, every round of every link is in
+/// time. A node is done if and only if its picks reach its last target; otherwise they end at the target
+/// that it waits for. If the run stops for a missed message, the message's round is not in time; if it was
+/// not sent, its source's picks end before its send. If the run stops for an early message, the message
 /// was due at the pick of a start of its own round or of an earlier one.
 pub fn lists_are_timely()
     ensures end { EndsAreTimely }
@@ -36,46 +36,46 @@ pub fn lists_are_timely()
     ensures stops { ListsStop }
 {}
 
-/// Where nodes meet, a start shows its round's alarm, a step its own, a send its round's release, and
+/// In virtual time, a start shows its round's alarm, a step its own time, a send its round's release, and
 /// an arrival or a stop the alarm of the round that its target starts next.
 pub fn meetings_show_targets()
     ensures { MeetingsShowTargets }
 {}
 
-/// Where nodes meet, a message that is missed is late and in transit, and one that comes early has no
-/// delay and is sent at its round's alarm. Where all nodes are done, no round of a link is late. With
-/// delays within the bounds no stop ever stands.
+/// In virtual time, a missed message is late and in transit, and an early message has no delay and is sent
+/// at its round's alarm. If all nodes are done, no round of a link is late. With delays within the bounds
+/// the run never has a stop.
 pub fn meetings_stop()
     ensures stops { MeetingsStop }
     ensures end { MeetingsEnd }
     ensures none { NoMeetingStops }
 {}
 
-/// A message that is missed while it is in transit was sent late, or takes longer than the bounds
-/// say. One that comes early takes less time than they say, or its target's clock reads two skews
-/// more than its round's alarm.
+/// A message that is missed while in transit was sent late, or takes longer than the bounds allow. An early
+/// message takes less time than they allow, or its target's clock reads two skews more than its round's
+/// alarm.
 pub fn stops_are_bounded()
     ensures { StopsAreBounded }
 {}
 
-/// The journal shows each start and each send. A copy in flight is due when its send and its delay
-/// say. The message of each round that is sent is in flight once, in its slot, taken by a start, or
-/// taken by an early stop; and what is in a slot, or was taken by a start, was due by then.
+/// The journal shows each start and each send. A copy in flight is due at the sum of its send's reading and
+/// its delay. The message of each sent round is in flight once, in its slot, taken by a start, or taken by
+/// an early stop; a message in a slot, or taken by a start, was due by then.
 pub fn links_are_timed()
     ensures shown { RoundsAreShown }
     ensures timed { LinksAreTimed }
 {}
 
-/// The readings of starts and sends are their targets where nodes meet, and no less with list clocks. A
-/// stop stands at the reading of a start of its link's target. A message that is missed is in transit
-/// and due later, or its source has not sent it and has come to its list's end; none is lost. One that
-/// comes early was due.
+/// In virtual time the readings of starts and sends are their targets; with list clocks they are at least
+/// their targets. The reading of a stop is the reading of a start of its link's target. A missed message is
+/// in transit and due later, or its source has not sent it and has reached its list's end; no message is
+/// lost. An early message was due.
 pub fn stops_fit()
     ensures times { AllTimesFit }
     ensures stops { StopsFit }
 {}
 
-/// The readings of a node don't fall. Where nodes meet, none so far is greater than the target of a
+/// The readings of a node don't fall. In virtual time, no reading so far is greater than the target of a
 /// node that is not done.
 pub fn readings_rise()
     ensures lines { ReadingsRise }
@@ -87,22 +87,22 @@ pub fn runs_replay()
     ensures { RunsReplay }
 {}
 
-/// Each run keeps all clauses: what its lines show, when it stops, which rounds are in time where it
-/// ends, and that its journal replays.
+/// Each run satisfies all clauses: the readings in its lines, when it stops, which rounds are in time at
+/// its end, and that its journal replays.
 pub fn clauses_are_kept()
     ensures { ClausesAreKept }
 {}
 
-/// The trace of a run, the report of the rounds that all nodes have finished and then the journal, is
-/// sound where a stop stands or all nodes are done. Its text, each line with a line end, has its lines.
+/// The trace of a run, the report of the rounds that all nodes have finished followed by the journal, is
+/// sound if the run has stopped or all nodes are done. Its text, each line with a line end, has its lines.
 pub fn runs_are_sound()
     ensures trace { RunsAreSound }
     ensures text { TracesAreTexts }
 {}
 
-/// A clock that answers picks for its node's next action. One that has no reading for it has ended, and
-/// stays so, whatever the nodes do. Where a message arrives that is due to a node that is to start, that
-/// keeps to the clocks, and the node is still to start at that reading.
+/// A clock that shows a reading picks it for its node's next action. A clock that has no reading for it has
+/// ended, and stays ended, whatever the nodes do. If a message arrives that is due to a node that is to
+/// start, the arrival respects the clocks, and the node is still to start at that reading.
 pub fn locked_steps()
     ensures picks { ListPicks }
     ensures ends { ListEnds }
@@ -110,10 +110,10 @@ pub fn locked_steps()
     ensures due { DueArrives }
 {}
 
-/// With any clocks each design has a run that comes to its end: it stops, or all nodes are done, or, with
-/// list clocks, each node is done or has come to its list's end. Wherever a run has come, it can go on to
-/// such an end; and no journal grows without end. Where lists end it, the first node that is not done has
-/// come to its list's end.
+/// With any clocks each design has a run that reaches its end: it stops, or all nodes are done, or, with
+/// list clocks, each node is done or has reached its list's end. Each reachable state can be extended to
+/// such an end, and every journal is finite. If lists end the run, the first node that is not done has
+/// reached its list's end.
 pub fn each_run_ends()
     ensures ends { EachRunEnds }
     ensures goes_on { EachGoesOn }
@@ -121,10 +121,9 @@ pub fn each_run_ends()
     ensures named { EndsAreNamed }
 {}
 
-/// In a run in time no stop stands, whatever the order in which the nodes act. Where nodes meet, delays
-/// within the bounds are in time. The readings of the lists alone decide how runs end that come to their
-/// ends: all nodes are done, as they are where the picks of each node reach its last target, or the same
-/// node ends first, at the same target.
+/// A run in time has no stop, whatever the order in which the nodes act. In virtual time, delays within the
+/// bounds are in time. How runs end depends only on the readings of the lists: all nodes are done, as they
+/// are if the picks of each node reach its last target, or the same node ends first, at the same target.
 pub fn runs_in_time()
     ensures stop { NoneStops }
     ensures bounds { BoundsAreInTime }

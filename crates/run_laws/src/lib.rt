@@ -1,7 +1,7 @@
-//! Runs whose nodes keep to their clocks, in whatever order they act: what the journal and the state of
-//! such a run keep, when it stops, and where it ends; the verdict on a trace of one, by its lines; and
-//! worlds with time, whose events are within the bounds: no stop ever stands there, each message that
-//! arrives is kept, and no node is two rounds ahead of another. Definitions and their laws alone.
+//! Laws of runs whose nodes respect their clocks, in whatever order they act: the invariants of a run's
+//! journal and state, when a run stops, and where it ends; the verdict on a trace, by its lines; and worlds
+//! with time, whose events are within the bounds: such a world has no stop, stores each arriving message,
+//! and has no node two rounds ahead of another. The crate has definitions and laws, no programs.
 #![tactic(auto)]
 
 pub mod history_and_trace_laws;

@@ -1,5 +1,5 @@
-//! Laws of lines: those of entries have forms and tell the entries, those of texts and reports are as they are made;
-//! and the verdict on four traces. The functions do nothing: their contracts are the laws.
+//! Laws of lines: lines of entries have forms and denote their entries, lines of texts and reports are as they were
+//! made; and the verdict on four traces. The functions have empty bodies: their contracts are the laws.
 ghost use Rattle.run_laws.specs.proof.EntryLines.{EntriesHaveLines, LinesDiffer, LinesHaveForms, LinesTellEntries};
 ghost use Rattle.run_laws.specs.proof.EntryLines.{ToldAreIn};
 ghost use Rattle.run_laws.specs.proof.ReportLines.{ReportsHaveNoForms, ReportsHaveRows, TextsHaveLines};
@@ -12,8 +12,8 @@ pub fn lines_have_forms()
     ensures forms { LinesHaveForms }
 {}
 
-/// So it tells that entry again, and no two entries of a design have one line. Each line that tells an
-/// entry tells one of the design.
+/// So reading a line gives its entry again, and no two entries of a design have the same line. Each line
+/// that denotes an entry denotes an entry of the design.
 pub fn lines_tell_entries()
     ensures told { LinesTellEntries }
     ensures differ { LinesDiffer }

@@ -10,8 +10,8 @@ pub fn time_is_kept()
     ensures event { EventKeepsTime }
 {}
 
-/// Where a world keeps it, each message that was sent is in flight, in its slot or taken, one that
-/// arrives is kept, and no node is two rounds ahead of another.
+/// If the timing invariant of a world holds, each sent message is in flight, in its slot or taken, each
+/// arriving message is stored, and no node is two rounds ahead of another.
 pub fn messages_are_kept()
     ensures once { MessagesStandOnce }
     ensures arrivals { ArrivalsAreKept }
@@ -24,8 +24,8 @@ pub fn times_are_readings()
     ensures { TimesAreReadings }
 {}
 
-/// After each event of a list within the bounds no stop stands, the bus agrees with the composition,
-/// no node is two rounds ahead, and each arrival was kept.
+/// After each event of a list within the bounds the run has no stop, the bus agrees with the composition,
+/// no node is two rounds ahead, and each arrival was stored.
 pub fn lists_go_right()
     ensures { ListsGoRight }
 {}

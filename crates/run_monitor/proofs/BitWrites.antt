@@ -51,7 +51,7 @@ seen_more f es bits old new at x b is_x within value is stay seen = λ k e below
       | inr before ↦ put-other bits at k b (λ same. omega (arith, same, before)) ∙ seen k e before is_e
     ]
 
--- ---- each bit from those of its parts
+-- ---- each bit from the bits of its parts
 next-same : (e : FlatForm) (n k : ℕ) (begun : Bool) (kept now new : List Bool) (own : Bool) → HasParts n e
     → ((p : ℕ) → p < n → bit_at now p ≡ bit_at new p)
     → next_bit e k begun kept now own ≡ next_bit e k begun kept new own

@@ -1,4 +1,4 @@
--- The first violation is at the least round at which a formula is false, and the first that is false there.
+-- The first violation is at the first round at which a formula is false, and names the first formula false there.
 use Rattle.std.proofs.Common.{◌≡◌, ◌∙◌, ◌⊎◌, inl, inr, ℕ, zero, suc, ◌+◌, ◌<◌, ◌≤◌, Bool, true, false, not, List, []}
 use Rattle.std.proofs.Common.{◌∷◌, map, Option, Some, None, slice_get, position, refl, sym, ap, subst, arith}
 use Rattle.std.proofs.Common.{eq-or-lt_of_le, true≢false, zero-add}

@@ -1,4 +1,4 @@
--- Forms in an order in which each stands behind its parts, as one more form is added.
+-- Lists of subformulas in which each follows its parts, as one more is added.
 use Rattle.std.proofs.Common.{◌≡◌, ◌∙◌, ◌⊎◌, inl, inr, ℕ, zero, suc, ◌+◌, ◌<◌, true, List, [], ◌∷◌, ◌++◌, length, Some}
 use Rattle.std.proofs.Common.{slice_get, refl, sym, ap, ap₂, subst, arith, length-append, append_assoc}
 use Rattle.std.specs.Prelude.{Result, IfOk}
@@ -41,7 +41,7 @@ behind-stays fs (e ∷ es) k within =
     behind-stays (fs ++ built fs e ∷ []) es k (omega (arith, within, length-one_more fs (built fs e)))
     ∙ get_or_append_left fs (built fs e ∷ []) (Halted 0) k within
 
--- a formula stays where forms come behind it
+-- a formula stays the same if subformulas are appended
 pub form-stays : (xs ys : List FlatForm) (k : ℕ) → k < length xs
     → formula_at (forms_of (xs ++ ys)) k ≡ formula_at (forms_of xs) k
 form-stays xs ys k within =
@@ -155,7 +155,7 @@ both_added old mid new first second =
 pub part_place : (old new : List FlatForm) (at : ℕ) (f : Formula) → Adds old new at f → at < length new
 part_place old new at f adds = omega (arith, adds.last)
 
--- where it was added it stays, with more behind
+-- if it was added, it stays after more are appended
 pub still : (old mid new : List FlatForm) (at : ℕ) (f : Formula) → Adds old mid at f
     → (more : List FlatForm) × (new ≡ mid ++ more)
     → formula_at (forms_of new) at ≡ f
@@ -168,7 +168,7 @@ pub leaf : {E : Type 0} (r : Result ℕ E) (old new : List FlatForm) (f g : Form
 leaf r old new f g same =
     IfOk-weaker r (λ at. Adds old new at f) (λ at. Adds old new at g) (λ at adds. subst (Adds old new at) same adds)
 
--- a form that was there reads the same with more behind
+-- an existing subformula has the same meaning after more are appended
 still_reads : (mid new : List FlatForm) (k node : ℕ) → (more : List FlatForm) × (new ≡ mid ++ more) → k < length mid
     → reads (formula_at (forms_of new) k) node ≡ true
     → reads (formula_at (forms_of mid) k) node ≡ true

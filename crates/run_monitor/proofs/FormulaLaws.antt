@@ -1,5 +1,5 @@
--- What the operators of the past say in words, that what a formula says at a round stays, and that one bit each is
--- enough.
+-- The operators of the past in words, that the value of a formula at a round stays, and that one bit for each
+-- subformula is enough.
 use Rattle.std.proofs.Common.{◌≡◌, ◌∙◌, ℕ, suc, ℤ, Bool, not, ◌&&◌, ◌||◌, is_some, List, [], ◌∷◌, ◌++◌, length, refl}
 use Rattle.std.proofs.Common.{sym, ap, ap₂, arith}
 use Rattle.std.proofs.lemmas.List.{get_or_append_left}
@@ -59,7 +59,7 @@ past_stays (Since f g) h more n within =
     since-same (holds f (h ++ more)) (holds g (h ++ more)) (holds f h) (holds g h) n
     (λ m below. past_stays f h more m (omega arith)) (λ m below. past_stays g h more m (omega arith))
 
--- what a formula said at the last round, and says there in the longer history
+-- the value of a formula at the last round, and at that round in the longer history
 last_stays : (f : Formula) (first : List Frame) (h : List (List Frame)) (row : List Frame)
     → holds f (first ∷ h) (length h) ≡ holds f (first ∷ h ++ row ∷ []) (length h)
 last_stays f first h row = sym (past_stays f (first ∷ h) (row ∷ []) (length h) (omega arith))

@@ -1,4 +1,4 @@
--- What a monitor keeps and sees stands for the rounds that it went through, and its answer is what its formula says.
+-- The bits of a monitor represent the rounds that it has seen, and its result is the value of its formula.
 use Rattle.std.proofs.Common.{◌≡◌, ◌≢◌, ◌∙◌, ℕ, zero, suc, ◌-◌, ◌<◌, nat_eq, Bool, true, false, if◌then◌else◌, not}
 use Rattle.std.proofs.Common.{◌&&◌, ◌||◌, List, [], ◌∷◌, ◌++◌, length, map, Some, None, slice_get, refl, sym, ap, ap₂}
 use Rattle.std.proofs.Common.{arith, length-append}
@@ -45,7 +45,7 @@ form-at es k f order is =
     let entry = entry-at es k within in
     (entry.0, entry.1, sym (get_or_from_slice_get (forms_of es) k f (Halted 0) is) ∙ form-is es k entry.0 order entry.1)
 
--- ---- what is seen
+-- ---- the seen bits
 seen-here : (fs : List Formula) (e : FlatForm) (row : List Frame) (node : ℕ) (frame : Frame) (before : Bool)
     → frame_in row node ≡ frame
     → reads (built fs e) node ≡ true
@@ -164,7 +164,7 @@ is_ready es at f kept seen adds kept_size seen_size =
           ∙ adds.named k node (omega arith) within read;
     }
 
--- ---- what was kept
+-- ---- the stored bits
 
 kept-before : (fs : List Formula) (begun : Bool) (kept : List Bool) (h : List (List Frame)) (k : ℕ)
     → HasKept begun fs kept h → k < length fs

@@ -1,4 +1,4 @@
--- Several monitors go on by a row of frames, one monitor after another.
+-- Several monitors advance by a row of frames, one monitor after another.
 use Rattle.std.proofs.Common.{◌≡◌, ◌∙◌, inl, inr, ℕ, zero, suc, ◌+◌, ◌<◌, ◌≤◌, Bool, false, not, cond, List, [], ◌∷◌}
 use Rattle.std.proofs.Common.{◌++◌, length, map, All, get_or, slice_set, Option, Some, None, position, refl, sym, ap}
 use Rattle.std.proofs.Common.{ap₂, subst, arith, eq-or-lt_of_le, add-one}
@@ -26,7 +26,7 @@ abbrev no_monitor : MonitorState
 no_monitor = record { forms = []; begun = false; kept = []; seen = [] }
 
 -- ---- one after the other
--- the monitors before a place have gone on, and the others are as they were
+-- the monitors before an index have advanced, and the others are unchanged
 pub record GoneTo (old new : List MonitorState) (row : List Frame) (at : ℕ) : Type 0 where
   pub size : length new ≡ length old
   pub done : (k : ℕ) (d : MonitorState) → k < at → k < length old → GoesOn (get_or old k d) (get_or new k d) row

@@ -1,4 +1,4 @@
--- How the operators of past time go on from one round to the next.
+-- The recursion of past-time operators from one round to the next.
 use Rattle.std.proofs.Common.{◌≡◌, ◌∙◌, inl, inr, ℕ, zero, suc, ◌+◌, ◌-◌, ◌<◌, ◌≤◌, Bool, true, false, ◌&&◌, ◌||◌, []}
 use Rattle.std.proofs.Common.{◌∷◌, ◌++◌, refl, sym, ap, ap₂, arith, eq-or-lt_of_le, ◌↔◌}
 use Rattle.std.specs.List.{list_any, list_all}
@@ -80,7 +80,7 @@ since-next p q n =
     ∙ ap₂ (λ a b. a || b) (any-more p q n 0 (suc n) (omega arith))
     (or-false (held_since p q (suc n) (suc n)) ∙ held-now p q (suc n))
 
--- ---- what they say of the rounds up to one is all that they look at
+-- ---- an operator depends only on the values of the rounds up to its own
 abbrev pub AgreeTo : (ℕ → Bool) → (ℕ → Bool) → ℕ → Type 0
 AgreeTo p q n = (m : ℕ) → m ≤ n → p m ≡ q m
 

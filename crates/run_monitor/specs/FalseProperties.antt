@@ -1,4 +1,4 @@
--- What formulas say over the rounds of a design, and the first round at which one is false.
+-- The values of formulas over the rounds of a design, and the first round at which one is false.
 use Rattle.std.specs.Prelude.{ℕ, Bool, not, List, [], ◌∷◌, map, position, Option, None}
 use Rattle.std.specs.Option.{option_map, option_or}
 use Rattle.std.specs.List.{list_any}
@@ -10,7 +10,7 @@ use Rattle.pals_runs.specs.Formula.{Formula}
 use Rattle.run_monitor.specs.declared.false_property.FalseProperty.{FalseProperty}
 use Rattle.run_monitor.specs.FormulaSemantics.{holds, frame_rows}
 
--- what each formula says at a round
+-- the value of each formula at a round
 abbrev pub formula_values : List Formula → List (List Frame) → ℕ → List Bool
 formula_values fs h round = map (λ f. holds f h round) fs
 

@@ -1,5 +1,4 @@
--- What a formula says at a round, and the rows of frames that it is said of: the frames of all components after each
--- round, from round 0.
+-- The value of a formula at a round, over the history of the frames of all components after each round, from round 0.
 use Rattle.std.specs.Prelude.{ℕ, ℤ, pos, Bool, not, ◌&&◌, ◌||◌, is_some, List, [], slice_index_or, int_le, int_lt, suc}
 use Rattle.std.specs.Prelude.{map}
 use Rattle.pals_base.specs.declared.frames.Frame.{Frame}

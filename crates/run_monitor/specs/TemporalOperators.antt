@@ -1,4 +1,4 @@
--- The operators of past time over all rounds up to one; a test says what holds at each round.
+-- The past-time operators over all rounds up to one; a test gives the value of an operand at each round.
 use Rattle.std.specs.Prelude.{ℕ, zero, suc, ◌-◌, Bool, false, ◌&&◌, List}
 use Rattle.std.specs.List.{list_any, list_all}
 use Rattle.pals_base.specs.UpwardNumbers.{upwards}

@@ -1,4 +1,4 @@
--- The text of watched properties: what each says at each round, and the least round at which one is false.
+-- The text of watched properties: the value of each at each round, and the first round at which one is false.
 use Rattle.std.specs.Prelude.{ℕ, codes, decimal, Bool, true, false, List, [], ◌∷◌, ◌++◌, map, flat_map, slice_index_or}
 use Rattle.std.specs.Prelude.{Option, Some, None}
 use Rattle.pals_base.specs.declared.frames.Frame.{Frame}

@@ -1,4 +1,4 @@
-//! Forms in an order in which parts stand before wholes.
+//! Lists of subformulas in which parts precede wholes.
 ghost use Rattle.std.specs.Prelude.{length, IfOk};
 ghost use Rattle.pals_runs.specs.proof.FormulasOfForms.{formula_of};
 ghost use Rattle.run_monitor.specs.proof.FlatForms.{built, forms_of, HasParts, IsFlat, Adds};
@@ -25,7 +25,7 @@ pub enum FlatForm {
     Since(usize, usize),
 }
 
-// Adds a form whose parts are there, and says where it stands.
+// Appends a subformula whose parts are in the list, and returns its index.
 fn push(forms: &mut ItemList<FlatForm>, form: FlatForm) -> Result<usize, NoMemory>
     requires order { IsFlat forms.old }
     requires parts { HasParts (length forms.old) form }
@@ -36,8 +36,8 @@ fn push(forms: &mut ItemList<FlatForm>, form: FlatForm) -> Result<usize, NoMemor
     Ok(at)
 }
 
-/// Adds the forms of a formula, the whole last, and says where it stands. It recurs as deep as the
-/// formula is.
+/// Appends the subformulas of a formula, the whole last, and returns its index. The recursion is as deep as
+/// the formula.
 pub fn add(forms: &mut ItemList<FlatForm>, form: &Form) -> Result<usize, NoMemory>
     requires { IsFlat forms.old }
     ensures { IfOk result (λ at. Adds forms.old forms.new at (formula_of form.now)) }

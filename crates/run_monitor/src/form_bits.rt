@@ -1,4 +1,4 @@
-//! The bit of each form: what it says of the frames of a round, and of a further round from the bits that were kept.
+//! The bit of each subformula: its value on the frames of a round, and in the next round from the stored bits.
 ghost use Rattle.std.specs.Prelude.{◌≡◌, ◌<◌, length, is_some, Some, slice_get};
 ghost use Rattle.run_monitor.specs.FormulaSemantics.{frame_in, variable_in, compares};
 ghost use Rattle.run_monitor.specs.proof.FlatForms.{IsFlat};
@@ -46,7 +46,7 @@ fn variable_in(frame: &Frame, variable: u32) -> i64
     if at < values.len() { values[at] } else { 0 }
 }
 
-// What a form says of a frame of a component, where it reads that component; else the bit from before.
+// The value of a subformula on a frame of a component, if it reads that component; else the bit from before.
 fn seen_bit(form: FlatForm, node: NodeNo, frame: &Frame, before: bool) -> bool
     ensures { result ≡ seen_bit form node.0 frame.now before }
 {
@@ -74,7 +74,7 @@ fn seen_bit(form: FlatForm, node: NodeNo, frame: &Frame, before: bool) -> bool
     }
 }
 
-/// Writes what each form says of a frame of a component, where it reads that component.
+/// Writes the value of each subformula on a frame of a component, if it reads that component.
 pub(crate) fn see_frame(forms: &[FlatForm], node: NodeNo, frame: &Frame, bits: &mut ItemList<bool>)
     requires { length bits.old ≡ length forms.now }
     ensures len { length bits.new ≡ length bits.old }
@@ -87,7 +87,7 @@ pub(crate) fn see_frame(forms: &[FlatForm], node: NodeNo, frame: &Frame, bits: &
     }
 }
 
-// A variable of a component, 0 where there is none.
+// A variable of a component, 0 if it does not exist.
 fn variable_at(parts: &[Part], node: NodeNo, variable: u32) -> i64
     ensures { result ≡ variable_in (frame_in (row_of parts.now) node.0) variable }
 {
@@ -107,7 +107,7 @@ fn is_halted(parts: &[Part], node: NodeNo) -> bool
     }
 }
 
-// What a form says of the frames of all components, where it reads one; else the bit from before.
+// The value of a subformula on the frames of all components, if it reads one; else the bit from before.
 fn row_bit(form: FlatForm, parts: &[Part], before: bool) -> bool
     ensures { result ≡ row_bit form (row_of parts.now) before }
 {
@@ -123,7 +123,7 @@ fn row_bit(form: FlatForm, parts: &[Part], before: bool) -> bool
     }
 }
 
-/// Writes what each form says of the frames of all components, where it reads one.
+/// Writes the value of each subformula on the frames of all components, if it reads one.
 pub(crate) fn see_row(forms: &[FlatForm], parts: &[Part], bits: &mut ItemList<bool>)
     requires { length bits.old ≡ length forms.now }
     ensures len { length bits.new ≡ length bits.old }
@@ -136,8 +136,8 @@ pub(crate) fn see_row(forms: &[FlatForm], parts: &[Part], bits: &mut ItemList<bo
     }
 }
 
-// The bit that a form has in a further round. Its parts have theirs, and a form without parts has what it
-// says of the frames that were seen.
+// The bit of a subformula in the next round. The bits of its parts are new; a subformula without parts has
+// its value on the frames that were seen.
 fn next_bit(form: FlatForm, at: usize, begun: bool, kept: &[bool], bits: &[bool]) -> bool
     ensures { result ≡ next_bit form at begun kept.now bits.now (bit_at bits.now at) }
 {

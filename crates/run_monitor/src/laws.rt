@@ -6,7 +6,7 @@ ghost use Rattle.run_monitor.specs.proof.FirstFalseProperty.{ViolatedIsFirst, Ot
 ghost use Rattle.run_monitor.specs.proof.CounterProperties.{SmallIsWatched, UpIsWatched, QuietIsWatched, TwoText};
 ghost use Rattle.run_monitor.specs.proof.CounterProperties.{OneText, AreViolated};
 
-/// What the words of time mean, said over all rounds up to the one that is asked of.
+/// The meaning of the temporal operators, over all rounds up to the current one.
 pub fn words_read_as_written()
     ensures previous { PreviousReads }
     ensures once { OnceReads }
@@ -14,18 +14,18 @@ pub fn words_read_as_written()
     ensures since { SinceReads }
 {}
 
-/// What a formula says at a round stays, whatever comes after it.
+/// The value of a formula at a round stays, whatever follows.
 pub fn past_stays()
     ensures { PastStays }
 {}
 
-/// One bit a formula, what it said at the last round, is enough to say what each says at one more.
+/// One bit for each subformula, its value at the last round, is enough to compute its value in the next.
 pub fn one_bit_each()
     ensures { OneBitEach }
 {}
 
-/// The history of a design grows by a row each round, and what is said of a round is said at once: so the
-/// text grows by the lines of each round.
+/// The history of a design grows by a row each round, and a formula's value at a round is known at once: so
+/// the text grows by the lines of each round.
 pub fn histories_grow()
     ensures rounds { HistoryHasRounds }
     ensures goes_on { HistoryGoesOn }
@@ -33,8 +33,8 @@ pub fn histories_grow()
     ensures rows { RowsGoOn }
 {}
 
-/// Where a formula is false at some round, the last line names the least such round, and the first
-/// formula that is false there; else all hold throughout, and it says so.
+/// If a formula is false at some round, the last line names the first such round, and the first formula
+/// that is false there; otherwise all hold throughout, and the last line states this.
 pub fn last_lines_name_the_first()
     ensures violated { ViolatedIsFirst }
     ensures others { OthersHold }

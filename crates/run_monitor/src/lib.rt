@@ -1,5 +1,5 @@
-//! Monitors of runs: a formula over all rounds since the first, answered after each round from one bit
-//! for each form in it. What formulas mean, and the text of watched properties, stand in `specs/`.
+//! Monitors of runs: past-time temporal formulas over all rounds since the first, evaluated after each round
+//! from one bit for each subformula. The semantics of formulas and the text of watched properties are in `specs/`.
 #![tactic(auto)]
 
 mod false_property;

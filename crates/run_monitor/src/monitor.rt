@@ -1,4 +1,4 @@
-//! A monitor of one formula, which goes on round by round with one bit for each form.
+//! A monitor of one formula, which advances round by round with one bit for each subformula.
 ghost use Rattle.std.specs.Prelude.{◌≡◌, IfOk};
 ghost use Rattle.pals_runs.specs.proof.FormulasOfForms.{formula_of};
 ghost use Rattle.run_monitor.specs.proof.FormBits.{row_of};
@@ -13,7 +13,7 @@ use std::alloc::Global;
 use std::marker::Model;
 use std::mem::swap;
 
-/// A monitor of a formula: for each form in it, what it said at the last round.
+/// A monitor of a formula: for each subformula, its value at the last round.
 #[derive(Drop)]
 pub struct Monitor {
     forms: ItemList<FlatForm>,
@@ -45,7 +45,7 @@ impl Monitor {
         Monitor::of(alloc, &form)
     }
 
-    /// A monitor of a formula that is kept elsewhere. It recurs as deep as the formula is.
+    /// A monitor of a formula that the caller stores. The recursion is as deep as the formula.
     pub fn of(alloc: Global, form: &Form) -> Result<Monitor, NoMemory>
         ensures { IfOk result (λ monitor. IsNew (formula_of form.now) monitor) }
     {
@@ -61,23 +61,23 @@ impl Monitor {
         })
     }
 
-    /// Sees the frame that a component has after the round that comes next. It takes no memory.
+    /// Sees the frame of a component after the next round. Does not allocate.
     pub fn see(&mut self, node: NodeNo, frame: &Frame)
         ensures { Sees self.old self.new node.0 frame.now }
     {
         see_frame(self.forms.as_slice(), node, frame, &mut self.seen);
     }
 
-    /// Sees what all components leave in the round that comes next. It takes time in line with the
-    /// formula alone, and no memory.
+    /// Sees the parts of all components of the next round. The time depends only on the formula. Does not
+    /// allocate.
     pub fn see_all(&mut self, parts: &[Part])
         ensures { SeesAll self.old self.new (row_of parts.now) }
     {
         see_row(self.forms.as_slice(), parts, &mut self.seen);
     }
 
-    /// Goes one round further, whose frames it has seen, and answers what the formula says there. It
-    /// takes no memory.
+    /// Advances by one round, whose frames it has seen, and returns the formula's value there. Does not
+    /// allocate.
     pub fn advance(&mut self) -> bool
         ensures { Advances self.old self.new result }
     {
@@ -92,7 +92,7 @@ impl Monitor {
         self.said()
     }
 
-    /// What the formula said at the last round, and false before the first.
+    /// The formula's value at the last round; false before the first.
     pub fn said(&self) -> bool
         ensures { result ≡ said self.now }
     {

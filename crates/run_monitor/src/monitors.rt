@@ -60,8 +60,8 @@ impl Monitors {
         Ok(())
     }
 
-    /// Goes one round further, the one of this number, over what all components left in it. It takes no
-    /// memory.
+    /// Advances by one round, with this number, over the parts of all components in it. Does not
+    /// allocate.
     pub fn advance(&mut self, round: u32, parts: &[Part])
         ensures watches { (fs : List Formula) (h : List (List Frame)) → HasWatched self.old fs h → round ≡ length h
             → WatchesOn self.new fs h (row_of parts.now) }
@@ -75,7 +75,7 @@ impl Monitors {
         self.violation = self.violation.or(violation_of(found, round));
     }
 
-    /// What the formula at a place said at the last round, and false past the end.
+    /// The value at the last round of the formula at an index; false past the end.
     pub fn said(&self, property: usize) -> bool
         ensures { result ≡ slice_index_or (said_by self.now) property false }
     {

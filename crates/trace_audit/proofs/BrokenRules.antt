@@ -18,7 +18,7 @@ use Rattle.run_laws.specs.TraceRules.{broken, falls, first_entry, fits, is_in_or
 use Rattle.run_laws.specs.TraceRules.{waits}
 use Rattle.trace_audit.specs.proof.FirstBrokenRule.{first_rule}
 
--- an entry that tells an event with its own numbers, where no stop stands
+-- an entry whose numbers are its event's, in a run without a stop
 told_rule : (run : Run) (s : BusState) (readings : List ℕ) (e : JournalEntry) (event : BusEvent)
     (early : Option TraceRule) (falling waiting telling : Bool) → s.stop ≡ None → event_of run.design e ≡ Some event
     → fits run s e ≡ true
@@ -50,14 +50,14 @@ disordered run s readings e is =
     ap (λ b. first_rule b (falls readings (timed run.design e)) (too_early run s e) (waits run s e)
     (tells_stop run s e (event_of run.design e))) is
 
--- an entry that tells other numbers than its event's
+-- an entry whose numbers are not its event's
 pub unfit : (run : Run) (s : BusState) (readings : List ℕ) (e : JournalEntry) → fits run s e ≡ false
     → Some rule.Order ≡ broken run s readings e
 unfit run s readings e none =
     sym (disordered run s readings e
     (and_right (is_none s.stop && option_map_or (is_allowed run s) (event_of run.design e) true) (fits run s e) none))
 
--- an entry behind a stop
+-- an entry after a stop
 pub stopped : (run : Run) (s : BusState) (readings : List ℕ) (e : JournalEntry) → is_none s.stop ≡ false
     → Some rule.Order ≡ broken run s readings e
 stopped run s readings e none =

@@ -1,4 +1,4 @@
--- Whether all nodes of a bus are done, and the least number of rounds that they have finished, node by node.
+-- Whether all nodes of a bus are done, and the minimum number of rounds that they have finished, node by node.
 use Rattle.std.proofs.Common.{◌≡◌, ◌∙◌, ℕ, ◌+◌, ◌<◌, ◌≤◌, Bool, true, false, ◌&&◌, List, length, fold, drop, sym, ap}
 use Rattle.std.specs.Prelude.{min}
 use Rattle.std.specs.List.{list_all}

@@ -1,4 +1,4 @@
--- A message is due to a node exactly where the bus tells so by its links.
+-- A message is due to a node if and only if the bus finds one on its links.
 use Rattle.std.proofs.Common.{◌≡◌, ◌↔◌, ℕ, zero, suc, ◌+◌, nat_eq, Bool, true, false, ◌||◌, cond, List, [], ◌∷◌, map}
 use Rattle.std.proofs.Common.{filter, slice_get, Some, IsTrue, refl, sym, ap, ◌∙◌, arith}
 use Rattle.std.specs.List.{list_any, enumerate_from}

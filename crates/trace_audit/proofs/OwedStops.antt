@@ -1,4 +1,4 @@
--- Where an entry breaks no rule, the stop that it owes is the second entry that its event makes on the bus.
+-- If an entry violates no rule, the stop that must follow it is the second entry of its event on the bus.
 use Rattle.std.proofs.Common.{◌≡◌, ℕ, Bool, true, false, ◌&&◌, List, ◌∷◌, Option, Some, None, refl, sym, ap, ◌∙◌}
 use Rattle.std.specs.Prelude.{is_none, option_and_then}
 use Rattle.std.specs.Option.{option_map_or}
@@ -19,7 +19,7 @@ use Rattle.run_laws.proofs.SoundEntryEvents.{same_arrived}
 use Rattle.trace_audit.specs.proof.FirstBrokenRule.{first_rule}
 use Rattle.trace_audit.specs.proof.OwedStops.{owed_by, stop_of}
 
--- ---- what is owed behind an entry
+-- ---- the stop that must follow an entry
 second_of : (x : JournalEntry) (o : Option Stop) → second_entry (x ∷ stop_entry o) ≡ stop_of o
 second_of x None = refl
 second_of x (Some why) = refl

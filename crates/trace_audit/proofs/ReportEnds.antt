@@ -1,4 +1,4 @@
--- How reading the report of a trace ends, from what the next line is: the same as expected, another one, or none.
+-- How reading the report of a trace ends, by the next line: the expected line, another line, or no line.
 use Rattle.std.proofs.Common.{◌≡◌, ℕ, suc, ◌+◌, ◌%◌, ◌<◌, ◌≤◌, nat_eq, Bool, true, false, not, cond, List, [], ◌∷◌}
 use Rattle.std.proofs.Common.{length, take, drop, get_or, Option, Some, None, refl, sym, ap, ap₂, ◌∙◌, subst, arith}
 use Rattle.std.specs.Prelude.{bytes_eq, is_some, position}

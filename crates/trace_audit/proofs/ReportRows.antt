@@ -1,4 +1,4 @@
--- The report's rows are made one round after the other: for the rows that an audit compares lines with.
+-- The report's rows are computed one round after the other: for the rows that an audit compares lines with.
 use Rattle.std.proofs.Common.{◌≡◌, ℕ, suc, List, length, sym, ap, ap₂, ◌∙◌, subst}
 use Rattle.std.specs.Prelude.{slice_get}
 use Rattle.pals_base.specs.declared.basic_types.PortValue.{PortValue}

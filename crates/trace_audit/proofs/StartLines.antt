@@ -1,4 +1,4 @@
--- Whether an entry tells the line that a node's start makes.
+-- Whether an entry is the line of a node's start.
 use Rattle.std.proofs.Common.{◌≡◌, ◌↔◌, ℕ, ◌<◌, ◌≤◌, Bool, true, false, List, length, Option, Some, None, IsTrue, refl}
 use Rattle.std.proofs.Common.{sym, ap, subst, arith}
 use Rattle.std.specs.Prelude.{position, slice_index_or}
@@ -30,7 +30,7 @@ use Rattle.run_laws.specs.EntryEventsAndReadings.{event_of}
 use Rattle.run_laws.specs.TraceRules.{is_line_of}
 use Rattle.run_laws.proofs.EntryLines.{lines_differ}
 
--- an entry tells another's line exactly where it is that entry
+-- an entry has another entry's line if and only if the entries are equal
 pub line_is : (design : DesignParts) (e x : JournalEntry) (r : Bool)
     → (entry_line design e ≡ entry_line design x → e ≡ x) → (IsTrue r ↔ (x ≡ e)) → is_line_of design e (Some x) ≡ r
 line_is design e x true apart both =

@@ -1,4 +1,4 @@
--- Which rule an entry breaks that tells a start, once the start has happened on the bus.
+-- The rule that the entry of a start violates, once the start has happened on the bus.
 use Rattle.std.proofs.Common.{◌≡◌, ◌↔◌, ℕ, ◌<◌, ◌≤◌, Bool, true, false, cond, List, [], ◌∷◌, ◌++◌, length, Option, Some}
 use Rattle.std.proofs.Common.{None, inl, inr, IsTrue, sym, ap, ◌∙◌}
 use Rattle.pals_base.specs.declared.limits.TheConstants.{ROUNDS}
@@ -48,7 +48,7 @@ started b new readings e node reading r falling waiting telling journal ready sa
     (last b.journal x (is_new ∙ happens.journal)))
     is
 
--- where no stop stood before
+-- if the run had no stop before
 pub misses : (b new : BusValue) (node : NodeNo) (reading : Option ℕ) (why : Stop) → b.state.stop ≡ None
     → StoppedAtStart b node reading new why → MissesMessage b node reading new why
 misses b new node reading why going (inl stood) = absurd (let both : Some why ≡ None = sym stood.0 ∙ going in cc)

@@ -36,7 +36,7 @@ pub step_first : (run : Run) (s : BusState) (node : NodeNo) (round step : ℕ) (
 step_first run s node round step reading here next =
     ap₂ (λ r o. Some (entry.Step node r (unwrap_or o 0) reading)) (sym here) next
 
--- another step than the next one, or none
+-- a step other than the next one, or a step when none can follow
 pub step_breaks : (run : Run) (s : BusState) (readings : List ℕ) (node : NodeNo) (round step : ℕ) (reading : Option ℕ)
     → option_map_or (nat_eq step) (next_step (node_at s node.0).phase) false ≡ false
     → Some rule.Order ≡ broken run s readings (entry.Step node round step reading)

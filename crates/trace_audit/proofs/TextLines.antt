@@ -19,7 +19,7 @@ feed_from from (b ∷ line) rest is =
     (ne_eqb b 10 (All-head (λ byte. byte ≢ 10) b line is))
     ∙ feed_from (from + 1) line rest (All-tail (λ byte. byte ≢ 10) b line is) ∙ ap Some (omega arith)
 
--- the first line feed stands at the end of the first line
+-- the first line feed is at the end of the first line
 pub feed_at : (text line rest : List ℕ) → IsLine line → text ≡ line ++ 10 ∷ rest
     → position is_line_feed text ≡ Some (length line)
 feed_at text line rest is same =
@@ -40,7 +40,7 @@ pub start_is : (text line shown rest : List ℕ) (n : ℕ) → text ≡ shown ++
 start_is text line shown rest n is here =
     ap (bytes_eq line) (ap₂ (λ k t. take k t) here is ∙ take-append_front shown (10 ∷ rest))
 
--- the place behind the first line that is left
+-- the position after the first remaining line
 pub next_place : (text shown rest : List ℕ) (place n next : ℕ) → place ≤ length text
     → drop place text ≡ shown ++ 10 ∷ rest → n ≡ length shown → next ≡ min (place + n + 1) (length text)
     → next ≡ place + suc (length shown)

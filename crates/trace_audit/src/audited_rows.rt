@@ -1,4 +1,4 @@
-//! The rows of a report, made round by round.
+//! The rows of a report, computed round by round.
 ghost use Rattle.std.specs.Prelude.{◌≡◌, ◌<◌, ◌+◌, ◌/◌, ◌^◌, bytes_eq, IfOk, OnOk};
 ghost use Rattle.std.specs.Arc.{arc_value};
 ghost use Rattle.pals_model.specs.RoundTexts.{composed_lines};

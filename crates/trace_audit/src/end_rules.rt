@@ -12,7 +12,7 @@ use pals_base::NodeNo;
 use pals_bus::Bus;
 use pals_runs::{Phase, TraceRule};
 
-/// The rule that is broken at the end, behind a report with this number of rows; none where the end is sound.
+/// The rule that is violated at the end, after a report with this number of rows; `None` if the end is sound.
 pub fn end_rule(replay: &Replay, rows: usize) -> Option<TraceRule>
     ensures { result ≡ end_broken replay.now.bus.run rows (audit_in replay.now) }
 {

@@ -11,7 +11,7 @@ use pals_base::{LinkNo, Nanos, NodeNo};
 use pals_model::Design;
 use pals_runs::{JournalEntry, Stop};
 
-/// A reading of a node's clock, in nanoseconds, or none where the entry tells none.
+/// A reading of a node's clock, in nanoseconds; `None` if the entry has no reading.
 #[derive(Clone, Copy)]
 pub struct ClockReading {
     pub node: u32,

@@ -1,4 +1,4 @@
-//! The first rule that an event breaks, from what each rule says of it.
+//! The first rule that an event violates, from the result of each rule.
 ghost use Rattle.std.specs.Prelude.{◌≡◌, Bool, Some, None, true};
 ghost use Rattle.trace_audit.specs.proof.FirstBrokenRule.{first_rule};
 

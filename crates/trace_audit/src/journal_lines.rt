@@ -10,7 +10,7 @@ use crate::words::{Words, has_words};
 use pals_base::Nanos;
 use pals_runs::{Arrived, Cause};
 
-/// What a journal line tells of a node. A reading may be none, as in a loose world.
+/// The part of a journal line about a node. A reading may be absent, as in a loose world.
 #[derive(Clone, Copy)]
 pub enum NodeLine {
     Start {
@@ -31,7 +31,7 @@ pub enum NodeLine {
     },
 }
 
-/// What a journal line tells of a link's message of a round.
+/// The part of a journal line about a link's message of a round.
 #[derive(Clone, Copy)]
 pub enum LinkLine {
     Arrive {
@@ -56,7 +56,7 @@ pub enum LinkLine {
     },
 }
 
-/// A journal line: the name of a node or of a link as it stands, and what is told of it.
+/// A journal line: the unresolved name of a node or of a link, and the rest of the line.
 #[derive(Clone, Copy)]
 pub enum JournalLine<'a> {
     OfNode(&'a str, NodeLine),
@@ -70,7 +70,7 @@ pub fn has_form(line: &str) -> bool
     form_of(line).is_some()
 }
 
-/// The form of a line, or none where it has none of a journal line.
+/// The form of a line; `None` if it does not have the form of a journal line.
 pub fn form_of(line: &str) -> Option<JournalLine<'_>>
     ensures { form_shown result ≡ lines.form_of line.now }
 {
@@ -91,7 +91,7 @@ pub fn form_of(line: &str) -> Option<JournalLine<'_>>
     }
 }
 
-// What an arrival gives, as a word says it.
+// The result of an arrival that a word denotes.
 fn arrived_in(word: &str) -> Option<Arrived>
     ensures { result ≡ lines.arrived_in word.now }
 {
@@ -103,7 +103,7 @@ fn arrived_in(word: &str) -> Option<Arrived>
     }
 }
 
-// A cause, as a word says it.
+// The cause that a word denotes.
 fn cause_in(word: &str) -> Option<Cause>
     ensures { result ≡ lines.cause_in word.now }
 {
@@ -115,7 +115,7 @@ fn cause_in(word: &str) -> Option<Cause>
     }
 }
 
-// A name and a round, whatever is read behind them.
+// A name and a round, whatever follows.
 fn named<'a>(words: &mut Words<'a>) -> Option<(&'a str, u32)>
     ensures { (go : List ℕ → ℕ → List (List ℕ) → Option lines.LineForm) →
         lines.named (words_in words.old.rest) go
@@ -126,7 +126,7 @@ fn named<'a>(words: &mut Words<'a>) -> Option<(&'a str, u32)>
     Some((name, round))
 }
 
-// A reading, whatever is read behind it.
+// A reading, whatever follows.
 fn reading(words: &mut Words<'_>) -> Option<Option<Nanos>>
     ensures { (go : Option ℕ → List (List ℕ) → Option lines.LineForm) →
         lines.read (words_in words.old.rest) go
@@ -135,7 +135,7 @@ fn reading(words: &mut Words<'_>) -> Option<Option<Nanos>>
     reading_in(words.next()?.as_bytes())
 }
 
-// A form, where no word is left behind it.
+// A form, if no word follows.
 #[tactic(auto, using(crate::proofs::FirstWords::words_left))]
 fn at_end<'a>(form: JournalLine<'a>, words: Words<'a>) -> Option<JournalLine<'a>>
     ensures { form_shown result ≡ lines.at_end (shown form.entry) (words_in words.entry.rest) }

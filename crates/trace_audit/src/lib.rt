@@ -1,5 +1,5 @@
-//! The verdict on the trace of a run: the rows of its report are looked at against the composition as
-//! they come, and then the lines of its journal are done again on a bus.
+//! The verdict on the trace of a run: the rows of its report are compared with the composition as they are
+//! read, and then the lines of its journal are replayed on a bus.
 #![tactic(auto)]
 
 mod audited_rows;

@@ -7,7 +7,7 @@ use itoa::Buffer;
 use pals_base::Nanos;
 use pals_base::limits::{READING, ROUNDS};
 
-// What the digits of a word spell, or none where that is above the greatest reading.
+// The number that the digits of a word denote; `None` if it is above the maximum reading.
 #[tactic(auto, using(crate::proofs::SpelledNumerals::spelled_more, crate::proofs::SpelledNumerals::spelled_above))]
 fn spelled(word: &[u8]) -> Option<u64>
     ensures some { IfSome result (λ number. number ≡ spelled word.now) }

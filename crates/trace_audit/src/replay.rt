@@ -15,8 +15,8 @@ use pals_bus::Bus;
 use pals_runs::{Arrived, JournalEntry, Stop, TraceRule};
 use std::alloc::Global;
 
-/// A bus that does again what a journal tells, the last reading of each node, and the stop that the
-/// next line has to tell, if it has to.
+/// A bus that replays a journal, the last reading of each node, and the stop that the next line must state,
+/// if there is one.
 #[derive(Drop)]
 pub struct Replay {
     pub bus: Bus,
@@ -41,8 +41,8 @@ impl Replay {
         })
     }
 
-    /// Does what a line tells, and gives the first rule that the line breaks, or none. Where one is
-    /// broken, nothing is said of what is left.
+    /// Replays a line and returns the first rule that the line violates, or `None`. If a rule is violated,
+    /// the state afterwards is unspecified.
     pub fn audit_line(&mut self, told: Option<JournalEntry>) -> Result<Option<TraceRule>, NoMemory>
         requires kept { IsReplay self.old }
         requires entry { IfSome told (IsEntryIn self.old.bus.run.design) }
@@ -62,7 +62,7 @@ impl Replay {
         }
     }
 
-    // The line behind an early arrival.
+    // The line after an early arrival.
     fn take_stop(
         &mut self,
         entry: &JournalEntry,
@@ -109,7 +109,7 @@ impl Replay {
     }
 }
 
-// The stop that the line behind an entry has to tell, if it has to.
+// The stop that the line after an entry must state, if there is one.
 fn owed_by(entry: &JournalEntry) -> Option<JournalEntry>
     ensures { result ≡ owed_by entry.now }
 {

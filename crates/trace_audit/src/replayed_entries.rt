@@ -1,4 +1,4 @@
-//! Entries, done again on a bus on which no stop stands.
+//! Entries, replayed on a bus without a stop.
 ghost use Rattle.std.specs.Prelude.{◌≡◌, ◌<◌, length, Some, None, Ok, true, IfOk};
 ghost use Rattle.pals_runs.specs.declared.journal.Stop.TheVariants as stop;
 ghost use Rattle.pals_runs.specs.declared.journal.JournalEntry.TheVariants as entry;
@@ -13,8 +13,8 @@ use pals_base::{LinkNo, Nanos, NoMemory, NodeNo};
 use pals_bus::Bus;
 use pals_runs::{Cause, JournalEntry, Stop, TraceRule};
 
-/// Does what an entry tells, and gives the first rule that the entry breaks, or none. Where one is
-/// broken, nothing is said of what the bus is left in.
+/// Replays an entry and returns the first rule that the entry violates, or `None`. If a rule is violated,
+/// the state of the bus afterwards is unspecified.
 pub fn replay_entry(
     bus: &mut Bus,
     readings: &[Nanos],
@@ -94,7 +94,7 @@ fn start(
     begin(bus, readings, node, reading, &entry)
 }
 
-// The line of a missed stop, which tells the start that misses the message.
+// The line of a missed stop, which states the start that misses the message.
 fn miss(
     bus: &mut Bus,
     readings: &[Nanos],
@@ -123,7 +123,7 @@ fn miss(
     begin(bus, readings, node, reading, &entry)
 }
 
-// The line of an early stop that does not stand behind its arrival.
+// The line of an early stop that does not follow its arrival.
 fn stray_stop(
     bus: &Bus,
     readings: &[Nanos],

@@ -1,5 +1,5 @@
-//! The events that entries tell, done again on a bus on which no stop stands. Each gives the first rule
-//! that its entry breaks, or none. Where one is broken, nothing is said of what the bus is left in.
+//! The events of entries, replayed on a bus without a stop. Each function returns the first rule that its
+//! entry violates, or `None`. If a rule is violated, the state of the bus afterwards is unspecified.
 ghost use Rattle.std.specs.Prelude.{◌≡◌, ◌<◌, ◌≤◌, nat_eq, length, Some, None, Ok, false, IfOk, option_copied};
 ghost use Rattle.std.specs.Option.{option_map_or};
 ghost use Rattle.pals_base.specs.declared.limits.TheConstants.{ROUNDS};
@@ -22,7 +22,7 @@ use pals_node::{SendEnd, StartEnd, StepEnd};
 use pals_runs::{Arrived, JournalEntry, Phase, TraceRule};
 use std::alloc::AllocError;
 
-/// A node starts its next round, or misses a message there, as an entry tells it.
+/// A node starts its next round, or misses a message there, as an entry states.
 pub fn begin(
     bus: &mut Bus,
     readings: &[Nanos],

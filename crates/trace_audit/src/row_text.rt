@@ -16,7 +16,7 @@ pub struct RowText {
 }
 
 impl RowText {
-    /// Takes the next line of the row, and says whether it is this one.
+    /// Takes the next line of the row, and returns whether it is this one.
     pub fn take_line(&mut self, line: &[u8]) -> bool
         requires { self.old.place ≤ length self.old.text.items }
         ensures same { (shown : List ℕ) (lines : List (List ℕ)) → HasLeft self.old (shown ∷ lines) → IsLine shown

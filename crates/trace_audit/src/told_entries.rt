@@ -1,4 +1,4 @@
-//! The entries that lines tell.
+//! The entries that lines denote.
 ghost use Rattle.std.specs.Prelude.{◌≡◌, ℕ, List, Some, IfSome};
 ghost use Rattle.pals_model.specs.declared.design.DesignParts.{DesignParts};
 ghost use Rattle.pals_model.specs.ComponentAndLinkNames.{node_named, link_named};
@@ -11,7 +11,7 @@ use pals_base::{LinkNo, NodeNo};
 use pals_runs::{JournalEntry, Stop};
 use scenario_values::DesignNames;
 
-// The entry of what is told of a node.
+// The entry of a line about a node.
 fn node_entry(node: NodeNo, what: NodeLine) -> JournalEntry
     ensures { (design : DesignParts) (name : List ℕ) → node_named design name ≡ Some node.0 →
         entry_of design (node_form name what) ≡ Some result }
@@ -41,7 +41,7 @@ fn node_entry(node: NodeNo, what: NodeLine) -> JournalEntry
     }
 }
 
-// The entry of what is told of a link.
+// The entry of a line about a link.
 fn link_entry(link: LinkNo, what: LinkLine) -> JournalEntry
     ensures { (design : DesignParts) (name : List ℕ) → link_named design name ≡ Some link.0 →
         entry_of design (link_form name what) ≡ Some result }
@@ -87,8 +87,8 @@ fn entry_of(names: &DesignNames<'_>, form: JournalLine<'_>) -> Option<JournalEnt
     }
 }
 
-/// The entry that a line tells, or none where it has no form or names nothing of the design. It is of a
-/// node or a link that is there, with numbers within their limits.
+/// The entry that a line denotes; `None` if the line has no form or names nothing of the design. Its node
+/// or link exists, and its numbers are within their limits.
 pub fn told(names: &DesignNames<'_>, line: &str) -> Option<JournalEntry>
     ensures value { result ≡ entry_of_line names.now line.now }
     ensures within { IfSome result (IsEntryIn names.now) }

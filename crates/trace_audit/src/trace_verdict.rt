@@ -24,9 +24,8 @@ use std::alloc::Global;
 use std::sync::Arc;
 use step_code::Code;
 
-/// The verdict on the lines of a trace: of a run of a design with the codes of its components, for so
-/// many rounds, with these values of the root in ports and these delays of the links. Each line is
-/// looked at once.
+/// The verdict on the lines of a trace of a run: of a design with the codes of its components, for this many
+/// rounds, with these values of the root in ports and these delays of the links. Each line is read once.
 pub fn audit(
     alloc: Global,
     design: Arc<Design>,
@@ -80,7 +79,7 @@ fn open(
     Replay::new(alloc, bus)
 }
 
-// The verdict on the lines behind a report of this size.
+// The verdict on the lines after a report of this size.
 fn audit_behind(
     alloc: Global,
     design: &Design,
@@ -99,7 +98,7 @@ fn audit_behind(
     audit_journal(replay, &names, trace, size, size / row_size(design))
 }
 
-// The verdict on the lines from an index on, behind a report that has this number of rows.
+// The verdict on the lines from an index on, after a report with this number of rows.
 fn audit_journal(
     replay: &mut Replay,
     names: &DesignNames<'_>,

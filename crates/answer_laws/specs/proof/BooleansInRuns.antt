@@ -31,18 +31,18 @@ OfScenarios P =
 abbrev pub ScenariosFit : Type 0
 ScenariosFit = OfScenarios (λ design scenario. EnvFits design scenario.env)
 
--- so do those of each component's frame after any number of rounds
+-- so do the values of each component's frame after any number of rounds
 abbrev pub StatesOfScenariosFit : Type 0
 StatesOfScenariosFit = OfScenarios (λ design scenario. (node rounds : ℕ) (c : Component)
     → slice_get design.components node ≡ Some c → FrameFits c.behaviour (state design scenario.env node rounds))
 
--- those of each message
+-- the values of each message
 abbrev pub MessagesOfScenariosFit : Type 0
 MessagesOfScenariosFit = OfScenarios (λ design scenario. (number round : ℕ) (link : Link)
     → slice_get design.links number ≡ Some link
     → TupleFits (link_kind design link) (msg design scenario.env number round))
 
--- and those of what each component leaves of a round
+-- and the values of each component's part of a round
 abbrev pub PartsOfScenariosFit : Type 0
 PartsOfScenariosFit = OfScenarios (λ design scenario. (node round : ℕ) (c : Component)
     → slice_get design.components node ≡ Some c → PartFits design node c (part design scenario.env node round))
@@ -52,13 +52,13 @@ PartsOfScenariosFit = OfScenarios (λ design scenario. (node round : ℕ) (c : C
 abbrev pub FaultsOfScenariosFit : Type 0
 FaultsOfScenariosFit = OfScenarios (λ design scenario. FaultsFit design (faults_of scenario.faults))
 
--- so do those of each replica's frame, and of all that a replica receives
+-- so do the values of each replica's frame, and of every tuple that a replica receives
 abbrev pub VotesOfScenariosFit : Type 0
 VotesOfScenariosFit = OfScenarios (λ design scenario. (rounds : ℕ)
     → VotedFits design (voted_composition design scenario.env (replicated_in design scenario.replicas)
     (faults_of scenario.faults) rounds))
 
--- and those of each root out port
+-- and the values of each root out port
 abbrev pub ShownOfScenariosFit : Type 0
 ShownOfScenariosFit = OfScenarios (λ design scenario. (tap : Tap) (round : ℕ)
     → TupleFits (out_kind (slice_get design.components tap.source.0) tap.out_port)

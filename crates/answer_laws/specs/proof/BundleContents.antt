@@ -23,7 +23,7 @@ pub record HasTree (bundle : List ℕ) : Type 0 where
 abbrev pub MeansDesign : List ℕ → List ℕ → Type 0
 MeansDesign root bundle = (design : DesignParts) × (scenario : List ℕ) × IsAccepted root bundle design scenario
 
--- It has such a design, and what stands behind the design text is a scenario for it.
+-- The bundle has such a design, and the text after the design is a scenario for it.
 abbrev pub MeansScenario : List ℕ → List ℕ → Command → Type 0
 MeansScenario root bundle command =
     (design : DesignParts) × (scenario : Scenario) × HasScenario root bundle command design scenario

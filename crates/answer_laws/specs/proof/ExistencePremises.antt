@@ -25,11 +25,11 @@ use Rattle.plant_fuse.specs.proof.FusedLaws.{ReportExists}
 pub record ExistenceLaws : Type 0 where
   -- a text has a tree or a first fault
   pub tree_or_fault : (text : List ℕ) → HasTree text ⊎ HasLexFault text ⊎ Stops text ⊎ NestsTooDeep text
-  -- a package has an instance, with a list of all that is wrong with it, or a first fault
+  -- a package has an instance, with a list of its violations, or a first fault
   pub instance_or_fault : (tree : PackageTree ℕ) (root : List ℕ) → HasFirstFault tree root ⊎ HasInstance tree root
   pub named : (tree : PackageTree ℕ) (root : List ℕ) (fault : PackageFault) → IsFault tree root fault → fault ≢ Memory
   pub list : (tree : PackageTree ℕ) (root : List ℕ) (parts : InstanceParts) → IsFlat tree root parts → HasList tree parts
-  -- where nothing is wrong there is a design, which keeps the rules of designs
+  -- if there is no violation there is a design, which satisfies the rules of designs
   pub there : (tree : PackageTree ℕ) (root : List ℕ) (parts : InstanceParts) → IsGiven tree → IsFlat tree root parts
       → AreViolations tree (shown_by tree parts) [] → (design : DesignParts) × IsDesignIn tree root design
   pub rules : (tree : PackageTree ℕ) (root : List ℕ) (design : DesignParts) → IsGiven tree → IsDesignIn tree root design
@@ -40,12 +40,12 @@ pub record ExistenceLaws : Type 0 where
   pub loose : EventsAreLoose
   pub few : EventsAreFew
   pub lines : TracesAreFew
-  -- pairs that are read can be fused, and there is a report of what they are fused to
+  -- pairs that are read can be fused, and their fused composition has a report
   pub pairs : PairsCanBeFused
   pub fused : ReportExists
   -- a behaviour has a code
   pub layout : HasLayout
-  -- a scenario suits its design, and a run of it comes to an end
+  -- a scenario suits its design, and a run of it reaches an end
   pub suit : ScenariosSuit
   pub ends : EachRunEnds
   pub ends_named : EndsAreNamed

@@ -1,4 +1,4 @@
--- The claims that each command has an answer to each bundle, and that a command that is no run has only one.
+-- The claims that each command has an answer to each bundle, and that each command other than `run` has only one.
 use Rattle.std.specs.Prelude.{◌≡◌, ℕ, false, List}
 use Rattle.pals_runs.specs.declared.commands.Command.{Command}
 use Rattle.pals_runs.specs.declared.commands.Command.TheVariants.{Ring}
@@ -27,7 +27,7 @@ pub record HasOneAnswer (command : Command) (bundle : List ℕ) : Type 0 where
 abbrev pub EachBundleHasAnAnswer : Type 0
 EachBundleHasAnAnswer = (command : Command) (bundle : List ℕ) → IsWithinRingLimits command → HasAnswer command bundle
 
--- and just one, if it is no run
+-- and only one, if the command is not `run`
 abbrev pub EachBundleHasOneAnswer : Type 0
 EachBundleHasOneAnswer =
     (command : Command) (bundle : List ℕ) → is_run command ≡ false → IsWithinRingLimits command → HasOneAnswer command bundle

@@ -24,7 +24,7 @@ use Rattle.pals_runs.specs.declared.journal.JournalEntry.TheVariants as entry
 use Rattle.pals_top.specs.AnalysisCommands as analysis
 use Rattle.pals_top.specs.ExecutionCommands as execution
 
--- the statuses of a run: all nodes are done, a stop stands, or a list has ended
+-- the statuses of a run: all nodes are done, the run has stopped, or a list has ended
 abbrev pub IsRunStatus : ℕ → Type 0
 IsRunStatus status = (status ≡ DONE) ⊎ (status ≡ STOPPED) ⊎ (status ≡ CLOCK_ENDED)
 

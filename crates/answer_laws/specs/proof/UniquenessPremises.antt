@@ -1,4 +1,4 @@
--- The premises from which a command that is no run has one answer: the laws of lower crates, for analyses and for
+-- The premises from which a command other than `run` has one answer: the laws of lower crates, for analyses and for
 -- commands that need step codes.
 use Rattle.std.specs.Prelude.{◌≡◌, ℕ, List}
 use Rattle.pals_model.specs.declared.design.DesignParts.{DesignParts}

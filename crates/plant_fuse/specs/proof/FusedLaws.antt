@@ -1,5 +1,5 @@
--- The claims on fused composition: its equations have exactly one solution, which is made round by round, and it has
--- one report.
+-- The claims on fused composition: its equations have exactly one solution, which is computed round by round, and it
+-- has one report.
 use Rattle.std.specs.Prelude.{◌≡◌, ℕ, suc, ◌*◌, ◌<◌, [], List, Some, slice_get, slice_index_or}
 use Rattle.pals_base.specs.declared.basic_types.PortValue.{PortValue}
 use Rattle.pals_base.specs.declared.basic_types.PortValue.TheVariants.{Absent}
@@ -37,8 +37,8 @@ SolutionGoesOn =
     → ArePairs design pairs →
     IsFused design pairs env (suc rounds) ins → IsFused design pairs env rounds (first_rounds design rounds ins)
 
--- each step goes on from the frame before it, at the vector that it reads, and leaves what it makes: so the steps can
--- be made one after the other
+-- each step continues from the frame before it, at the vector that it reads, and has the outputs of that step: so the
+-- steps can run one after the other
 abbrev pub StepsAreMade : Type 0
 StepsAreMade =
     (design : DesignParts) (pairs : List Pair) (env : Env) (rounds : ℕ) (ins : Inputs) (node : ℕ) (c : Component)
@@ -48,7 +48,7 @@ StepsAreMade =
     × ((port : ℕ) → left_by design ins node port step
     ≡ slice_index_or (made_at design pairs env ins node c step).outs port Absent)
 
--- what stands after one round more comes from what stood before by one round of these equations
+-- the configuration after one more round follows from the configuration before it by one round of these equations
 abbrev pub RoundsGoOn : Type 0
 RoundsGoOn =
     (design : DesignParts) (pairs : List Pair) (env : Env) (rounds : ℕ) (ins : Inputs) → IsDesign design
@@ -67,7 +67,7 @@ RoundIsOne =
     (vectors other : Inputs) → ArePairs design pairs →
     IsFusedRound design pairs values before vectors → IsFusedRound design pairs values before other → vectors ≡ other
 
--- so what is made round by round stands, after any number of rounds, where the solution for these rounds does
+-- so computing one round after another gives, after any number of rounds, the configuration of the solution
 abbrev pub RoundsFollow : Type 0
 RoundsFollow =
     (design : DesignParts) (pairs : List Pair) (env : Env) (at : ℕ → Configuration) (vectors : ℕ → Inputs) (rounds : ℕ)
@@ -80,7 +80,7 @@ abbrev pub WithoutPairs : Type 0
 WithoutPairs = (design : DesignParts) (env : Env) (rounds : ℕ) (ins : Inputs) → IsDesign design →
     IsFused design [] env rounds ins → fused design [] rounds ins ≡ comp design env rounds
 
--- states that follow one another stand where the solution does, and their parts are what the components leave in each
+-- states that follow one another agree with the solution, and their parts are the parts of the components in each
 -- round
 abbrev pub StatesFollow : Type 0
 StatesFollow =

@@ -13,7 +13,7 @@ pub record AreTwo (pair : Pair) (count : ℕ) : Type 0 where
   pub controller : pair.controller.0 < count
   pub two : pair.plant.0 ≢ pair.controller.0
 
--- where one end of a link is the plant, the other is the controller
+-- if one end of a link is the plant, the other is the controller
 abbrev pub stays_inside : Pair → Link → Bool
 stays_inside pair link =
     (not (nat_eq link.source.0 pair.plant.0) || nat_eq link.target.0 pair.controller.0)

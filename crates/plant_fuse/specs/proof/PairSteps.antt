@@ -29,7 +29,7 @@ pub record PairMember : Type 0 where
 abbrev pub member_of_pair : PairedComponent → PairMember
 member_of_pair side = record { partner = side.partner; component = side.wired.component.now; sources = side.wired.sources.now }
 
--- ---- what is read
+-- ---- the inputs
 abbrev pub brought_at : RoundInputs → PairMember → ℕ → PortSource → PortValue
 brought_at round pair_member step source = slice_index_or (brought round pair_member.component.rate source) step Absent
 
@@ -65,21 +65,21 @@ abbrev pub row_before : List (List PortValue) → ℕ → Option (List PortValue
 row_before rows zero = None
 row_before rows (suc step) = Some (row_at rows step)
 
--- a plant reads what its controller left in the step before, and a controller what its plant left in this step
+-- a plant reads the outputs of its controller's previous step, and a controller the outputs of its plant's same step
 abbrev pub plant_vector : RoundInputs → PairMember → List (List PortValue) → ℕ → List PortValue
 plant_vector round pair_member rows step = side_vector round pair_member step (row_before rows step)
 
 abbrev pub controller_vector : RoundInputs → PairMember → List (List PortValue) → ℕ → List PortValue
 controller_vector round pair_member rows step = side_vector round pair_member step (Some (row_at rows step))
 
--- ---- what is left
--- the rows and the frame that steps at these vectors leave
+-- ---- the outputs
+-- the rows and the frame after steps at these vectors
 pub record IsMade (b : BehaviourParts) (from : Frame) (vectors : List (List PortValue)) (rows : List (List PortValue))
     (to : Frame) : Type 0 where
   pub rows_are : rows ≡ outputs b from vectors
   pub frame_is : to ≡ frame_after b from vectors
 
--- what one side has before and behind the steps of the round
+-- one side's state before and after the steps of the round
 pub record Work : Type 0 where
   pub from : Frame
   pub rows : List (List PortValue)
@@ -102,7 +102,7 @@ pub record FitsSteps (side : PairedComponent) (stage : Stage) (part : Part) : Ty
   pub stage_fits : stage_size stage ≡ stage_size_of stage.sent side.wired.component.now
   pub part_fits : part_size part ≡ part_size_of side.wired.component.now side.wired.taps.now
 
--- ---- behind the steps of both: what is made, and what root out ports show of it
+-- ---- after the steps of both: the messages, and the values of root out ports
 abbrev pub side_work : PairedComponent → Stage → Part → Work
 side_work side stage part = work side.from.now stage.rows part.frame
 

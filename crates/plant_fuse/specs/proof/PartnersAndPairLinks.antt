@@ -6,7 +6,7 @@ use Rattle.pals_model.specs.declared.design.Link.{Link}
 use Rattle.pals_model.specs.declared.design.DesignParts.{DesignParts}
 use Rattle.pals_runs.specs.declared.plant_pairs.Pair.{Pair}
 
--- by the first pair in which it stands
+-- by the first pair that contains it
 abbrev pub partner_of : List Pair → ℕ → Option NodeNo
 partner_of [] node = None
 partner_of (pair ∷ pairs) node =

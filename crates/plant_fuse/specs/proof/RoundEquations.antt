@@ -1,4 +1,4 @@
--- One round of a fused composition, from what stands before it.
+-- One round of a fused composition, from the configuration before it.
 use Rattle.std.specs.Prelude.{◌≡◌, ℕ, zero, suc, ◌-◌, ◌*◌, ◌<◌, if◌then◌else◌, List, [], map, drop, Option, Some, None}
 use Rattle.std.specs.Prelude.{slice_get, slice_index_or}
 use Rattle.std.specs.List.{enumerate_from}
@@ -105,7 +105,7 @@ message_in design pairs before vectors link =
     else cut (sent_steps design.gamma design.period (rate_of design link.source.0))
     (tuple_in design before vectors link)
 
--- what stands after it
+-- the configuration after it
 abbrev pub after_round : DesignParts → List Pair → Configuration → Inputs → Configuration
 after_round design pairs before vectors = record {
   frames =
@@ -114,7 +114,7 @@ after_round design pairs before vectors = record {
   messages = map (message_in design pairs before vectors) design.links;
 }
 
--- the vectors of the round behind the first ones
+-- the vectors of the round after the first ones
 abbrev pub last_round : DesignParts → ℕ → Inputs → Inputs
 last_round design rounds ins =
     map (λ numbered. drop (rounds * numbered.1.rate) (inputs_to ins numbered.0)) (enumerate_from 0 design.components)

@@ -1,4 +1,4 @@
--- The work of all components within one round, in pairs or alone, and what it leaves.
+-- The work of all components within one round, in pairs or by themselves, and its results.
 use Rattle.std.specs.Prelude.{◌≡◌, ◌≢◌, ℕ, List, map, Some, None, slice_get, slice_index_or}
 use Rattle.pals_base.specs.declared.basic_types.PortValue.{PortValue}
 use Rattle.pals_base.specs.declared.frames.Frame.{Frame}
@@ -27,7 +27,7 @@ pub record IsPaired (design : DesignParts) (parts : List Part) (node partner : �
   pub partner_is : side.partner ≡ partner
   pub from_is : side.from.now ≡ slice_index_or (frames_of parts) node no_frame
 
--- ---- what stands behind the round
+-- ---- the results of the round
 abbrev pub rows_of : List Stage → List (List (List PortValue))
 rows_of stages = map (λ (s : Stage). s.rows) stages
 
@@ -58,7 +58,7 @@ pub record IsRun (round : RoundInputs) (frames : List Frame) (parts : List Part)
       (pair_member round.design.now pair.controller.0 pair.plant.0 c)
       p.rate p_work c_work
 
--- the components that stand in no pair, each by itself
+-- the components in no pair, each by itself
 abbrev pub AreAlone : RoundInputs → List Pair → List Frame → List Part → List Stage → Type 0
 AreAlone round pairs frames parts stages = (node : ℕ) (c : Component) →
     partner_of pairs node ≡ None → slice_get round.design.now.components node ≡ Some c
@@ -70,8 +70,8 @@ pub record AreRun (round : RoundInputs) (pairs : List Pair) (frames : List Frame
   pub alone : AreAlone round pairs frames parts stages
   pub together : (k : ℕ) (pair : Pair) → slice_get pairs k ≡ Some pair → IsRun round frames parts stages pair
 
--- ---- what stays
--- the parts and rows of all components beside two
+-- ---- the unchanged parts
+-- the parts and rows of all components other than two
 pub record StayBeside (a b : ℕ) (parts parts' : List Part) (stages stages' : List Stage) : Type 0 where
   pub parts_stay : (k : ℕ) → k ≢ a → k ≢ b → slice_get parts' k ≡ slice_get parts k
   pub rows_stay : (k : ℕ) → k ≢ a → k ≢ b → slice_get (rows_of stages') k ≡ slice_get (rows_of stages) k

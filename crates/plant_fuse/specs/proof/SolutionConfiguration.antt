@@ -1,5 +1,5 @@
--- The frames and messages that stand after the rounds of a solution, what each of its steps makes, and its inputs
--- cut to fewer rounds.
+-- The frames and messages after the rounds of a solution, the outputs of each of its steps, and its inputs cut to
+-- fewer rounds.
 use Rattle.std.specs.Prelude.{ℕ, ◌*◌, List, map, take}
 use Rattle.std.specs.List.{enumerate_from}
 use Rattle.pals_base.specs.declared.frames.Frame.{Frame}
@@ -21,7 +21,7 @@ abbrev pub first_rounds : DesignParts → ℕ → Inputs → Inputs
 first_rounds design rounds ins =
     map (λ numbered. take (rounds * numbered.1.rate) (inputs_to ins numbered.0)) (enumerate_from 0 design.components)
 
--- ---- what stands after these rounds
+-- ---- the configuration after these rounds
 abbrev pub frame_of : Inputs → ℕ → Component → Frame
 frame_of ins node c = frame_after c.behaviour (initial c.behaviour) (inputs_to ins node)
 

@@ -61,8 +61,8 @@ pub record IsDueAt (run : Run) (s : BusState) (node : ℕ) (link : LinkNo) (roun
   pub of_round : copy.round ≡ round
   pub due : is_due (Some reading) copy ≡ true
 
--- where a message that is due to a node arrives, the event keeps to the clocks, the node is still to start at that
--- reading, and what it waited for has come
+-- if a message that is due to a node arrives, the event respects the clocks, the node is still to start at that
+-- reading, and the awaited rounds are still sent
 abbrev pub DueArrives : Type 0
 DueArrives = InRuns (λ run clocks journal s.
     (t : BusState) (node : NodeNo) (reading : ℕ) (link : LinkNo) (round : ℕ) →

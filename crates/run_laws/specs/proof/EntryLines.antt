@@ -1,4 +1,4 @@
--- What the line of a journal's entry tells.
+-- The entry that the line of a journal's entry denotes.
 use Rattle.std.specs.Prelude.{◌≡◌, List, ℕ, Some}
 use Rattle.pals_model.specs.declared.design.DesignParts.{DesignParts}
 use Rattle.pals_model.specs.proof.CompositionLaws.TextLines.{IsLine}
@@ -41,7 +41,7 @@ EntriesHaveLines = OfEntries (λ design e. IsLine (entry_line design e))
 abbrev pub LinesHaveForms : Type 0
 LinesHaveForms = OfEntries (λ design e. form_of (entry_line design e) ≡ Some (entry_form design e))
 
--- so its line tells it
+-- so reading its line gives the entry
 abbrev pub LinesTellEntries : Type 0
 LinesTellEntries = OfEntries (λ design e. entry_of_line design (entry_line design e) ≡ Some e)
 
@@ -50,11 +50,11 @@ abbrev pub LinesDiffer : Type 0
 LinesDiffer = OfEntries (λ design e.
     (other : JournalEntry) → IsEntryIn design other → entry_line design e ≡ entry_line design other → e ≡ other)
 
--- and each line that tells an entry tells one of the design
+-- and each line that denotes an entry denotes an entry of the design
 abbrev pub ToldAreIn : Type 0
 ToldAreIn = (design : DesignParts) (line : List ℕ) (e : JournalEntry) → entry_of_line design line ≡ Some e → IsEntryIn design e
 
--- a line that tells an entry of a design is that entry's line, letter by letter
+-- a line that denotes an entry of a design is that entry's line, byte by byte
 abbrev pub ToldAreLines : Type 0
 ToldAreLines =
     (design : DesignParts) (line : List ℕ) (e : JournalEntry) → entry_of_line design line ≡ Some e → line ≡ entry_line design e

@@ -1,5 +1,5 @@
--- Laws of histories and traces: histories replay, and a trace is judged sound exactly where it is one of a history
--- that is over.
+-- Laws of histories and traces: histories replay, and a trace is judged sound if and only if it is the trace of a
+-- history that is over.
 use Rattle.std.specs.Prelude.{◌≡◌, ◌↔◌, ℕ, ◌+◌, ◌*◌, ◌≤◌, List, [], Option, Some, All}
 use Rattle.pals_base.specs.PeriodBoundAndReleases.{alarm}
 use Rattle.pals_runs.specs.declared.journal.Stop.{Stop}
@@ -16,7 +16,7 @@ use Rattle.run_laws.specs.HistoriesAndTraces.{History, IsTraceOf}
 use Rattle.pals_runs.specs.declared.journal.Stop.TheVariants as stop
 use Rattle.pals_runs.specs.declared.journal.JournalEntry.TheVariants as entry
 
--- ---- what an entry alone shows
+-- ---- the reading of a single entry
 abbrev pub ShowsFrom : Option ℕ → ℕ → Type 0
 ShowsFrom reading least = (at : ℕ) × (reading ≡ Some at) × (least ≤ at)
 
@@ -24,9 +24,9 @@ abbrev pub StopShowsTime : Run → Stop → Type 0
 StopShowsTime run (stop.Missed link round reading cause) = ShowsFrom reading (alarm run.design.period (round + 1))
 StopShowsTime run (stop.Early link round reading) = ShowsFrom reading 0
 
--- an event of a clock shows a reading: a start no less than its round's alarm, a step than its own time, a send than
--- its round's release, and a missed start than the alarm of the round after the message's; and no entry is of a
--- message that is lost or repeated
+-- an event of a clock shows a reading: a start at least its round's alarm, a step at least its own time, a send at
+-- least its round's release, and a missed start at least the alarm of the round after the message's; no entry shows a
+-- lost or repeated message
 abbrev pub ShowsTime : Run → JournalEntry → Type 0
 ShowsTime run (entry.Arrive link round reading result) = ShowsFrom reading 0
 ShowsTime run (entry.Start node round reading) = ShowsFrom reading (alarm run.design.period round)
@@ -45,7 +45,7 @@ abbrev pub OfTraces : (Run → List (List ℕ) → ℕ → Option Stop → Type 
 OfTraces P =
     (run : Run) (lines : List (List ℕ)) (rounds : ℕ) (stop : Option Stop) → IsRunOf run → P run lines rounds stop
 
--- what is judged sound is the trace of a history that is over
+-- a trace that is judged sound is the trace of a history that is over
 abbrev pub SoundAreTraces : Type 0
 SoundAreTraces =
     OfTraces (λ run lines rounds stop. verdict run lines ≡ Sound rounds stop → IsTraceOf run lines rounds stop)

@@ -69,7 +69,7 @@ pub data Whereabouts (round count : ℕ) (slot : Option (List PortValue)) (flyin
   was_taken : flying ≡ 0 → round + 1 < count → Whereabouts round count slot flying taken
   came_early : flying ≡ 0 → taken ≡ Some round → Whereabouts round count slot flying taken
 
--- a copy in flight is due when its send and its delay say
+-- a copy in flight is due at the sum of its send's reading and its delay
 pub record IsDueCopy (delay : ℕ → ℕ) (sends : List ℕ) (copy : FlightCopy) : Type 0 where
   pub sent : copy.round < length sends
   pub due : copy.due ≡ due_of delay sends copy.round

@@ -1,4 +1,4 @@
--- Laws of list clocks: readings are picks, and each node picks for what comes next.
+-- Laws of list clocks: readings are picks, and each node picks for its next action.
 use Rattle.std.specs.Prelude.{◌≡◌, ◌⊎◌, ℕ, ◌+◌, List, [], length, take}
 use Rattle.pals_base.specs.ClockPicks.{picks}
 use Rattle.pals_clock.specs.ClockStates.{ClockState, left_after}

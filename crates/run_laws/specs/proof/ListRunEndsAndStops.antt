@@ -10,12 +10,12 @@ use Rattle.run_laws.specs.NodeLinkQuantifiers.{EachNode, EachLink}
 use Rattle.run_laws.specs.TimelyMessages.{IsTimely}
 use Rattle.run_laws.specs.ListRunEndsAndStops.{AllOver, IsOver, PicksAll, PicksEndAt, ListStop}
 
--- where all nodes have, each round of each link is in time
+-- if all nodes have, each round of each link is in time
 abbrev pub EndsAreTimely : Type 0
 EndsAreTimely = InListRuns (λ run clocks journal s. AllOver run clocks s
     → EachLink run (λ number. (round : ℕ) → IsTimely run clocks number round))
 
--- a node that has come to its end is done exactly where its picks reach its last target
+-- a node that has reached its end is done if and only if its picks reach its last target
 abbrev pub DoneArePicked : Type 0
 DoneArePicked = InListRuns (λ run clocks journal s. EachNode run (λ node. IsOver run clocks s node
     → ((node_at s node).phase ≡ Done) ↔ PicksAll run clocks node))

@@ -7,13 +7,13 @@ use Rattle.run_laws.specs.BoundsBrokenAtStops.{DelaysFit}
 abbrev pub MeetingsShowTargets : Type 0
 MeetingsShowTargets = InMeetings (λ run journal s. ShowTargets run [] journal)
 
--- where all nodes are done, no round of a link is late
+-- if all nodes are done, no round of a link is late
 abbrev pub MeetingsEnd : Type 0
 MeetingsEnd = InMeetings (λ run journal s. AllDone run s → (number round : ℕ) → IsLate run number round → ⊥)
 
 abbrev pub MeetingsStop : Type 0
 MeetingsStop = InMeetings (λ run journal s. IfSome s.stop (MeetingStop run))
 
--- with such delays no stop ever stands
+-- with such delays the run never has a stop
 abbrev pub NoMeetingStops : Type 0
 NoMeetingStops = InMeetings (λ run journal s. DelaysFit run → s.stop ≡ None)

@@ -1,4 +1,4 @@
--- Readings of starts and sends that fit their alarms and releases, and what a stop tells: the claims AllTimesFit and
+-- Readings of starts and sends that meet their alarms and releases, and the causes of stops: the claims AllTimesFit and
 -- StopsFit.
 use Rattle.std.specs.Prelude.{◌≡◌, ℕ, ◌+◌, ◌<◌, ◌≤◌, List, Option, Some, None, slice_get}
 use Rattle.pals_base.specs.PeriodBoundAndReleases.{alarm}
@@ -52,7 +52,7 @@ abbrev pub NeverSent : Run → Clocks → BusState → ℕ → Type 0
 NeverSent run Meet s node = ⊥
 NeverSent run (Lists clocks) s node = HasEnded run clocks s node
 
--- why a message of this round, with this due reading or none, is missed at a reading
+-- why a message of this round, with this due reading if it has one, is missed at a reading
 abbrev pub CauseFits : Run → Clocks → BusState → ℕ → Option ℕ → ℕ → Cause → Type 0
 CauseFits run clocks s node due at NotSent = (due ≡ None) × NeverSent run clocks s node
 CauseFits run clocks s node due at InTransit = (d : ℕ) × (due ≡ Some d) × (at < d)

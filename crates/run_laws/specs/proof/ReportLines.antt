@@ -1,5 +1,5 @@
--- Laws of the lines of texts and reports: those of a report are the composition's, and none has the form of a
--- journal line.
+-- Laws of the lines of texts and reports: the lines of a report are the composition's, and no line of a report has the
+-- form of a journal line.
 use Rattle.std.specs.Prelude.{◌≡◌, ℕ, List, All, None}
 use Rattle.pals_model.specs.declared.design.DesignParts.{DesignParts}
 use Rattle.pals_model.specs.declared.environment.Env.{Env}

@@ -1,4 +1,4 @@
--- When a run has come to its end, that each run comes to one, and the most lines that its journal has.
+-- The end of a run, that each run reaches one, and the maximum number of lines in its journal.
 use Rattle.std.specs.Prelude.{◌≡◌, ◌≢◌, ◌⊎◌, ℕ, ◌+◌, ◌*◌, ◌<◌, ◌≤◌, List, [], ◌++◌, length, None}
 use Rattle.std.specs.List.{sum_by}
 use Rattle.pals_clock.specs.ClockStates.{ClockState}
@@ -14,12 +14,12 @@ use Rattle.run_laws.specs.proof.RunQuantifiers.{InRuns, InListRuns}
 use Rattle.run_laws.specs.Meetings.{AllDone}
 use Rattle.run_laws.specs.ListRunEndsAndStops.{AllOver, AllAtEnd}
 
--- a run has come to its end: it has stopped, or all its nodes have come to theirs
+-- a run has reached its end: it has stopped, or each of its nodes has reached its end
 abbrev pub HasCome : Run → Clocks → BusState → Type 0
 HasCome run clocks s = (s.stop ≢ None) ⊎ AllAtEnd run clocks s
 
--- ---- each run comes to one
--- a run that goes on from a journal, with the same lists, and has come to its end
+-- ---- each run reaches an end
+-- a run that extends a journal, with the same lists, and has reached its end
 pub record IsEnding (run : Run) (clocks : Clocks) (journal : List JournalEntry) : Type 0 where
   pub later : Clocks
   pub more : List JournalEntry
@@ -28,17 +28,17 @@ pub record IsEnding (run : Run) (clocks : Clocks) (journal : List JournalEntry) 
   pub lists : lists_in later ≡ lists_in clocks
   pub come : HasCome run later state
 
--- each design has a run, with these clocks, that comes to its end
+-- each design has a run, with these clocks, that reaches its end
 abbrev pub EachRunEnds : Type 0
 EachRunEnds = (run : Run) (clocks : Clocks) → IsRunOf run → HaveFreshClocks run clocks → IsEnding run clocks []
 
--- and wherever a run has come, it can go on to an end
+-- and each reachable state can be extended to an end
 abbrev pub EachGoesOn : Type 0
 EachGoesOn = InRuns (λ run clocks journal s. IsEnding run clocks journal)
 
--- ---- none goes on without end
--- in each round a component starts and finishes each of its steps and sends once, and each link brings one message;
--- and a stop has a line of its own
+-- ---- every run is finite
+-- in each round a component starts and finishes each of its steps and sends once, and each link delivers one message;
+-- a stop has a line of its own
 abbrev pub most_lines : Run → ℕ
 most_lines run =
     run.rounds * (sum_by (λ (c : Component). 2 * c.rate + 1) run.design.components + length run.design.links) + 1
@@ -48,13 +48,13 @@ abbrev pub JournalsEnd : Type 0
 JournalsEnd = InRuns (λ run clocks journal s. length journal ≤ most_lines run)
 
 -- ---- a list that is too short
--- the first node that is not done has come to its list's end
+-- the first node that is not done has reached its list's end
 pub record IsFirstEnded (run : Run) (clocks : List ClockState) (s : BusState) (node : ℕ) : Type 0 where
   pub within : node < length run.design.components
   pub ended : HasEnded run clocks s node
   pub before : (other : ℕ) → other < node → (node_at s other).phase ≡ Done
 
--- where all nodes have come to their ends, all are done, or the first that is not has come to its list's end
+-- if all nodes have reached their ends, all are done, or the first node that is not done has reached its list's end
 abbrev pub EndsAreNamed : Type 0
 EndsAreNamed = InListRuns (λ run clocks journal s. AllOver run clocks s
     → AllDone run s ⊎ ((node : ℕ) × IsFirstEnded run clocks s node))

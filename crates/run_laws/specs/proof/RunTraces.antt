@@ -1,5 +1,4 @@
--- Runs of nodes that keep to their clocks are histories, and their traces are sound: what the verdict says of the
--- trace of a run.
+-- Runs of nodes that respect their clocks are histories, and their traces are sound: the verdict on the trace of a run.
 use Rattle.std.specs.Prelude.{◌≡◌, ℕ, ◌≤◌, All}
 use Rattle.pals_base.specs.declared.limits.TheConstants.{ROUNDS, READING}
 use Rattle.pals_clock.specs.declared.clock.Clocks.{Clocks}
@@ -28,11 +27,11 @@ abbrev pub TracesAreTexts : Type 0
 TracesAreTexts = InRuns (λ run clocks journal s. run.rounds ≤ ROUNDS → AreReadings clocks
     → lines_of (text_of (trace_of run journal s)) ≡ trace_of run journal s)
 
--- what nodes do that keep to their clocks is a history
+-- the events of nodes that respect their clocks form a history
 abbrev pub RunsAreHistories : Type 0
 RunsAreHistories = InRuns (λ run clocks journal s. History run journal s)
 
--- the trace of each run of nodes that keep to their clocks is one, where the run is over
+-- the trace of each completed run of nodes that respect their clocks is the trace of a history
 abbrev pub RunsAreTraces : Type 0
 RunsAreTraces = InRuns (λ run clocks journal s. run.rounds ≤ ROUNDS → AreReadings clocks → IsStoppedOrDone run s
     → IsTraceOf run (trace_of run journal s) (finished_by_all run s) s.stop)

@@ -41,7 +41,7 @@ InTime run Meet = EachLink run (λ number. (round : ℕ) → (IsLate run number 
 InTime run (Lists clocks) =
     EachLink run (λ number. (round : ℕ) → IsTimely run clocks number round × IsDueAfterStarts run clocks number round)
 
--- in a run with such lists no stop stands
+-- a run with such lists has no stop
 abbrev pub NoneStops : Type 0
 NoneStops =
     InRuns (λ run later journal s. (clocks : Clocks) → lists_in later ≡ lists_in clocks → InTime run clocks
@@ -52,7 +52,7 @@ abbrev pub BoundsAreInTime : Type 0
 BoundsAreInTime = (run : Run) → IsRunOf run → DelaysFit run → InTime run Meet
 
 -- ---- the end of a run
--- the first node that is not done has come to its list's end, and waits for this target
+-- the first node that is not done has reached its list's end, and waits for this target
 abbrev pub EndsFirst : Run → Clocks → BusState → ℕ → ℕ → Type 0
 EndsFirst run Meet s node goal = ⊥
 EndsFirst run (Lists clocks) s node goal =

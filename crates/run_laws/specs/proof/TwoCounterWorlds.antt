@@ -61,7 +61,7 @@ latest_sender =
     ∷ Arrive to_b 0 ∷ Pass 17000001 (16000002 ∷ 18000000 ∷ [])
     ∷ Start b ∷ Finish b ∷ []
 
--- a list within the bounds, and the text of what it leaves
+-- a list within the bounds, and the text of the world after it
 pub record Leaves (run : Run) (events : List Event) (lines : List (List ℕ)) : Type 0 where
   pub within : refused run events ≡ None
   pub lines_are : world_lines run.design run.env events ≡ lines
@@ -75,7 +75,7 @@ LatestSender = Leaves (counters_world 2) latest_sender
     (codes "round 0" ∷ codes "p.a s x=1" ∷ codes "p.b s x=1" ∷ codes "round 1" ∷ codes "p.b s x=3"
     ∷ codes "sent p.a.i 0 (1)" ∷ codes "sent p.b.i 0 (1)" ∷ [])
 
--- a message that arrives less than the least delay after its send
+-- a message that arrives less than the minimum delay after its send
 abbrev pub too_soon_events : List Event
 too_soon_events =
     Pass 8000001 (9000000 ∷ 7000002 ∷ []) ∷ Start a ∷ Finish a

@@ -1,4 +1,4 @@
--- What a world keeps while its events are within the bounds: where its clocks, nodes and messages stand against its
+-- The invariant of a world while its events are within the bounds: its clocks, nodes and messages relative to its
 -- time. All times and readings are nanoseconds.
 use Rattle.std.specs.Prelude.{◌≡◌, ℕ, suc, ◌+◌, ◌-◌, ◌*◌, ◌<◌, ◌≤◌, max, nat_eq, nat_lt, ◌&&◌, Bool, true, false, cond}
 use Rattle.std.specs.Prelude.{List, length, Option, Some, None, is_some, slice_index_or}
@@ -36,8 +36,8 @@ pub record RunsSince (g : Gamma) (alarm time since : ℕ) : Type 0 where
   pub prompt : since < alarm + g.eps
   pub past : since ≤ time
 
--- what it is to send is finished since a moment, at most the longest execution after the last step that is sent could
--- start
+-- the steps of the next send are finished since a moment, at most the maximum execution time after the last sent step
+-- could start
 pub record IsReadySince (g : Gamma) (alarm time ready : ℕ) : Type 0 where
   pub prompt : ready < alarm + g.eps + g.alpha_max
   pub past : ready ≤ time
@@ -48,7 +48,7 @@ pub record KeepsNode (g : Gamma) (plan : Plan) (n : NodeState) (time since ready
   -- and so is that of each step that is finished
   pub finished : (step : ℕ) → finished_steps plan.rate n.phase ≡ Some (suc step) → step_alarm plan n step < time + g.eps
   pub running : (step : ℕ) → n.phase ≡ Running step → RunsSince g (step_alarm plan n step) time since
-  -- and the moment since which what it is to send is finished
+  -- and the moment since which the steps of the next send are finished
   pub unsent : may_send plan n ≡ true → IsReadySince g (step_alarm plan n (plan.sent_steps - 1)) time ready
 
 -- ---- what a node has sent
@@ -125,7 +125,7 @@ pub record KeepsLink (run : Run) (w : World) (number target port : ℕ) : Type 0
       → w.time ≤ message_deadline run w number round
 
 pub record KeepsTime (run : Run) (w : World) : Type 0 where
-  -- no stop stands, and the bus agrees with the composition
+  -- the run has no stop, and the bus agrees with the composition
   pub going : w.bus.stop ≡ None
   pub agrees : Agrees run w.bus
   pub moments : HasMoments run w

@@ -30,7 +30,7 @@ EventKeepsTime =
     (run : Run) (w : World) (e : Event) → IsRunOf run → KeepsTime run w → fault_of run w e ≡ None
     → KeepsTime run (world_after run w e)
 
--- an arrival without a fault is kept
+-- an arrival without a fault is stored
 abbrev pub ArrivalsAreKept : Type 0
 ArrivalsAreKept =
     (run : Run) (w : World) (link : LinkNo) (round : ℕ) → IsRunOf run → KeepsTime run w

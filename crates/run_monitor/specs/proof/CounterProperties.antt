@@ -10,7 +10,7 @@ use Rattle.run_monitor.specs.FormulaSemantics.{holds, frame_rows}
 use Rattle.run_monitor.specs.FalseProperties.{is_some_false}
 use Rattle.run_monitor.specs.WatchText.{formulas_of, watch_text}
 
--- what a formula says at each of the rounds
+-- the values of a formula at each of the rounds
 abbrev pub watched : Formula → List Bool
 watched f = map (holds f (frame_rows two_counters no_env 3)) (upwards 0 3)
 

@@ -1,4 +1,4 @@
--- The claim that the last line names the least round at which a property is false and the first that is false there,
+-- The claim that the last line names the first round at which a property is false and the first property false there,
 -- or that all hold.
 use Rattle.std.specs.Prelude.{◌≡◌, ℕ, ◌<◌, true, false, List, Some, None, slice_get}
 use Rattle.pals_model.specs.declared.design.DesignParts.{DesignParts}
@@ -13,7 +13,7 @@ abbrev pub AllHold : DesignParts → Env → ℕ → List Formula → ℕ → Ty
 AllHold design env rounds fs round =
     (k : ℕ) (f : Formula) → slice_get fs k ≡ Some f → holds f (frame_rows design env rounds) round ≡ true
 
--- this is the least round at which one is false, and the first that is false there
+-- this is the first round at which a property is false, and the first property false there
 pub record IsFirst (design : DesignParts) (env : Env) (rounds : ℕ) (fs : List Formula) (v : FalseProperty)
     (f : Formula) : Type 0 where
   pub within : v.round < rounds
@@ -29,7 +29,7 @@ ViolatedIsFirst =
     → (v : FalseProperty) × (f : Formula) × IsFirst design env rounds fs v f
     × (first_false fs (frame_rows design env rounds) rounds ≡ Some v)
 
--- where there is none, all hold throughout
+-- if there is no such round, all hold throughout
 abbrev pub OthersHold : Type 0
 OthersHold =
     (design : DesignParts) (env : Env) (rounds : ℕ) (fs : List Formula) → is_some_false design env rounds fs ≡ false

@@ -1,4 +1,4 @@
--- Forms in an order in which parts stand before wholes.
+-- Lists of subformulas in which parts precede wholes.
 use Rattle.std.specs.Prelude.{◌≡◌, ℕ, ◌+◌, ◌<◌, ◌≤◌, true, List, [], ◌∷◌, ◌++◌, length, Some, slice_get, slice_index_or}
 use Rattle.pals_runs.specs.Formula.{Formula, Var, Halted, Not, And, Or, Previous, Once, Historically, Since}
 use Rattle.pals_runs.specs.proof.ComponentsInFormulas.{reads, names}
@@ -29,7 +29,7 @@ formulas_behind fs (e ∷ es) = formulas_behind (fs ++ built fs e ∷ []) es
 unfoldable pub forms_of : List FlatForm → List Formula
 forms_of es = formulas_behind [] es
 
--- the parts of a form stand before the place n
+-- the parts of a subformula are before the index n
 abbrev pub HasParts : ℕ → FlatForm → Type 0
 HasParts n (flat.Var node variable op number) = Unit {0}
 HasParts n (flat.Halted node) = Unit {0}
@@ -41,11 +41,11 @@ HasParts n (flat.Once f) = f < n
 HasParts n (flat.Historically f) = f < n
 HasParts n (flat.Since f g) = (f < n) × (g < n)
 
--- each form stands behind its parts
+-- each subformula follows its parts
 pub record IsFlat (es : List FlatForm) : Type 0 where
   pub parts : (k : ℕ) (e : FlatForm) → slice_get es k ≡ Some e → HasParts k e
 
--- the forms of a formula stand behind those that were there, and the formula stands last
+-- the subformulas of a formula are appended to the existing ones, and the formula is the last of them
 pub record Adds (old new : List FlatForm) (at : ℕ) (f : Formula) : Type 0 where
   pub added : (more : List FlatForm) × (new ≡ old ++ more)
   pub order : IsFlat new

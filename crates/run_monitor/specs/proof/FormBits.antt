@@ -1,4 +1,4 @@
--- The bit of each form: what it says of the frames of a round, and of a further round from the bits that were kept.
+-- The bit of each subformula: its value on the frames of a round, and in the next round from the stored bits.
 use Rattle.std.specs.Prelude.{◌≡◌, ℕ, nat_eq, Bool, false, not, ◌&&◌, ◌||◌, is_some, if◌then◌else◌, List, map, Some}
 use Rattle.std.specs.Prelude.{slice_get, slice_index_or}
 use Rattle.pals_base.specs.declared.frames.Frame.{Frame}
@@ -11,7 +11,7 @@ abbrev pub bit_at : List Bool → ℕ → Bool
 bit_at bits k = slice_index_or bits k false
 
 -- ---- one frame
--- what a form says of a frame of a component, where it reads that component; else the bit from before
+-- the value of a subformula on a frame of a component, if it reads that component; else the bit from before
 abbrev pub seen_bit : FlatForm → ℕ → Frame → Bool → Bool
 seen_bit (flat.Var of variable op number) node frame before =
     if nat_eq of.0 node then compares op (variable_in frame variable) number else before
@@ -22,14 +22,14 @@ seen_bit e node frame before = before
 abbrev pub row_of : List Part → List Frame
 row_of parts = map (λ (p : Part). p.frame) parts
 
--- what a form says of them, where it reads a component; else the bit from before
+-- its value on the frames, if it reads a component; else the bit from before
 abbrev pub row_bit : FlatForm → List Frame → Bool → Bool
 row_bit (flat.Var of variable op number) row before = compares op (variable_in (frame_in row of.0) variable) number
 row_bit (flat.Halted of) row before = is_some (frame_in row of.0).halt
 row_bit e row before = before
 
--- ---- a further round
--- the bit of a form in a further round: over the bits that were kept, and those that its parts have now
+-- ---- the next round
+-- the bit of a subformula in the next round: from the stored bits, and the new bits of its parts
 abbrev pub next_bit : FlatForm → ℕ → Bool → List Bool → List Bool → Bool → Bool
 next_bit (flat.Var node variable op number) k begun kept now own = own
 next_bit (flat.Halted node) k begun kept now own = own

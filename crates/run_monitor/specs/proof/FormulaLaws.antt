@@ -1,4 +1,4 @@
--- Laws of formulas of monitors: what each form reads, and that what was said of the past stays.
+-- Laws of formulas of monitors: the meaning of each operator, and that values of past rounds stay.
 use Rattle.std.specs.Prelude.{◌≡◌, ◌↔◌, IsTrue, ℕ, suc, ◌<◌, ◌≤◌, List, [], ◌∷◌, ◌++◌, length}
 use Rattle.pals_base.specs.declared.frames.Frame.{Frame}
 use Rattle.pals_runs.specs.Formula.{Formula, Previous, Once, Historically, Since}
@@ -25,11 +25,11 @@ SinceReads = (f g : Formula) (h : List (List Frame)) (n : ℕ) →
     Holds (Since f g) h n ↔ ((m : ℕ) × (m ≤ n) × Holds g h m × ((i : ℕ) → m < i → i ≤ n → Holds f h i))
 
 -- ---- one round more
--- what a formula says at a round stays, whatever comes after it
+-- the value of a formula at a round stays, whatever follows
 abbrev pub PastStays : Type 0
 PastStays = (f : Formula) (h more : List (List Frame)) (n : ℕ) → n < length h → holds f (h ++ more) n ≡ holds f h n
 
--- the bits after a history are enough to say what each formula says at one more round
+-- the bits after a history are enough to compute each subformula's value in the next round
 abbrev pub OneBitEach : Type 0
 OneBitEach = (f : Formula) (h : List (List Frame)) (row : List Frame) →
     next_value (bits_after h) row f ≡ holds f (h ++ row ∷ []) (length h)

@@ -17,7 +17,7 @@ abbrev pub HistoryGoesOn : Type 0
 HistoryGoesOn = (design : DesignParts) (env : Env) (rounds : ℕ) →
     frame_rows design env (suc rounds) ≡ frame_rows design env rounds ++ (comp design env (suc rounds)).frames ∷ []
 
--- what is said of a round is what was said when it was the last one
+-- the value of a formula at a round equals its value when that round was the last one
 abbrev pub SaidAtOnce : Type 0
 SaidAtOnce = (f : Formula) (design : DesignParts) (env : Env) (round rounds : ℕ) → round < rounds →
     holds f (frame_rows design env rounds) round ≡ holds f (frame_rows design env (suc round)) round

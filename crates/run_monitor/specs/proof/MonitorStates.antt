@@ -13,13 +13,13 @@ use Rattle.run_monitor.specs.proof.FlatForms.{formula_at, forms_of, IsFlat}
 use Rattle.run_monitor.specs.proof.FormBits.{bit_at}
 
 pub record MonitorState : Type 0 where
-  -- the forms of its formula, each behind its parts, and the whole last
+  -- the subformulas of its formula, each after its parts, and the whole last
   pub forms : List Formula
   -- whether it has advanced
   pub begun : Bool
-  -- what each form said at the last round
+  -- the value of each subformula at the last round
   pub kept : List Bool
-  -- what the forms without parts say of the frames that it saw
+  -- the values of the subformulas without parts on the frames that it saw
   pub seen : List Bool
 
 abbrev pub state_code : Coded MonitorState
@@ -34,23 +34,23 @@ state_code =
 abbrev pub whole : MonitorState → Formula
 whole m = formula_at m.forms (length m.forms - 1)
 
--- what its formula said at the last round
+-- the value of its formula at the last round
 abbrev pub said : MonitorState → Bool
 said m = bit_at m.kept (length m.forms - 1)
 
--- ---- what it stands for
+-- ---- the history that it represents
 abbrev pub HasKept : Bool → List Formula → List Bool → List (List Frame) → Type 0
 HasKept false fs kept h = h ≡ []
 HasKept true fs kept [] = ⊥
 HasKept true fs kept (row ∷ h) = kept ≡ map (λ f. holds f (row ∷ h) (length h)) fs
 
--- where it has advanced, each form has kept what it said at the last round of the history; else there was none
+-- after the first round, each bit is the subformula's value at the last round of the history; before it there is none
 pub record StandsFor (m : MonitorState) (h : List (List Frame)) : Type 0 where
   pub kept : HasKept m.begun m.forms m.kept h
 
--- ---- what it has seen
--- the frame of a component that it saw last is that of this row: each form that reads the component has what it says
--- of it
+-- ---- the frames that it has seen
+-- the last frame that it saw of a component is the frame in this row: each subformula that reads the component has its
+-- value on that frame
 pub record HasSeen (m : MonitorState) (row : List Frame) (node : ℕ) : Type 0 where
   pub each : (k : ℕ) (f : Formula) → slice_get m.forms k ≡ Some f → reads f node ≡ true
       → bit_at m.seen k ≡ next_value None row f
@@ -65,7 +65,7 @@ pub record Sees (old new : MonitorState) (node : ℕ) (frame : Frame) : Type 0 w
   pub stands : (h : List (List Frame)) → StandsFor old h → StandsFor new h
   -- it has seen this frame
   pub here : (row : List Frame) → frame_in row node ≡ frame → HasSeen new row node
-  -- and what it saw of the others
+  -- and the frames that it saw of the others
   pub others : (row : List Frame) (other : ℕ) → other ≢ node → HasSeen old row other → HasSeen new row other
 
 -- it has seen the frames of all components
@@ -74,7 +74,7 @@ pub record SeesAll (old new : MonitorState) (row : List Frame) : Type 0 where
   pub stands : (h : List (List Frame)) → StandsFor old h → StandsFor new h
   pub each : (node : ℕ) → HasSeen new row node
 
--- it stands for the history with that row behind, and answers what its formula says there
+-- it represents the history with that row appended, and returns its formula's value there
 pub record AdvancesBy (old new : MonitorState) (answer : Bool) (h : List (List Frame)) (row : List Frame) : Type 0 where
   pub stands : StandsFor new (h ++ row ∷ [])
   pub answer_is : answer ≡ holds (whole old) (h ++ row ∷ []) (length h)
@@ -93,12 +93,12 @@ pub record GoesOn (old new : MonitorState) (row : List Frame) : Type 0 where
   pub stands : (h : List (List Frame)) → StandsFor old h → StandsFor new (h ++ row ∷ [])
   pub says : (h : List (List Frame)) → StandsFor old h → said new ≡ holds (whole old) (h ++ row ∷ []) (length h)
 
--- ---- what each monitor keeps
+-- ---- the invariant of each monitor
 pub record IsReady (es : List FlatForm) (kept seen : List Bool) : Type 0 where
   pub some : 0 < length es
   pub order : IsFlat es
   pub kept_size : length kept ≡ length es
   pub seen_size : length seen ≡ length es
-  -- what its forms read the whole names
+  -- each component that its subformulas read belongs to the formula
   pub named : (k node : ℕ) → k < length es → reads (formula_at (forms_of es) k) node ≡ true
       → names (formula_at (forms_of es) (length es - 1)) node ≡ true

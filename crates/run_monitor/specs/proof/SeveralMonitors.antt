@@ -14,7 +14,7 @@ use Rattle.run_monitor.specs.proof.MonitorStates.{MonitorState, state_code, whol
 
 pub record MonitorsState : Type 0 where
   pub monitors : List MonitorState
-  -- the least round at which a formula was false, and the first that was false there
+  -- the first round at which a formula was false, and the first formula false there
   pub violation : Option FalseProperty
 
 abbrev pub monitors_code : Coded MonitorsState
@@ -22,7 +22,7 @@ monitors_code =
     code_by (List MonitorState × Option FalseProperty) (coded× (coded_list state_code) (coded_option violations.coded))
     (λ m. (m.monitors, m.violation)) (λ p. record { monitors = p.0; violation = p.1 }) (λ _. refl)
 
--- what each formula said at the last round
+-- the value of each formula at the last round
 abbrev pub said_by : MonitorsState → List Bool
 said_by m = map said m.monitors
 

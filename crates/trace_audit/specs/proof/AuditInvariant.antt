@@ -11,7 +11,7 @@ use Rattle.trace_audit.specs.proof.EntryClocks.{timed_of}
 abbrev pub audit_in : Replay → Audit
 audit_in r = record { bus = r.bus.state; readings = r.readings.items; owed = r.owed }
 
--- the nodes do not meet, each has a last reading, and the stop that is owed is of the design
+-- the nodes have clocks of their own, each has a last reading, and the stop that must follow belongs to the design
 pub record IsReplay (r : Replay) : Type 0 where
   pub loose : r.bus.meeting ≡ false
   pub count : length r.readings.items ≡ length r.bus.run.design.components

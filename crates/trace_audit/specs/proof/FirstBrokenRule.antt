@@ -1,4 +1,4 @@
--- The first rule that an entry breaks, from what each rule says of it.
+-- The first rule that an entry violates, from the result of each rule.
 use Rattle.std.specs.Prelude.{Bool, not, if◌then◌else◌, Option, Some, None, is_some}
 use Rattle.pals_runs.specs.declared.verdicts.TraceRule.{TraceRule}
 use Rattle.pals_runs.specs.declared.verdicts.TraceRule.TheVariants as rule

@@ -1,4 +1,4 @@
--- The form of each journal line, by what the code keeps of it.
+-- The form of each journal line, by its parts in the code.
 use Rattle.std.specs.Prelude.{ℕ, List, Option, option_map}
 use Rattle.trace_audit.specs.declared.journal_lines.NodeLine.{NodeLine}
 use Rattle.trace_audit.specs.declared.journal_lines.LinkLine.{LinkLine}

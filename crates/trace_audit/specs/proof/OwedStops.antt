@@ -1,4 +1,4 @@
--- The stop that the line behind an entry has to tell, if it has to.
+-- The stop that the line after an entry must state, if there is one.
 use Rattle.std.specs.Prelude.{Option, None, option_map}
 use Rattle.pals_runs.specs.declared.journal.Stop.{Stop}
 use Rattle.pals_runs.specs.declared.journal.JournalEntry.{JournalEntry}

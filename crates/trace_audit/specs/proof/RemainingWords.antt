@@ -7,7 +7,7 @@ abbrev pub words_in : Option (Bor (List ℕ)) → List (List ℕ)
 words_in None = []
 words_in (Some rest) = words_of rest.now
 
--- the words that stood before one was read
+-- the words before one was read
 abbrev pub put_back : Option (Bor (List ℕ)) → List (List ℕ) → List (List ℕ)
 put_back None rest = []
 put_back (Some word) rest = word.now ∷ rest

@@ -1,4 +1,4 @@
--- The events that entries tell, replayed on a bus on which no stop stands.
+-- The events of entries, replayed on a bus without a stop.
 use Rattle.std.specs.Prelude.{◌≡◌, ℕ, true, false, if◌then◌else◌, List, length, Some, None}
 use Rattle.pals_base.specs.declared.basic_types.NodeNo.{NodeNo}
 use Rattle.pals_runs.specs.declared.journal.JournalEntry.{JournalEntry}
@@ -9,13 +9,13 @@ use Rattle.pals_bus.specs.BusValues.{BusValue, Happens}
 use Rattle.trace_audit.specs.proof.EntryClocks.{read_at}
 use Rattle.pals_runs.specs.declared.verdicts.TraceRule.TheVariants as rule
 
--- the nodes of a bus do not meet, no stop stands, and each node has a last reading
+-- the nodes of a bus have clocks of their own, the run has no stop, and each node has a last reading
 pub record IsReady (b : BusValue) (readings : List ℕ) : Type 0 where
   pub loose : b.meeting ≡ false
   pub going : b.state.stop ≡ None
   pub count : length readings ≡ length b.run.design.components
 
--- an entry tells the start of a node's next round, or that the node missed a message there
+-- an entry is the start of a node's next round, or a message that the node missed there
 pub record SaysStart (b : BusValue) (readings : List ℕ) (e : JournalEntry) (node : NodeNo) (reading : ℕ) : Type 0 where
   pub event : event_of b.run.design e ≡ Some (Start node (Some reading))
   pub fits : fits b.run b.state e ≡ true

@@ -16,7 +16,7 @@ pub record AreRows (design : DesignParts) (env : Env) (r : AuditedRows) (rounds 
   pub values : length r.values.items ≡ length env.lists
   pub places : r.places ≡ tap_places design.taps
 
--- in how many rows the lines before an index stand
+-- the number of rows that contain the lines before an index
 abbrev pub rows_begun : DesignParts → ℕ → ℕ
 rows_begun design index = (index + length design.components + length design.taps) / row_size design
 

@@ -5,7 +5,7 @@ use Rattle.sync_product.specs.proof.ProductSizes.{part_size, stage_size}
 use Rattle.plant_fuse.specs.proof.RoundWork.{AreAlone, IsRun}
 use Rattle.plant_fuse.proofs.round.run_all.Given as goal
 
--- the components that stand in no pair and the first pairs have made their steps, and the sizes stay
+-- the components in no pair and the first pairs have completed their steps, and the sizes stay
 abbrev pub invariant-loop-pair : goal.invariant-loop-pair
 invariant-loop-pair l = record {
   alone : AreAlone l.round l.tables.pairs (frames_of l.parts) l.next l.stages.items;

@@ -5,7 +5,7 @@ use Rattle.sync_product.specs.proof.ProductSizes.{part_size, stage_size}
 use Rattle.plant_fuse.specs.proof.PartnersAndPairLinks.{partner_of}
 use Rattle.plant_fuse.proofs.round.run_alone.Given as goal
 
--- the first components that stand in no pair have made their steps, and the sizes stay
+-- the first components in no pair have completed their steps, and the sizes stay
 abbrev pub invariant-loop-node : goal.invariant-loop-node
 invariant-loop-node l = record {
   run : (k : ℕ) (c : Component) → k < l.node → partner_of l.tables.pairs k ≡ None

@@ -38,7 +38,7 @@ make_pair_steps-run-requires-clause-plant c =
     c.take_part-part.result c.paired.ensures c.requires.parts c.requires.next c.requires.stages c.take_stage-stage.ensures.was
     c.take_part-part.ensures.was
 
--- the controller's stage and part are those that stand in the lists
+-- the controller's stage and part are the ones in the lists
 module _ {X : Type 0} (old new : List X) (pair : Pair) (x y : X) (taken : TakenFrom old new pair.plant.0 x)
     (two : pair.plant.0 ≢ pair.controller.0) (within : pair.controller.0 < length old)
     (is : y ≡ slice_index_or new pair.controller.0 y) where

@@ -3,7 +3,7 @@ use Rattle.trace_audit.specs.proof.ReportRows.{IsAtLine}
 use Rattle.trace_audit.proofs.ReportEnds.{reported}
 use Rattle.trace_audit.proofs.report.read_lines.Given as goal
 
--- the report ends as its lines from the index on say
+-- the report ends as its lines from the index on determine
 abbrev pub invariant-loop-index : goal.invariant-loop-index
 invariant-loop-index l = record {
   rows : IsAtLine l.design l.fn.rows.env.now l.rows l.index;
