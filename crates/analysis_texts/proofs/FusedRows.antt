@@ -16,7 +16,7 @@ use Rattle.plant_fuse.proofs.StateSolutions.{StandsAt, begins, stands_next, leav
 use Rattle.plant_fuse.proofs.PartnersAndPairLinks.{pair_at, others_apart}
 use Rattle.plant_fuse.proofs.Reports.{reported_more}
 
--- the product stands at the round, and the text has the rows before it
+-- the product is at the round, and the text has the rows before it
 pub record HasRows (design : DesignParts) (pairs : List Pair) (env : Env) (round : ℕ) (product : FuseState)
     (text : List ℕ) : Type 0 where
   pub ins : Inputs
@@ -69,7 +69,7 @@ rows_are design pairs env round rounds product text has all =
     subst (λ n. IsFusedReport design pairs env n text) all
     (record { ins = has.ins; solves = has.solves; says = has.says })
 
--- where all pairs can be fused, none is the first that can not
+-- if all pairs can be fused, there is no first bad pair
 pub none_bad : (design : DesignParts) (pairs : List Pair) (index : ℕ) → ArePairs design pairs
     → IsFirstBad design pairs index → ⊥
 none_bad design pairs index are first =

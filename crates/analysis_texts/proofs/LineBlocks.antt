@@ -22,7 +22,7 @@ counted_turn f at old out new before added =
     ∙ ap (λ t. old ++ (so_far ++ t)) (sym (append-nil (f at ++ line_end)))
     ∙ ap (λ t. old ++ t) (sym (ap text_of (map_upwards_more f at) ∙ text_of-append (map f (upwards 0 at)) (f at ∷ [])))
 
--- ---- a line behind others
+-- ---- a line after others
 pub line_behind : (old line new : List ℕ) → new ≡ old ++ line ++ line_end → new ≡ old ++ text_of (line ∷ [])
 line_behind old line new added =
     added ∙ append_assoc old line line_end ∙ ap (λ t. old ++ t) (sym (append-nil (line ++ line_end)))

@@ -1,5 +1,4 @@
--- Where votes hide all faults, the rows that are voted on are those of the composition; and so they are without
--- replicas.
+-- If votes hide all faults, the voted rows are the rows of the composition; and so they are without replicas.
 use Rattle.std.proofs.Common.{◌≡◌, ◌∙◌, ℕ, false, List, [], ◌∷◌, length, All, refl, sym, subst, arith}
 use Rattle.std.specs.Prelude.{Contains}
 use Rattle.std.proofs.lemmas.Bool.{false≢true}

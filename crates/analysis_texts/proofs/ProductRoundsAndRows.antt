@@ -20,8 +20,8 @@ use Rattle.pals_report.specs.proof.RowLines.{ArePartsOf}
 use Rattle.run_monitor.specs.proof.FormBits.{row_of}
 use Rattle.sync_product.specs.proof.ProductStates.{ProductState, advanced, parts_of}
 
--- ---- what a round leaves
--- a product that stood at a round has the round's parts after it
+-- ---- the results of a round
+-- a product at a round has the round's parts after it
 pub parts_after : (design : DesignParts) (env : Env) (round : ℕ) (values : List PortValue) (old : ProductState)
     (parts : List Part) → old.design ≡ design
     → values ≡ values_at env round
@@ -36,7 +36,7 @@ parts_after design env round values old parts same here at is node below =
     ∙ ap (λ v. parts_of design (all_steps design v (comp design env round))) here)
     ∙ slice_get-map_upwards (part_of design all) (length design.components) node below
 
--- a product that stood at a round stands at the next
+-- a product at a round is at the next round after it
 pub further : (design : DesignParts) (env : Env) (round : ℕ) (values : List PortValue) (old : ProductState)
     → old.design ≡ design → values ≡ values_at env round
     → old.configuration ≡ comp design env round → (advanced old values).configuration ≡ comp design env (round + 1)
@@ -46,7 +46,7 @@ further design env round values old same here at =
     ∙ ap (λ v. next design v (comp design env round)) here
     ∙ ap (comp design env) (sym (add-one round))
 
--- and its parts have the frames that stand there
+-- and its parts have the frames of that round
 frames_of_all : (xs : List Frame) (from n : ℕ) (all : List Frame) → length xs ≡ n
     → ((k : ℕ) (d : Frame) → k < n → get_or all (from + k) d ≡ get_or xs k d)
     → map (λ node. get_or all node no_frame) (upwards from n) ≡ xs
@@ -76,7 +76,7 @@ row_after env round values old parts here at is =
     ∙ ap (λ n. (comp design env n).frames) (sym (add-one round))
 
 -- ---- the report
--- one more row behind those of the rounds before it
+-- one more row after the rows of the rounds before it
 pub rows_more : (lines : ℕ → List (List ℕ)) (round : ℕ) (text : List ℕ)
     → text ≡ text_of (flat_map lines (upwards 0 round))
     → text ++ text_of (lines round) ≡ text_of (flat_map lines (upwards 0 (round + 1)))

@@ -51,7 +51,7 @@ pub record HasVoted (design : DesignParts) (env : Env) (replicated : List Bool) 
   pub stands : voted ≡ voted_composition design env replicated faults round
   pub rows : text ≡ voted_report design env replicated faults round
 
--- a product that has made one more round, with the round's values and faults
+-- a product that has computed one more round, with the round's values and faults
 pub record MakesRound (design : DesignParts) (env : Env) (replicated : List Bool) (faults : ℕ → List VoteFault)
     (round : ℕ) (old new : VotedState) : Type 0 where
   pub design_is : old.design ≡ design
@@ -59,7 +59,7 @@ pub record MakesRound (design : DesignParts) (env : Env) (replicated : List Bool
   pub voted_is : old.voted ≡ voted_composition design env replicated faults round
   pub made : new ≡ voted_advanced old (values_at env round) (faults round)
 
--- it is the one that was made from what stood there
+-- it is the round computed from the state before
 made_from : (design : DesignParts) (env : Env) (replicated : List Bool) (faults : ℕ → List VoteFault) (round : ℕ)
     (old new : VotedState)
     → MakesRound design env replicated faults round old new
@@ -83,7 +83,7 @@ unfolding voted_composition
 stands_next design env replicated faults round old new h =
     ap (λ (s : VotedState). s.voted) (made_from design env replicated faults round old new h)
 
--- what its root out ports show
+-- the values of its root out ports
 pub shows_next : (design : DesignParts) (env : Env) (replicated : List Bool) (faults : ℕ → List VoteFault) (round : ℕ)
     (old new : VotedState)
     → MakesRound design env replicated faults round old new
@@ -94,7 +94,7 @@ shows_next design env replicated faults round old new h =
     ap (λ (s : VotedState). s.shown) made
     ∙ ap (λ (s : VotedState). map (λ tap. voted_tap design env replicated faults tap round) s.design.taps) (sym made)
 
--- and the row of the round behind the text
+-- and the row of the round after the text
 pub voted_more : (design : DesignParts) (env : Env) (replicated : List Bool) (faults : ℕ → List VoteFault) (round : ℕ)
     (old new : VotedState) (text longer : List ℕ)
     → MakesRound design env replicated faults round old new → text ≡ voted_report design env replicated faults round

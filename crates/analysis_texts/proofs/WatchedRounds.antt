@@ -46,7 +46,7 @@ name_at properties i p within is =
     ∙ sym (ap (λ names. slice_index_or names i [])
     (map-map (λ q. q.0) (λ (q : PropertyValue). (q.name, q.form)) properties))
 
--- what a property says at a round
+-- the value of a property at a round
 pub verdict_at : (properties : List PropertyValue) (h : List (List Frame)) (round i : ℕ) (p : PropertyValue) (d : Bool)
     → i < length properties
     → p ≡ slice_index_or properties i p
@@ -59,7 +59,7 @@ verdict_at properties h round i p d within is =
 abbrev pub verdict_of : List (List Frame) → ℕ → PropertyValue → List ℕ
 verdict_of h round p = verdict_line p.name (holds p.form h round)
 
--- a round, and what each property says there
+-- a round, and the value of each property there
 pub round_and_verdicts : (properties : List PropertyValue) (h : List (List Frame)) (round : ℕ) (old middle new : List ℕ)
     → middle ≡ old ++ round_line round ++ line_end → new ≡ middle ++ text_of (map (verdict_of h round) properties)
     → new ≡ old ++ text_of (watched_lines (named properties) h round)
@@ -101,7 +101,7 @@ pub found_is : (design : DesignParts) (env : Env) (rounds : ℕ) (fs : List Form
 found_is design env rounds fs m watched =
     watched.first ∙ ap (first_false fs (frame_rows design env rounds)) (history_has_rounds design env rounds)
 
--- it tells whether some formula is violated
+-- it states whether some formula is violated
 pub found_tells : (design : DesignParts) (env : Env) (rounds : ℕ) (fs : List Formula) (m : MonitorsState)
     → HasWatched m fs (frame_rows design env rounds)
     → is_some m.violation ≡ is_some_false design env rounds fs

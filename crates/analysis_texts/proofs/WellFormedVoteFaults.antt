@@ -24,7 +24,7 @@ one_keeps : (design : DesignParts) (replicas : List NodeNo) (f : RoundFault) →
 one_keeps design replicas f keeps =
     record { source = same_source (slice_get design.links f.fault.link.0) ∙ keeps.source; values = keeps.count }
 
--- those of a round
+-- the faults of a round
 kept_by : (design : DesignParts) (f : RoundFault) (rest : List RoundFault) (here : Bool) → IsFault design f.fault
     → All (IsFault design) (map (λ (g : RoundFault). g.fault) rest)
     → All (IsFault design) (map (λ (g : RoundFault). g.fault) (cond here (f ∷ rest) rest))
@@ -41,7 +41,7 @@ faults_keep design replicas (f ∷ faults) round keep =
     (one_keeps design replicas f (All-head (IsFaultOf design replicas) f faults keep))
     (faults_keep design replicas faults round (All-tail (IsFaultOf design replicas) f faults keep))
 
--- those of each round
+-- the faults of each round
 pub rounds_keep : (design : DesignParts) (replicas : List NodeNo) (faults : List RoundFault) (rounds : ℕ)
     (table : List (List VoteFault))
     → All (IsFaultOf design replicas) faults → table ≡ map (faults_of faults) (upwards 0 rounds)

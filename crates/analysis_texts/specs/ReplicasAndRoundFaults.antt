@@ -7,7 +7,7 @@ use Rattle.pals_runs.specs.declared.replica_faults.VoteFault.{VoteFault}
 use Rattle.analysis_fields.specs.declared.replica_faults.RoundFault.{RoundFault}
 use Rattle.analysis_fields.specs.ReplicasAndTheirFaults.{is_among}
 
--- for each component of a design whether it is among those that have replicas
+-- for each component of a design whether it has replicas
 abbrev pub replicated_in : DesignParts → List NodeNo → List Bool
 replicated_in design replicas = map (is_among replicas) (upwards 0 (length design.components))
 

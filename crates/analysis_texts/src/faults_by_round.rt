@@ -35,7 +35,7 @@ fn no_faults(alloc: Global, rounds: u32) -> Result<Vec<ItemList<VoteFault>>, NoM
     Ok(table)
 }
 
-// Puts a fault behind those of its round, if there is such a round.
+// Puts a fault after the faults of its round, if there is such a round.
 fn add_round_fault(table: &mut Vec<ItemList<VoteFault>>, fault: RoundFault) -> Result<(), NoMemory>
     ensures { OnOk result (table.new.items ≡ with_round_fault table.old.items fault) }
 {

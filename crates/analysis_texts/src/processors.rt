@@ -1,4 +1,4 @@
-//! The text of round budgets, as `budget` writes it: a line for each processor, and its timetable where it fits.
+//! The text of round budgets, as `budget` prints it: a line for each processor, and its timetable if it fits.
 ghost use Rattle.std.specs.Prelude.{◌≡◌, ◌++◌, All, length, map, IfOk, OnOk};
 ghost use Rattle.pals_model.specs.RoundTexts.{text_of, line_end};
 ghost use Rattle.analysis_fields.specs.proof.ReplicaFaultsAndProcessors.{IsProcessorOf};
@@ -45,7 +45,7 @@ pub fn budget(
     Ok(Budgeted { text, over })
 }
 
-// Adds the lines of a processor, and tells whether its steps fit.
+// Appends the lines of a processor, and returns whether its steps fit.
 fn add_processor(
     alloc: Global,
     text: &mut Vec<u8>,

@@ -1,4 +1,4 @@
-//! The text of watched properties, as `watch` writes it: what each says in each round, and the first that is false.
+//! The text of watched properties, as `watch` prints it: the value of each in each round, and the first that is false.
 ghost use Rattle.std.specs.Prelude.{◌≡◌, ◌++◌, [], ◌+◌, ◌<◌, List, length, IfOk, IfSome, OnOk};
 ghost use Rattle.pals_base.specs.declared.frames.Frame.{Frame};
 ghost use Rattle.pals_model.specs.declared.environment.Env.{Env};
@@ -106,7 +106,7 @@ fn go_on(
     Ok(())
 }
 
-// Adds the line of a round, and what each property said there.
+// Appends the line of a round, and the value of each property there.
 fn add_verdicts(
     text: &mut Vec<u8>,
     round: u32,
@@ -123,7 +123,7 @@ fn add_verdicts(
     Ok(())
 }
 
-// Adds what a property said.
+// Appends the value of a property.
 fn add_verdict(text: &mut Vec<u8>, property: &Property, said: bool) -> Result<(), NoMemory>
     ensures { OnOk result (text.new.items ≡ text.old.items ++ verdict_line property.now.name said ++ line_end) }
 {

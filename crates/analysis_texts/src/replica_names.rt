@@ -60,7 +60,7 @@ fn all_names(
     Ok(names)
 }
 
-// The names of the replicas of a component of this path: the path itself where there is one.
+// The names of the replicas of a component of this path: the path itself if there is one replica.
 fn names_of(alloc: Global, path: &Text, replicated: bool) -> Result<ItemList<Text>, NoMemory>
     ensures { IfOk result (λ names. names ≡ names_of path.now replicated) }
 {

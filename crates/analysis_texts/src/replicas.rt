@@ -27,9 +27,9 @@ use std::sync::Arc;
 use triple_vote::VoteProduct;
 
 /// The report of the composition of a design in which some components have three replicas each, whose
-/// messages are voted on: the rows of the first rounds, with these faults of replicas. Where no two replicas
+/// messages are voted on: the rows of the first rounds, with these faults of replicas. If no two replicas
 /// are at fault towards one reader in one round, they are the composition's, with each line of a replicated
-/// component three times; without replicas they are the composition's. The time of a round is in line with
+/// component three times; without replicas they are the composition's. The time of a round is linear in
 /// its lines, the messages of replicas and its faults.
 pub fn vote(
     alloc: Global,

@@ -81,7 +81,7 @@ repeat_keeps run s number round agree flies =
     (All-append (IsCopy run number sent) flight (old.0 ∷ []) copies (one_copy run number sent old.0 copy)))
 
 -- ---- Arrive
--- what a message that is kept is: that of the last round that its target has started
+-- a stored message is the message of the last round that its target has started
 kept_when : (late fits : Bool) → (if late then Early else if fits then Kept else Ignored) ≡ Kept → fits ≡ true
 kept_when true fits is = absurd (cc)
 kept_when false true is = refl

@@ -1,4 +1,4 @@
--- At the node alone, each event of a node keeps what that node has to agree with.
+-- Each event of a node preserves the agreement of that node with the composition.
 use Rattle.std.proofs.Common.{◌≡◌, inl, inr, ℕ, zero, suc, ◌+◌, ◌-◌, ◌<◌, ◌≤◌, nat_eq, Bool, true, false, List, [], ◌∷◌}
 use Rattle.std.proofs.Common.{◌++◌, length, map, replicate, slice_get, Some, None, refl, sym, ap, ap₂, ◌∙◌, subst}
 use Rattle.std.proofs.Common.{arith, add-one, length-append}

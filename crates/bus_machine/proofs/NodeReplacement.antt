@@ -1,4 +1,4 @@
--- What a number that is read off each node becomes where one node changes.
+-- How a number that is computed from each node changes when one node changes.
 use Rattle.std.proofs.Common.{◌≡◌, ◌≢◌, inl, inr, ℕ, ◌+◌, ◌-◌, ◌<◌, nat_eq, Bool, true, false, cond, length, refl, sym}
 use Rattle.std.proofs.Common.{ap, ◌∙◌, subst, arith}
 use Rattle.std.proofs.lemmas.Bool.{cases_eq, cases_lt, eqb-true, eqb-false}
@@ -43,7 +43,7 @@ stays_at f s node k n same = elim (cases_eq k node) [
   | inr other ↦ ap (f k) (node_stays s node k n other)
 ]
 
--- what the new state of a node keeps of the old one is kept at every node
+-- a property that the new state of a node shares with the old one is preserved at every node
 pub keeps_at : {X : Type 0} (f : NodeState → X) (s : BusState) (node k : ℕ) (m : NodeState) → f m ≡ f (node_at s node)
     → f (node_at (with_node s node m) k) ≡ f (node_at s k)
 keeps_at f s node k m same = elim (cases_eq k node) [

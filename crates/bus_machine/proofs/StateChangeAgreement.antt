@@ -1,4 +1,4 @@
--- The agreement with the composition still holds where one node, one flight or the stop is replaced.
+-- The agreement with the composition is preserved when one node, one flight or the stop is replaced.
 use Rattle.std.proofs.Common.{◌≡◌, ◌≢◌, inl, inr, ℕ, ◌<◌, ◌≤◌, List, [], length, slice_get, Option, Some, All, refl}
 use Rattle.std.proofs.Common.{sym, ap, ◌∙◌, subst, arith}
 use Rattle.std.specs.Prelude.{slice_index_or, slice_set}

@@ -17,7 +17,7 @@ abbrev AreSteps : Run → BusState → List BusEvent → Type 0
 AreSteps run s [] = Unit {0}
 AreSteps run s (e ∷ es) = (s.stop ≡ None) × (is_allowed run s e ≡ true) × AreSteps run (after run s e) es
 
--- a journal that replays goes on by allowed events
+-- a journal that replays is extended by allowed events
 extends : (run : Run) (journal : List JournalEntry) (s : BusState) (es : List BusEvent) → Replays run journal s
     → AreSteps run s es
     → Replays run (journal ++ journal_from run s es) (state_from run s es)

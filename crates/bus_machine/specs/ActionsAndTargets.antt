@@ -56,7 +56,7 @@ abbrev pub targets : Plan → ℕ → List ℕ
 targets plan rounds = map (target plan) (actions plan rounds)
 
 -- ---- of a node's state
--- what it does, or does next; none where it is done
+-- its current action, or its next one; `None` if it is done
 abbrev pub action_in : Plan → NodeState → Phase → Option NodeAction
 action_in plan n Waiting = Some (action.Start n.count)
 action_in plan n (Running step) =
@@ -68,7 +68,7 @@ action_in plan n Done = None
 abbrev pub action_of : Plan → NodeState → Option NodeAction
 action_of plan n = action_in plan n n.phase
 
--- what it does next, from when on; none where a step runs, or all is done
+-- its next action, and the time from which it may happen; `None` if a step runs, or all is done
 abbrev pub next_in : Plan → NodeState → Phase → Option NodeAction
 next_in plan n Waiting = Some (action.Start n.count)
 next_in plan n (Running step) = None

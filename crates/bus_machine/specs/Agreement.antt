@@ -17,7 +17,7 @@ use Rattle.bus_machine.specs.RunParameters.{Run}
 use Rattle.bus_machine.specs.MissedMessages.{rounds_sent_on}
 
 -- ---- nodes
--- between two rounds a node has finished and sent all that it started, and its frame is the state after them
+-- between two rounds a node has finished and sent every round that it started, and its frame is the state after them
 pub record IsAtRest (run : Run) (node : ℕ) (n : NodeState) : Type 0 where
   pub finished : length n.parts ≡ n.count
   pub frame : n.frame ≡ state run.design run.env node n.count
@@ -26,8 +26,8 @@ pub record IsAtRest (run : Run) (node : ℕ) (n : NodeState) : Type 0 where
 abbrev pub reached : NodeState → Stepped
 reached n = record { frame = n.frame; tuples = n.outs }
 
--- within a round, after some of its steps: the frame and the outputs are those of these steps of the composition, and
--- the inputs are that round's
+-- within a round, after some of its steps: the frame and the outputs are the results of these steps of the
+-- composition, and the inputs are that round's
 pub record IsUnderWay (run : Run) (node : ℕ) (c : Component) (n : NodeState) (steps : ℕ) : Type 0 where
   pub round : ℕ
   pub count : n.count ≡ suc round
@@ -53,7 +53,7 @@ PhaseAgrees run node c n (Between steps) = IsInRound run node c n steps × (0 < 
 PhaseAgrees run node c n Holding = IsHeld run node c n
 PhaseAgrees run node c n Done = IsAtRest run node n × (n.count ≡ run.rounds)
 
--- the parts are those of the finished rounds, in order
+-- the parts are the parts of the finished rounds, in order
 abbrev pub PartsAgree : Run → ℕ → NodeState → Type 0
 PartsAgree run node n = n.parts ≡ map (λ round. part run.design run.env node round) (upwards 0 (length n.parts))
 

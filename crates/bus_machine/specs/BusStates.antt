@@ -23,8 +23,8 @@ opening run = record {
   stop = None;
 }
 
--- ---- what stands where
--- a node that is not there has nothing to do
+-- ---- elements by number
+-- a node that does not exist has nothing to do
 abbrev pub no_node : NodeState
 no_node =
     record { count = 0; phase = Done; frame = no_frame; slots = []; vectors = []; outs = []; sent = true; parts = [] }

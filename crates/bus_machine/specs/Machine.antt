@@ -1,4 +1,4 @@
--- The bus as a machine: which events are allowed, and what each does.
+-- The bus as a transition system: which events are allowed, and their effects.
 use Rattle.std.specs.Prelude.{◌≡◌, ℕ, nat_eq, Bool, true, if◌then◌else◌, List, [], ◌∷◌, ◌++◌, map, Option, Some, None}
 use Rattle.std.specs.Prelude.{is_some}
 use Rattle.std.specs.List.{enumerate_from}
@@ -22,7 +22,7 @@ use Rattle.bus_machine.specs.RunParameters.{Run}
 use Rattle.bus_machine.specs.MissedMessages.{missing_link, cause_of}
 use Rattle.pals_runs.specs.declared.journal.Stop.TheVariants as stop
 
--- the events; those that a clock tells of carry a reading of it, or none
+-- the events; an event of a node's clock carries its reading, or `None`
 pub data BusEvent : Type 0 where
   Start : NodeNo → Option ℕ → BusEvent
   Step : NodeNo → Option ℕ → BusEvent
@@ -32,7 +32,7 @@ pub data BusEvent : Type 0 where
   Drop : LinkNo → ℕ → BusEvent
   Repeat : LinkNo → ℕ → BusEvent
 
--- ---- which are allowed, where no stop stands
+-- ---- which events are allowed in a run without a stop
 abbrev pub is_allowed : Run → BusState → BusEvent → Bool
 is_allowed run s (Start node reading) = is_waiting (node_at s node.0).phase
 is_allowed run s (Step node reading) = is_some (next_step (node_at s node.0).phase)
@@ -42,7 +42,7 @@ is_allowed run s (Arrive link round reading) = is_in_flight round (flight_at s l
 is_allowed run s (Drop link round) = is_in_flight round (flight_at s link.0)
 is_allowed run s (Repeat link round) = is_in_flight round (flight_at s link.0)
 
--- ---- what each does
+-- ---- the effect of each event
 -- a start begins the round, or misses the message of a link, and then the run stops
 abbrev pub missed_stop : Run → BusState → NodeNo → Option ℕ → ℕ → Stop
 missed_stop run s node reading link =
@@ -55,7 +55,7 @@ after_start run s node reading None =
     (node_at s node.0))
 after_start run s node reading (Some link) = record s { stop = Some (missed_stop run s node reading link) }
 
--- what is done where a step is there
+-- the effect if the step exists
 abbrev pub on_step : Option ℕ → BusState → (ℕ → BusState) → BusState
 on_step None s go = s
 on_step (Some step) s go = go step
@@ -77,7 +77,7 @@ after_send run s node reading =
           (enumerate_from 0 run.design.links);
     }
 
--- a message that arrives leaves the flight, and goes into its slot, is not used, or comes too early, and then the run
+-- a message that arrives leaves the flight, and goes into its slot, is not used, or arrives too early, and then the run
 -- stops
 abbrev pub arrival : Run → BusState → LinkNo → ℕ → Arrived
 arrival run s link round =

@@ -109,7 +109,7 @@ sent_from rounds n = record n { phase = after_send n.count rounds n.phase; sent 
 abbrev pub message_from : Plan → NodeState → ℕ → List PortValue
 message_from plan n port = cut plan.sent_steps (slice_index_or n.outs port [])
 
--- those of all links from the node, in their order
+-- the messages of all links from the node, in their order
 abbrev pub messages_from : Plan → NodeState → List (List PortValue)
 messages_from plan n = map (message_from plan n) plan.out_links
 
@@ -128,6 +128,6 @@ with_message n port tuple Kept = record n { slots = slice_set n.slots port (Some
 with_message n port tuple Ignored = n
 with_message n port tuple Early = n
 
--- the node after a message of a round came to an in port
+-- the node after an in port has received a message of a round
 abbrev pub received : NodeState → ℕ → ℕ → List PortValue → NodeState
 received n port round tuple = with_message n port tuple (arrived n port round)

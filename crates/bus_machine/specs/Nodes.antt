@@ -1,4 +1,4 @@
--- A node: what it stands at, the job that is out, and what its in ports bring to a round.
+-- A node: its state, its outstanding job, and the vectors that its in ports bring to a round.
 use Rattle.std.specs.Prelude.{ℕ, ◌-◌, Bool, true, false, List, [], ◌∷◌, map, zip, replicate, Option, Some, None}
 use Rattle.std.specs.Prelude.{slice_index_or, if◌then◌else◌}
 use Rattle.pals_base.specs.declared.basic_types.PortValue.{PortValue}
@@ -28,7 +28,7 @@ pub record NodeState : Type 0 where
   pub outs : List (List PortValue)
   -- whether that round is sent
   pub sent : Bool
-  -- what each round that it finished left
+  -- the part of each round that it finished
   pub parts : List Part
 
 -- before round 0: nothing is left to send
@@ -49,7 +49,7 @@ abbrev pub round_of : NodeState → ℕ
 round_of n = n.count - 1
 
 -- ---- jobs
--- one step of a round: its inputs, and the frame that it goes on from
+-- one step of a round: its inputs, and the frame that it continues from
 pub record StepWork : Type 0 where
   pub node : NodeNo
   pub round : ℕ

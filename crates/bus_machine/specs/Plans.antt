@@ -1,4 +1,4 @@
--- What a design says to one of its nodes: its component, its inputs and its out links.
+-- The configuration that a design gives to one of its nodes: its component, its inputs and its out links.
 use Rattle.std.specs.Prelude.{ℕ, nat_eq, List, [], map, filter, Option, Some, None, slice_get, slice_index_or}
 use Rattle.pals_base.specs.declared.behaviour.BehaviourParts.{BehaviourParts}
 use Rattle.pals_base.specs.PeriodBoundAndReleases.{step_period, sent_steps, release_offset}
@@ -60,7 +60,7 @@ plan_for design node c = record {
   release_offset = release_offset design.gamma design.period c.rate;
 }
 
--- what a design says to the node of a component
+-- the configuration that a design gives to the node of a component
 abbrev pub plan_of : DesignParts → ℕ → Plan
 plan_of design node = plan_for design node (component_at design node)
 

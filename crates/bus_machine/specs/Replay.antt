@@ -1,4 +1,4 @@
--- What a journal tells: the events of a run from its opening on, each with its entries.
+-- The replay of a journal: the events of a run from its opening on, each with its entries.
 use Rattle.std.specs.Prelude.{ℕ, List, [], ◌∷◌, ◌++◌, Option, Some, None}
 use Rattle.std.specs.Option.{unwrap_or}
 use Rattle.pals_base.specs.declared.basic_types.NodeNo.{NodeNo}
@@ -17,12 +17,12 @@ abbrev pub stop_entry : Option Stop → List JournalEntry
 stop_entry None = []
 stop_entry (Some why) = entry.Stopped why ∷ []
 
--- a start tells its round; a missed one tells its stop alone
+-- a start has the entry of its round; a missed start has only the entry of its stop
 abbrev pub start_entry : Run → BusState → NodeNo → Option ℕ → Option ℕ → JournalEntry
 start_entry run s node reading None = entry.Start node (node_at s node.0).count reading
 start_entry run s node reading (Some link) = entry.Stopped (missed_stop run s node reading link)
 
--- the entries of an event, with the result that its step gives; an early arrival tells its stop too
+-- the entries of an event, with the result of its step; an early arrival also has the entry of its stop
 abbrev pub entries : Run → BusState → BusEvent → List JournalEntry
 entries run s (Start node reading) = start_entry run s node reading (missing_link run s node.0) ∷ []
 entries run s (Step node reading) =

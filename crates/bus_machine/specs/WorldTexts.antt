@@ -61,7 +61,7 @@ sent_line design env link round =
     spaced (codes "sent" ∷ link_word design link ∷ decimal round
     ∷ tuple_text (out_kind (slice_get design.components l.source.0) l.out_port) (msg design env link round) ∷ [])
 
--- how many of these sends are of a node
+-- the number of these sends that belong to a node
 abbrev pub sends_of : ℕ → List ℕ → ℕ
 sends_of node senders = count_by (nat_eq node) senders
 

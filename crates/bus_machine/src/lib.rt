@@ -1,5 +1,5 @@
-//! The bus as a machine: what the nodes and the links of a design do, event by event; when they agree
-//! with the synchronous composition; and how a journal tells it. Definitions and their laws alone.
+//! The bus as a transition system: the effect of each event on the nodes and links of a design; when they
+//! agree with the synchronous composition; and how a journal records it. Definitions and their laws only.
 #![tactic(auto)]
 
 pub mod laws;

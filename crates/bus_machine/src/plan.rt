@@ -1,4 +1,4 @@
-//! The plan of a node: what it needs to know of its design.
+//! The configuration of a node: its part of the design.
 use pals_base::{Adaptor, Behaviour, ItemList, Nanos, NodeNo};
 
 /// What an in port brings to the steps of a round.
@@ -18,8 +18,8 @@ pub enum Input {
     },
 }
 
-/// The plan of a node, which is what it needs to know: its number, what its component does and how
-/// often in a round, what each in port brings, the out port of each link from it and of each tap of
+/// The configuration of a node, its part of the design: its number, the behaviour of its component, its
+/// steps in a round, the source of each in port, the out port of each link from it and of each tap of
 /// it, the period of the round and of its steps, how many of its steps are sent, and how long after
 /// its alarm. All times are nanoseconds.
 #[derive(Drop)]

@@ -13,8 +13,8 @@ use Rattle.step_code.specs.declared.instr.Instr.{Instr}
 use Rattle.step_code.specs.declared.instr.CodeParts.{CodeParts}
 use Rattle.code_listing.specs.NumberRanges.{NumberFits, InstrFits, EntriesFit, CodeFits}
 
--- ---- lines behind others
--- a text with these lines behind it
+-- ---- lines after others
+-- a text followed by these lines
 pub record Adds (old : List ℕ) (lines : List (List ℕ)) (new : List ℕ) : Type 0 where
   pub is : new ≡ old ++ text_of lines
 
@@ -54,7 +54,7 @@ pub begun_last : {T E : Type 0} (r : Result T E) {old middle : List ℕ} {first 
     → Adds old first middle → OnErr r (BeginsWith new middle) → OnErr r (BeginsWith new old)
 begun_last r {old} {middle} {first} new before begun = last_on_err r new middle old (text_of first) before.is begun
 
--- ---- the lists of lines that calls add, one behind the other
+-- ---- the lists of lines that calls append, one after the other
 pub six_lists : (a b c d e f : List (List ℕ)) → ((((a ++ b) ++ c) ++ d) ++ e) ++ f ≡ a ++ b ++ c ++ d ++ e ++ f
 six_lists a b c d e f = simp append_assoc
 
@@ -78,7 +78,7 @@ pub blocks_all : {X : Type 0} (f : X → List (List ℕ)) (xs : List X) (i : ℕ
     → out ≡ old ++ text_of (flat_map f (take i xs)) → out ≡ old ++ text_of (flat_map f xs)
 blocks_all f xs i old out behind before = before ∙ ap (λ ys. old ++ text_of (flat_map f ys)) (take_all i xs behind)
 
--- the numbers of a code, behind its last call
+-- the numbers of a code, after its last call
 pub code_fits : {T E : Type 0} (r : Result T E) (b : BehaviourParts) (code : CodeParts) (instrs : List Instr)
     → NumberFits code.loops → EntriesFit b.states code.entries → instrs ≡ code.instrs
     → OnOk r (All InstrFits instrs) → OnOk r (CodeFits b code)

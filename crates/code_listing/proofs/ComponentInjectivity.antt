@@ -1,4 +1,4 @@
--- The lines of components, one block behind the other, tell the components.
+-- The lines of components, one block after the other, determine the components.
 use Rattle.std.proofs.Common.{◌≡◌, ℕ, true, ◌&&◌, List, [], ◌∷◌, ◌++◌, length, map, Option, Some, None, slice_get, All}
 use Rattle.std.proofs.Common.{refl, sym, ap, ap₂, ◌∙◌, arith, append_assoc}
 use Rattle.std.specs.Prelude.{codes, zip, IsTrue}
@@ -199,7 +199,7 @@ component_told design other c d code program sound sound_other first same =
     }
 
 -- ---- all components
--- the lines behind the first are indented
+-- the lines after the first are indented
 all_joined : (xs ys : List (List ℕ)) → list_all (begins (32 ∷ [])) xs ≡ true → list_all (begins (32 ∷ [])) ys ≡ true
     → list_all (begins (32 ∷ [])) (xs ++ ys) ≡ true
 all_joined xs ys first rest = list_all-append (begins (32 ∷ [])) xs ys ∙ ap₂ (λ a b. a && b) first rest

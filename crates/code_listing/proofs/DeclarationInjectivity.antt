@@ -1,4 +1,4 @@
--- The lines of numbers, ports, variables and states tell what they declare.
+-- The lines of numbers, ports, variables and states determine their declarations.
 use Rattle.std.proofs.Common.{◌≡◌, ℕ, ◌^◌, ◌<◌, true, if◌then◌else◌, List, [], ◌∷◌, length, Option, Some, None, All}
 use Rattle.std.proofs.Common.{refl, sym, ap, ap₂, ◌∙◌, arith}
 use Rattle.std.specs.Prelude.{codes, decimal, bytes_eq, zip}

@@ -1,4 +1,4 @@
--- The lines of a code tell its instructions.
+-- The lines of a code determine its instructions.
 use Rattle.std.proofs.Common.{◌≡◌, ℕ, ◌+◌, ◌^◌, ◌<◌, Bool, true, if◌then◌else◌, List, [], ◌∷◌, map, All, refl, sym, ap}
 use Rattle.std.proofs.Common.{ap₂, ◌∙◌, arith}
 use Rattle.std.specs.Prelude.{codes, decimal, bytes_eq, slice_index_or}

@@ -1,4 +1,4 @@
--- Runs of lines of one form, one behind the other.
+-- Runs of lines of one form, one after the other.
 use Rattle.std.proofs.Common.{◌≡◌, ℕ, nat_eq, Bool, true, false, ◌&&◌, List, [], ◌∷◌, ◌++◌, map, All, refl, sym, ap}
 use Rattle.std.proofs.Common.{ap₂, ◌∙◌}
 use Rattle.std.specs.List.{list_all}
@@ -61,7 +61,7 @@ run_parted front f g each each_other xs ys rest behind ends ends_other same =
     parted front (map f xs) (map g ys) rest behind (all_begin front f each xs) (all_begin front g each_other ys) ends
     ends_other same
 
--- items whose lines tell something of them
+-- items whose lines determine a part of them
 pub map_told : {X T : Type 0} (f g : X → List ℕ) (t : X → T) (P Q : X → Type 0)
     → ((x y : X) → P x → Q y → f x ≡ g y → t x ≡ t y)
     → (xs ys : List X) → All P xs → All Q ys → map f xs ≡ map g ys → map t xs ≡ map t ys
@@ -74,7 +74,7 @@ map_told f g t P Q tells (x ∷ xs) (y ∷ ys) each each_other same =
     ap₂ (λ s ss. s ∷ ss) (tells x y (All-head P x xs each) (All-head Q y ys each_other) head)
     (map_told f g t P Q tells xs ys (All-tail P x xs each) (All-tail Q y ys each_other) tail)
 
--- items whose lines tell them
+-- items whose lines determine them
 pub items_told : {X : Type 0} (f g : X → List ℕ) (P Q : X → Type 0) → ((x y : X) → P x → Q y → f x ≡ g y → x ≡ y)
     → (xs ys : List X) → All P xs → All Q ys → map f xs ≡ map g ys → xs ≡ ys
 items_told f g P Q tells xs ys each each_other same =

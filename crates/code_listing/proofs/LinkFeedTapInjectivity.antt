@@ -1,4 +1,4 @@
--- The lines of links, feeds and taps tell them.
+-- The lines of links, feeds and taps determine them.
 use Rattle.std.proofs.Common.{◌≡◌, ℕ, ◌/◌, ◌^◌, ◌<◌, ◌≤◌, nat_lt, nat_le, Bool, true, false, ◌&&◌, if◌then◌else◌, List}
 use Rattle.std.proofs.Common.{[], ◌∷◌, ◌++◌, map, Option, Some, None, slice_get, refl, sym, ap, ap₂, ◌∙◌, subst, arith}
 use Rattle.std.proofs.Common.{append_assoc}
@@ -186,7 +186,7 @@ pub tap_plain : (design : DesignParts) (tap : Tap) → IsDesign design → IsTap
 tap_plain design tap rules rule =
     (refl, (source_plain design tap.source.0 tap.out_port rules, (refl, (word_inner tap.name rule.name, tt))))
 
--- ---- the names that stand in two designs
+-- ---- the names in two designs
 -- their components have the same paths and ports
 pub record AreAlike (design other : DesignParts) : Type 0 where
   pub rules : IsDesign design
@@ -216,7 +216,7 @@ target_told design other node port other_node other_port alike target target_oth
     (sym (target_named design node port) ∙ same ∙ target_named other other_node other_port
     ∙ ap (λ ds. full_name (slice_get ds other_node) other_port) (sym alike.ins))
 
--- ---- the lines tell them
+-- ---- the lines determine them
 pub link_told : (design other : DesignParts) → AreAlike design other → (x y : Link) → IsLink design x → IsLink other y
     → link_line design x ≡ link_line other y → x ≡ y
 link_told design other alike x y rule rule_other same =

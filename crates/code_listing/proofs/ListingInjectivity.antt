@@ -1,4 +1,4 @@
--- A listing tells its design and code.
+-- A listing determines its design and code.
 use Rattle.std.proofs.Common.{◌≡◌, ℕ, ◌^◌, ◌<◌, true, List, [], ◌∷◌, length, map, refl, sym, ap, ap₂, ◌∙◌, arith}
 use Rattle.std.specs.Prelude.{codes, decimal, zip, All}
 use Rattle.std.proofs.lemmas.Fmt.{decimal_injective}
@@ -62,7 +62,7 @@ times g rules = record {
   mu_max = omega (arith, rules.network.1);
 }
 
--- ---- the lines behind those of components
+-- ---- the lines after the lines of components
 ends_components : (design : DesignParts) → EndsComponents (behind_components design)
 ends_components design = record {
   indented = none_begins (32 ∷ []) (link_line design) (λ l. refl) design.links (behind_links design)
@@ -91,7 +91,7 @@ sound period (c ∷ cs) (code ∷ programs) rules each fit =
     (All-tail (λ p. IsCodeOf p.0.behaviour p.1) (c, code) rest each)
     (All-tail (λ p. NumbersFit p.0.behaviour p.1) (c, code) rest fit))
 
--- what is told has the ports
+-- the parts that are determined have the ports
 ports_in : (ports : BehaviourParts → List PortDecl) (view : ToldComponent → Ported)
     → ((c : Component) (code : CodeParts) → view (told_component c code) ≡ ported ports c)
     → (cs : List Component) (programs : List CodeParts) → length programs ≡ length cs

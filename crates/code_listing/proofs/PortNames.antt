@@ -1,4 +1,4 @@
--- The full names of ports tell their components and numbers.
+-- The full names of ports determine their components and numbers.
 use Rattle.std.proofs.Common.{◌≡◌, ℕ, suc, ◌+◌, ◌<◌, true, List, [], ◌∷◌, ◌++◌, length, map, Option, Some, None}
 use Rattle.std.proofs.Common.{slice_get, refl, sym, ap, ◌∙◌, subst, arith, append_assoc, inl, inr}
 use Rattle.std.specs.Prelude.{codes}
@@ -24,7 +24,7 @@ use Rattle.pals_model.proofs.ShapeLaws.{component_at, is_behaviour}
 use Rattle.pals_model.proofs.WordBytes.{IsWithout, all_pass, word_without, splits_at_last}
 use Rattle.pals_report.specs.CheckReports.{out_port_name, source_name}
 
--- ---- lists in which no name stands twice
+-- ---- lists in which no name occurs twice
 
 abbrev pub StandOnce : List (List ℕ) → Type 0
 StandOnce names = (i j : ℕ) (name : List ℕ) → slice_get names i ≡ Some name → slice_get names j ≡ Some name → i ≡ j

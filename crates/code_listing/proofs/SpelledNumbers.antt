@@ -10,7 +10,7 @@ use Rattle.std.proofs.lemmas.Str.Parse.{numerals_by_fold, tells_digits, digit_fr
 use Rattle.pals_base.specs.Arithmetic.{fits}
 
 -- ---- natural numbers
--- what digits spell behind others
+-- the number of digits after others
 abbrev spelled_on : ℕ → List ℕ → ℕ
 spelled_on n word = fold (λ m digit. m * 10 + (digit - 48)) n word
 
@@ -27,7 +27,7 @@ abbrev signed_by : Bool → ℕ → List ℕ → ℤ
 signed_by true byte word = negsuc (spelled word - 1)
 signed_by false byte word = pos (spelled (byte ∷ word))
 
--- a `-` stands before a negative one
+-- a negative number begins with `-`
 abbrev pub signed_spelled : List ℕ → ℤ
 signed_spelled [] = pos 0
 signed_spelled (byte ∷ word) = signed_by (nat_eq byte 45) byte word

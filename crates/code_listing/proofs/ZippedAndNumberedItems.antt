@@ -1,4 +1,4 @@
--- Items of lists that are gone through together, and numbered; and what holds of those so far.
+-- Loops over two lists together, with numbered items; and the properties of the items so far.
 use Rattle.std.proofs.Common.{◌≡◌, ℕ, ◌+◌, ◌<◌, ◌≤◌, min, List, length, take, get_or, All, sym, ap₂, ◌∙◌, subst, arith}
 use Rattle.std.specs.List.{zip, enumerate_from}
 use Rattle.std.proofs.lemmas.List.{take_all}

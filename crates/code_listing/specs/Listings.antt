@@ -76,7 +76,7 @@ abbrev pub state_lines : List StateDecl → List (Option ℕ) → List (List ℕ
 state_lines states entries = map (λ p. state_line p.0 p.1) (zip states entries)
 
 -- ---- instructions
--- a slot has the name of its variable; the slots of loops stand behind those, and have `#` and a number from 0
+-- a slot has the name of its variable; the slots of loops follow, and have `#` and a number from 0
 abbrev pub slot_word : Option VarDecl → ℕ → List ℕ
 slot_word None number = codes "#" ++ decimal number
 slot_word (Some v) number = v.name
@@ -115,7 +115,7 @@ mnemonic (instr.LoopNext slot high to) = codes "LoopNext"
 mnemonic (instr.Emit port) = codes "Emit"
 mnemonic (instr.End state) = codes "End"
 
--- what stands behind it: numbers, and the names that they have in the behaviour
+-- the rest of the line: numbers, and their names in the behaviour
 abbrev pub slot_words : BehaviourParts → ℕ → List (List ℕ)
 slot_words b slot = decimal slot ∷ slot_name b.vars slot ∷ []
 

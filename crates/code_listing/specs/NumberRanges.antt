@@ -1,4 +1,4 @@
--- The numbers that stand in a listing are those of their types: 64 bits with a sign, or 32 bits.
+-- The numbers in a listing are numbers of their types: 64 bits with a sign, or 32 bits.
 use Rattle.std.specs.Prelude.{ℕ, ◌<◌, ◌^◌, List, zip, All, Option, IsTrue, IfSome}
 use Rattle.pals_base.specs.declared.behaviour.VarDecl.{VarDecl}
 use Rattle.pals_base.specs.declared.behaviour.StateDecl.{StateDecl}
@@ -47,6 +47,6 @@ pub record NumbersFit (b : BehaviourParts) (program : CodeParts) : Type 0 where
   pub firsts : All FirstFits b.vars
   pub code : CodeFits b program
 
--- those of all components with their codes
+-- the numbers of all components with their codes
 abbrev pub AllFit : List Component → List CodeParts → Type 0
 AllFit components programs = All (λ p. NumbersFit p.0.behaviour p.1) (zip components programs)

@@ -1,4 +1,4 @@
-//! The lines on a component: its rate, what it declares, its states and its code.
+//! The lines of a component: its rate, its declarations, its states and its code.
 ghost use Rattle.std.specs.Prelude.{◌≡◌, ◌++◌, codes, map, All, OnOk, OnErr};
 ghost use Rattle.pals_model.specs.RoundTexts.{line_end, text_of};
 ghost use Rattle.pals_report.specs.proof.TextPrefixes.{BeginsWith};

@@ -1,4 +1,4 @@
-//! The listing of a design's step code: all that its nodes need to run, as a text.
+//! The listing of a design's step code: everything that its nodes need to run, as a text.
 #![tactic(auto)]
 
 mod component;

@@ -12,8 +12,8 @@ use pals_model::{Design, DesignParts};
 use pals_report::{LineWord, add_feeds, add_line, add_links, add_taps, whole_or_none};
 use step_code::Code;
 
-/// Adds the listing of a design and of the step codes of its components, which stand in the order of
-/// the components. If there is not enough memory, nothing is added.
+/// Appends the listing of a design and of the step codes of its components, in the order of the
+/// components. If memory runs out, nothing is appended.
 pub fn add_listing(out: &mut Vec<u8>, design: &Design, codes: &[Code]) -> Result<(), NoMemory>
     ensures ok { OnOk result (out.new.items ≡ out.old.items ++ listing design.now codes.now) }
     ensures err { OnErr result (out.new.items ≡ out.old.items) }

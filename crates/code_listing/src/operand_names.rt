@@ -1,4 +1,4 @@
-//! The names of ports, states and slots behind the numbers of instructions.
+//! The names of the ports, states and slots to which the numbers of instructions refer.
 ghost use Rattle.std.specs.Prelude.{◌≡◌, slice_get};
 ghost use Rattle.pals_model.specs.ComponentAndLinkNames.{port_name};
 ghost use Rattle.pals_model.specs.RoundTexts.{state_name};
@@ -8,7 +8,7 @@ ghost use Rattle.code_listing.specs.Listings.{slot_name};
 use pals_base::{PortDecl, StateDecl, VarDecl};
 use pals_report::LineWord;
 
-/// The name of a port, empty where there is none.
+/// The name of a port, empty if it does not exist.
 pub fn port_word(ports: &[PortDecl], port: u32) -> LineWord<'_>
     ensures { word_text result ≡ port_name (slice_get ports.now port) }
 {
@@ -18,7 +18,7 @@ pub fn port_word(ports: &[PortDecl], port: u32) -> LineWord<'_>
     }
 }
 
-/// The name of a state, empty where there is none.
+/// The name of a state, empty if it does not exist.
 pub fn state_word(states: &[StateDecl], state: u32) -> LineWord<'_>
     ensures { word_text result ≡ state_name (slice_get states.now state) }
 {

@@ -8,7 +8,7 @@ use pals_base::{Nanos, NoMemory};
 use pals_model::DesignParts;
 use pals_report::{LineWord, add_line};
 
-/// Adds the line that begins a listing, and those of the period and the bounds, in nanoseconds.
+/// Appends the first line of a listing, and the lines of the period and the bounds, in nanoseconds.
 pub fn add_bounds(out: &mut Vec<u8>, design: &DesignParts) -> Result<(), NoMemory>
     ensures ok { OnOk result (out.new.items ≡ out.old.items ++ text_of (period_and_bounds_lines design.now)) }
     ensures err { OnErr result (BeginsWith out.new.items out.old.items) }
@@ -27,7 +27,7 @@ pub fn add_bounds(out: &mut Vec<u8>, design: &DesignParts) -> Result<(), NoMemor
     add_range(out, b"network", gamma.mu_min, gamma.mu_max)
 }
 
-// The line of what takes at least, and at most, so long.
+// The line of a duration's minimum and maximum.
 fn add_range(out: &mut Vec<u8>, word: &[u8], least: Nanos, most: Nanos) -> Result<(), NoMemory>
     ensures ok { OnOk result
         (out.new.items ≡ out.old.items ++ range_line word.now least most ++ line_end) }

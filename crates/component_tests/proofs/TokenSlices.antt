@@ -1,4 +1,4 @@
--- All tokens of a text, taken as a slice of its tokens, stand one behind the other. For the tests of behaviours.
+-- All tokens of a text, taken as a slice of its tokens, follow one another. For the tests of behaviours.
 use Rattle.std.proofs.Common.{◌≡◌, ℕ, List, [], sym, subst, ◌∙◌}
 use Rattle.std.proofs.lemmas.List.{append-nil}
 use Rattle.aadl_lex.specs.declared.token.Token.{Token}

@@ -1,5 +1,5 @@
-//! What the program answers on a behaviour that is read by itself: whether it has variables, and where its first
-//! assignment stands.
+//! The output for a behaviour that is read by itself: whether it has variables, and the position of its first
+//! assignment.
 use aadl_lex::lex;
 use aadl_tree::{Action, AnnexTree};
 use behaviour_parse::{ParseFault, parse_annex};
@@ -12,7 +12,7 @@ fn annex(alloc: Global, text: &[u8]) -> Result<AnnexTree, ParseFault> {
     }
 }
 
-// Where the sides of the assignment stand with which the first transition begins.
+// The positions of the sides of the assignment with which the first transition begins.
 fn assignment(annex: &AnnexTree) -> Option<(usize, usize)> {
     let transition = annex.transitions.as_ref()?.first()?;
     let actions = transition.effect.as_ref()?.actions.as_ref()?;
@@ -28,7 +28,7 @@ fn shown(alloc: Global, annex: &AnnexTree) -> Result<Vec<u8>, AllocError> {
     Ok(format!(in alloc; "variables {variables}\nassignment {target} {value}\n")?.into_bytes())
 }
 
-/// Whether a behaviour has variables, and where its first assignment stands.
+/// Whether a behaviour has variables, and the position of its first assignment.
 pub fn behaviour(alloc: Global, text: &[u8]) -> Result<Vec<u8>, AllocError> {
     match annex(alloc, text) {
         Ok(annex) => shown(alloc, &annex),

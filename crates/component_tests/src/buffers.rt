@@ -24,7 +24,7 @@ fn entry(due: u64, link: u32, round: u32) -> DueEntry {
     }
 }
 
-/// Whether a full slot keeps its message and hands the new one back.
+/// Whether a full slot keeps its message and returns the new one.
 pub fn full_slot_keeps_its_message(alloc: Global) -> Result<bool, NoMemory> {
     let first = message(alloc, 1)?;
     let second = message(alloc, 2)?;

@@ -19,7 +19,7 @@ pub fn fresh_clock_has_no_pick(alloc: Global) -> Result<bool, NoMemory> {
     Ok(is_same && picks == [Ok(10000000), Ok(9000000), Ok(10000000)])
 }
 
-/// Whether a clock stays where it stood where no reading is left for a wait.
+/// Whether a clock without a reading for a wait is unchanged by the refused wait.
 pub fn refused_clock_stands_where_it_stood(alloc: Global) -> Result<bool, NoMemory> {
     let mut clock = clock(alloc)?;
     let picks = [

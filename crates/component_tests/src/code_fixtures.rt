@@ -76,7 +76,7 @@ fn fits(code: &Code, frame: &Frame) -> bool
         && parts.outs == 1
 }
 
-/// Takes a step of the code from the frame, and gives what is sent; nothing where the frame does not fit the code.
+/// Runs a step of the code from the frame, and returns the sent values; nothing if the frame does not fit the code.
 pub fn step(
     alloc: Global,
     code: &Code,

@@ -93,7 +93,7 @@ const FIRST_FAULTS: [VerifyCase; 11] = [
         &[start!(1, 3, 2), next!(1, 4, 1), End(0)],
         Err(BackJump { at: 0 }),
     ),
-    // Heights are those of paths to later places, so the jump back is found first at its own place.
+    // Heights belong to paths to later places, so the jump back is found first at its own place.
     (
         &[Push(1), Emit(0), Push(1), Jump(1)],
         Err(BackJump { at: 3 }),

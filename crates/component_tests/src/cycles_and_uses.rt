@@ -1,4 +1,4 @@
-//! The first subcomponent that leads back to where it stands, and what is in use.
+//! The first subcomponent that contains itself, and the declarations in use.
 use aadl_names::{Names, PackageFault};
 use aadl_tree::PackageTree;
 use aadl_uses::{Uses, first_recursive};
@@ -16,7 +16,7 @@ fn cycle(alloc: Global, tree: &PackageTree) -> Result<Option<PackageFault>, Allo
     first_recursive(alloc, &uses)
 }
 
-// The name of a fault and what stands at its place in the text.
+// The name of a fault and the text at its position.
 fn told(alloc: Global, text: &str, fault: &PackageFault) -> Result<String, AllocError> {
     let PackageFault::Recursive { name, at } = fault else {
         return format!(in alloc; "{fault}\n");
@@ -26,7 +26,7 @@ fn told(alloc: Global, text: &str, fault: &PackageFault) -> Result<String, Alloc
     format!(in alloc; "{name} at {part}\n")
 }
 
-/// The first subcomponent that leads back to where it stands, or `none`.
+/// The first subcomponent that contains itself, or `none`.
 pub fn first_cycle(alloc: Global, text: &str, tree: &PackageTree) -> Result<String, AllocError> {
     match cycle(alloc, tree)? {
         Some(fault) => told(alloc, text, &fault),
@@ -34,7 +34,7 @@ pub fn first_cycle(alloc: Global, text: &str, tree: &PackageTree) -> Result<Stri
     }
 }
 
-// The numbers of the declarations in use below the one of number 1; none where it is not there.
+// The numbers of the declarations in use below declaration 1; empty if it does not exist.
 fn used(alloc: Global, tree: &PackageTree) -> Result<IndexSet<usize>, AllocError> {
     let uses = uses(alloc, tree)?;
     if 1 < uses.names.tree.declarations.len() {

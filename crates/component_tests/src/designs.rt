@@ -1,4 +1,4 @@
-//! Designs that scenarios are read for. What their threads do is of no matter to a scenario.
+//! Designs for scenarios. The behaviour of their threads does not matter to a scenario.
 use bundle_designs::accept;
 use pals_base::Text;
 use pals_model::Design;

@@ -6,13 +6,13 @@ use aadl_uses::PackageConnections;
 use name_faults::first_name_fault;
 use std::alloc::{AllocError, Global};
 
-// What stands in a text from a place to the end of its line.
+// The text from a position to the end of its line.
 fn rest(text: &str, at: usize) -> &str {
     let (_, rest) = text.split_at_checked(at).unwrap_or(("", ""));
     rest.lines().next().unwrap_or("")
 }
 
-// A fault, and what stands at its place.
+// A fault, and the text at its position.
 fn told(alloc: Global, text: &str, fault: &PackageFault) -> Result<String, AllocError> {
     let rest = rest(text, fault.place());
     match fault {

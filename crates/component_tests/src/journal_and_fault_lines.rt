@@ -191,7 +191,7 @@ fn refused_events(alloc: Global, design: &Design) -> Result<Vec<u8>, NoMemory> {
     Ok(text)
 }
 
-// The faults of three scenarios, behind what was there before.
+// The faults of three scenarios, appended to the earlier text.
 fn refused_scenarios(alloc: Global) -> Result<Vec<u8>, NoMemory> {
     let mut text = Vec::from_slice(alloc, b"before\n")?;
     let name = Text::from_str(alloc, "inputs/a goal/2")?;

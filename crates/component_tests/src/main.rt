@@ -1,7 +1,7 @@
 //! Tests of the crates below the program. Texts: their tokens, trees, canonical texts and errors; packages: the first
-//! wrong name, the declarations in use, containment and the number of threads. Behaviours: the code that they compile to,
-//! its steps next to their own, and worked code for the verifier and the machine. Scenarios: what is read and what is
-//! rejected, and the lines of journals and of rejections. The small crates, by worked rows.
+//! wrong name, the declarations in use, containment and the number of threads. Behaviours: their compiled code, its
+//! steps compared with the behaviour's, and worked code for the verifier and the machine. Scenarios: values that are
+//! read and texts that are rejected, and the lines of journals and of rejections. The small crates, by worked rows.
 #![tactic(auto)]
 
 mod adaptors;

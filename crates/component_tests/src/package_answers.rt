@@ -1,5 +1,5 @@
-//! The program's answers on packages: the first name that is wrong, what is in use, what contains itself, and
-//! whether there are too many threads.
+//! The program's answers on packages: the first wrong name, the declarations in use, the declaration that contains
+//! itself, and whether there are too many threads.
 use crate::{cycles_and_uses, first_name_faults, thread_limit};
 use aadl_parse::parse;
 use aadl_tree::PackageTree;
@@ -7,7 +7,7 @@ use case_files::{Answers, asked, text_of};
 use std::alloc::{AllocError, Global};
 use std::io;
 
-// What an answer tells of a package.
+// The answer to a question about a package.
 fn told(alloc: Global, asked: &str, text: &str, tree: &PackageTree) -> Result<String, AllocError> {
     match asked {
         "names" => first_name_faults::first_fault(alloc, text, tree),
@@ -17,7 +17,7 @@ fn told(alloc: Global, asked: &str, text: &str, tree: &PackageTree) -> Result<St
     }
 }
 
-// What an answer tells of the package of a text, or that the text has no tree.
+// The answer about the package of a text, or that the text has no tree.
 fn found(alloc: Global, asked: &str, text: &str) -> Result<String, AllocError> {
     match parse(alloc, text.as_bytes()) {
         Ok(tree) => told(alloc, asked, text, &tree),

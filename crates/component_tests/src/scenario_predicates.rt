@@ -1,4 +1,4 @@
-//! Predicates on scenarios that are read: whether they hold what a case says.
+//! Predicates on scenarios that are read: whether they have the values of a case.
 use pals_base::{LinkNo, NodeNo, PortValue, Text};
 use pals_clock::Clocks;
 use pals_model::{Delays, Env};
@@ -106,7 +106,7 @@ fn are_events(events: &[Event]) -> bool {
         && matches!(repeat, Event::Repeat(LinkNo(1), 3))
 }
 
-/// Whether a scenario holds what this word says.
+/// Whether a scenario satisfies the predicate of this name.
 pub fn holds(read: &Scenario, what: &str) -> bool {
     match what {
         "defaults" => has_defaults(read),

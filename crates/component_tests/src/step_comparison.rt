@@ -1,4 +1,4 @@
-//! The steps of code beside those of the behaviour.
+//! The steps of code, compared with the steps of the behaviour.
 use crate::code_fixtures::{frame, step};
 use behaviour_sem::fire;
 use pals_base::{Behaviour, Frame, NoMemory, PortValue};

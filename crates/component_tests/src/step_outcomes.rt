@@ -48,7 +48,7 @@ const DIVISION: [Instr; 9] = [
     Instr::End(0),
 ];
 
-// The variable, what is held, the trap, and what is sent.
+// The variable, the held input, the trap, and the sent value.
 type RunOutcome = (i64, i64, Option<Trap>, PortValue);
 
 // Instructions, the trap of the frame before, the input, and what a step leaves.
@@ -101,7 +101,7 @@ fn sent(
     Ok(step(alloc, &code, frame, input)?)
 }
 
-// Whether a step from a frame whose variable is 4 and which holds 0 leaves what it should.
+// Whether a step from a frame with variable 4 and held input 0 has the expected result.
 fn leaves(alloc: Global, case: &RunCase) -> Result<bool, CodeFault> {
     let (instrs, halt, input, left) = *case;
     let mut frame = frame(alloc, 0, &[4], 0, halt)?;

@@ -70,7 +70,7 @@ fn end_of<S: Source>(alloc: Global, source: &mut S, most: usize) -> Option<ReadE
     read_all(alloc, source, most).err()
 }
 
-/// Whether a source of bytes gives them piece by piece, and fails where it is told to.
+/// Whether a source of bytes returns them piece by piece, and fails at the planned call.
 pub fn reads_from_memory(alloc: Global) -> Result<bool, AllocError> {
     let mut source = source(alloc, b"abcdefg", 3, &[2, 5])?;
     let mut buf = [0u8; 4];
@@ -87,7 +87,7 @@ fn sink(alloc: Global) -> Result<MemSink, AllocError> {
     MemSink::new(alloc, 16, 8, failing)
 }
 
-/// Whether a sink keeps what it took before a call that failed, and goes on behind it.
+/// Whether a sink keeps the bytes that it took before a failed call, and continues after them.
 pub fn writes_to_memory(alloc: Global) -> Result<bool, AllocError> {
     let mut sink = sink(alloc)?;
     let first = write_all(&mut sink, b"round 0\nround 1\n").is_err();
@@ -97,7 +97,7 @@ pub fn writes_to_memory(alloc: Global) -> Result<bool, AllocError> {
     Ok(first && is_half && second && is_whole && write_all(&mut sink, b".").is_err())
 }
 
-/// Whether a small sink takes what it has room for.
+/// Whether a small sink takes the bytes that fit.
 pub fn writes_to_a_small_memory(alloc: Global) -> Result<bool, AllocError> {
     let mut sink = MemSink::new(alloc, 5, 3, Vec::new(alloc))?;
     let nothing = write_all(&mut sink, b"").is_ok();

@@ -10,7 +10,7 @@ use aadl_uses::{Uses, first_recursive};
 use indexmap::IndexSet;
 use std::alloc::{AllocError, Global};
 
-// The declarations, each behind those that it contains; nothing where one contains itself.
+// The declarations, each after the declarations that it contains; nothing if one contains itself.
 fn order_of(alloc: Global, uses: &Uses<'_>) -> Result<Option<IndexSet<usize>>, AllocError>
     ensures { IfOk result (λ found. IfSome found
         (λ order. IsOrder (containment (placed uses.now.names.tree.now)) order.keys)) }

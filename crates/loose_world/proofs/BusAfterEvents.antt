@@ -1,5 +1,5 @@
--- What lists of events leave on a bus: loose events are ones that a bus undergoes, and behind all of them its
--- journal replays and it agrees with the composition.
+-- The bus after lists of events: loose events are events of a bus, and after all of them its journal replays and it
+-- agrees with the composition.
 use Rattle.std.proofs.Common.{◌≡◌, ◌∙◌, inl, inr, ℕ, List, [], ◌∷◌, ◌++◌, false, Option, Some, None, refl, sym, ap}
 use Rattle.std.proofs.Common.{subst}
 use Rattle.std.proofs.lemmas.Option.{same_Some}
@@ -62,7 +62,7 @@ makes_send s t node (inr makes) =
     let send = send_is makes.what node makes.is_what in
     (send.0, subst (λ (e : BusEvent). Happens s e t) send.1 makes.happens)
 
--- ---- one event keeps what is replayed
+-- ---- one event preserves the replay
 makes_replayed : (run : Run) (s t : BusValue) (e : Event) → IsRunOf run → IsReplayed run s → Makes s e t
     → IsReplayed run t
 makes_replayed run s t e rules before makes =

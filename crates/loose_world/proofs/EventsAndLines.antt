@@ -1,5 +1,5 @@
--- Events one after the other and the lines told of them: one relation of states for another, one more event, the
--- next event of a list, and the text so far.
+-- Sequences of events and their lines: one relation of states for another, one more event, the next event of a list,
+-- and the text so far.
 use Rattle.std.proofs.Common.{◌≡◌, ◌∙◌, ℕ, ◌+◌, ◌<◌, List, [], ◌∷◌, ◌++◌, length, take, refl, sym, ap, subst}
 use Rattle.std.proofs.Common.{append_assoc, append-nil}
 use Rattle.std.specs.Prelude.{slice_index_or}
@@ -48,7 +48,7 @@ turns_next R s t u events first d lines within turns leads =
     subst (λ (es : List Event). InTurn R s es u (lines ++ told_by u e)) (sym (take_more events first d within))
     (turns_more R s t u (take first events) e lines turns leads)
 
--- a text that has been told, and more lines
+-- a text so far, and more lines
 pub told_more : (old mid new : List ℕ) (lines more : List (List ℕ)) → mid ≡ old ++ text_of lines
     → new ≡ mid ++ text_of more
     → new ≡ old ++ text_of (lines ++ more)

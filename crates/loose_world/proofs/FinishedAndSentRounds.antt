@@ -118,7 +118,7 @@ pub rounds_are_sent : (run : Run) (events : List Event) (t : BusValue) (lines : 
     → sent_rounds (node_at t.state node) ≡ sends_of node (senders events)
 rounds_are_sent run events t lines rules left node within = (counted_since_opening run events t lines node rules left).1
 
--- ---- sends behind others
+-- ---- sends after others
 behind : (node : ℕ) (before : List ℕ) (o : Option ℕ)
     → sends_of node (and_sender before o) ≡ sends_of node before + sends_of node (with_sender o [])
 behind node before None = sym (add-zero _)

@@ -1,4 +1,4 @@
--- The law that rows are told: the text has the rows of the rounds that the nodes of a bus have finished.
+-- The law of rows: the text has the rows of the rounds that the nodes of a bus have finished.
 use Rattle.std.proofs.Common.{◌≡◌, inl, inr, ℕ, zero, suc, ◌<◌, ◌≤◌, Bool, List, [], ◌∷◌, length, map, slice_get}
 use Rattle.std.proofs.Common.{Option, Some, None, refl, sym, ap, ◌∙◌, arith}
 use Rattle.std.specs.Prelude.{fold, max, min, flat_map, slice_index_or, if◌then◌else◌}
@@ -33,12 +33,12 @@ past_from f from (suc m) zero past = absurd (omega arith)
 past_from f from (suc m) (suc k) past = past_from f (suc from) m k (omega arith)
 
 -- ---- the rounds that all nodes have finished
--- at most those of the run
+-- at most the rounds of the run
 least_at_most : (a : ℕ) (ns : List NodeState) → fold (λ least (n : NodeState). min least (length n.parts)) a ns ≤ a
 least_at_most a [] = omega arith
 least_at_most a (n ∷ ns) = let rest = least_at_most (min a (length n.parts)) ns in omega arith
 
--- and at most those of each node
+-- and at most the rounds of each node
 least_at : (a : ℕ) (ns : List NodeState) (k : ℕ) (d : NodeState) → k < length ns
     → fold (λ least (n : NodeState). min least (length n.parts)) a ns ≤ length (slice_index_or ns k d).parts
 least_at a [] k d within = absurd (omega (arith, within))

@@ -1,5 +1,5 @@
--- The law that worlds are reported: where all components have finished the same rounds, the rows are those that
--- `sync` reports, and the text is that report and the messages.
+-- The law of reports: if all components have finished the same rounds, the rows are the rows that `sync` reports, and
+-- the text is that report and the messages.
 use Rattle.std.proofs.Common.{◌≡◌, ◌∙◌, ℕ, zero, suc, ◌<◌, ◌≤◌, List, [], ◌++◌, length, map, Some, None, ap, arith}
 use Rattle.std.specs.Prelude.{fold, max, flat_map, if◌then◌else◌}
 use Rattle.std.proofs.lemmas.Bool.{lt-ltb}

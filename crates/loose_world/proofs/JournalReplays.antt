@@ -1,4 +1,4 @@
--- The journal of a list of loose events leads to where the bus stands.
+-- The journal of a list of loose events replays to the state of the bus.
 use Rattle.std.proofs.Common.{ℕ, List, take, false}
 use Rattle.step_code.specs.declared.instr.CodeParts.{CodeParts}
 use Rattle.pals_runs.specs.declared.events_and_faults.Event.{Event}

@@ -11,7 +11,7 @@ use Rattle.pals_model.specs.declared.design.Link.{Link}
 use Rattle.pals_model.specs.IncomingAndOutgoingLinks.{links_from}
 use Rattle.loose_world.specs.SentLines.{AreOutLinks}
 
--- those of the first nodes
+-- the links of the first nodes
 pub record AreFirstLinks (design : DesignParts) (first : ℕ) (nodes : List (List LinkNo)) : Type 0 where
   pub count : length nodes ≡ first
   pub each : (node : ℕ) → node < length nodes

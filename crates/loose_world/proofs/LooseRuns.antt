@@ -1,5 +1,4 @@
--- For `run_loose`: what the first events of a list have done, one more event, and what is left where memory is
--- wanting.
+-- For `run_loose`: the effect of the first events of a list, one more event, and the result if memory runs out.
 use Rattle.std.proofs.Common.{◌≡◌, ◌∙◌, Result, Ok, Err, OnErr, ℕ, ◌+◌, ◌<◌, List, [], ◌++◌, length, take, None, refl}
 use Rattle.std.proofs.Common.{sym, ap, append-nil}
 use Rattle.std.specs.Prelude.{slice_index_or}
@@ -59,7 +58,7 @@ pub on_err : {T E P : Type 0} (r : Result T E) → P → OnErr r P
 on_err (Ok x) here = tt
 on_err (Err x) here = here
 
--- behind an event whose lines are not told
+-- after an event whose lines are missing
 pub cut_behind : (s : BusValue) (events : List Event) (first : ℕ) (t u : BusValue) (old mid new : List ℕ) (d : Event)
     → first < length events → AreDone s events first t old mid → GoesOn t (slice_index_or events first d) u → new ≡ mid
     → IsCutShort s events u old new

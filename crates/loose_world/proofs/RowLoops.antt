@@ -1,4 +1,4 @@
--- For the loops of `row_text`: the rows of the first rounds, and the most and the least number of rounds that the
+-- For the loops of `row_text`: the rows of the first rounds, and the maximum and minimum number of rounds that the
 -- first nodes have finished.
 use Rattle.std.proofs.Common.{◌≡◌, ◌∙◌, ℕ, ◌+◌, ◌<◌, ◌≤◌, List, [], ◌∷◌, ◌++◌, length, map, take, fold, max, min, ap}
 use Rattle.std.proofs.Common.{add-one, zero-add, append-nil}
@@ -40,7 +40,7 @@ most_more b first =
     let f : ℕ → ℕ = λ node. length (node_at b.state node).parts in
     ap (fold max 0) (map_upwards_more f first) ∙ fold-append max 0 (finished_first b first) (f first ∷ [])
 
--- the least of the first nodes, and of the run's rounds
+-- the minimum over the first nodes and the run's rounds
 abbrev pub least_first : BusValue → ℕ → ℕ
 least_first b first = finished_by_all b.run (record b.state { nodes = take first b.state.nodes })
 

@@ -1,4 +1,4 @@
--- The law that messages are sent: directly behind a send, a copy of each of its messages is in flight.
+-- The law of sent messages: directly after a send, a copy of each of its messages is in flight.
 use Rattle.std.proofs.Common.{◌≡◌, ℕ, suc, ◌+◌, ◌-◌, ◌<◌, nat_eq, Bool, true, false, cond, List, [], ◌∷◌, ◌++◌, length}
 use Rattle.std.proofs.Common.{slice_get, Option, Some, None, All, refl, sym, ap, ◌∙◌, subst, arith}
 use Rattle.std.specs.Prelude.{filter, find, Contains, if◌then◌else◌}
@@ -48,7 +48,7 @@ record IsFrom (links : List Link) (node number : ℕ) : Type 0 where
   pub is_link : slice_get links number ≡ Some link
   pub from : nat_eq link.source.0 node ≡ true
 
--- those that are numbered from a number on are places of the list
+-- the links that are numbered from a number on are elements of the list
 abbrev AtPlace : List Link → ℕ → ℕ → ℕ × Link → Type 0
 AtPlace links node before numbered =
     (k : ℕ) × (numbered.0 ≡ before + k) × (slice_get links k ≡ Some numbered.1)
@@ -104,8 +104,8 @@ oldest_there round flight copy is =
     let some = found_before (oldest round flight) copy in
     (some.0, find-append (is_of round) flight (copy ∷ []) ∙ ap (option_or (oldest round flight)) last ∙ some.1)
 
--- ---- behind a send
--- of a link from the node of a send
+-- ---- after a send
+-- on a link from the node of the send
 sent_on : (run : Run) (s t : BusState) (node : NodeNo) (reading : Option ℕ) (number round : ℕ)
     → IsFrom run.design.links node.0 number
     → t ≡ after_send run s node reading → Agrees run t → round_of (node_at s node.0) ≡ round

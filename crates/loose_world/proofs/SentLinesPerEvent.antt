@@ -11,7 +11,7 @@ use Rattle.bus_machine.specs.WorldTexts.{sends_of, sent_line, sent_lines_in}
 abbrev pub round_lines : DesignParts → Env → ℕ → ℕ → List (List ℕ)
 round_lines design env node round = map (λ link. sent_line design env link round) (links_from design node)
 
--- those of an event, where the sends before it are of these nodes
+-- the lines of an event, if the sends before it are of these nodes
 abbrev pub event_lines : DesignParts → Env → List ℕ → Option ℕ → List (List ℕ)
 event_lines design env before None = []
 event_lines design env before (Some node) = round_lines design env node (sends_of node before)

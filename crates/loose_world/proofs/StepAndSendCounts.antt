@@ -1,4 +1,4 @@
--- The law of step counts: what each step of the machine adds to the counts of each node.
+-- The law of step counts: how each step of the machine changes the counts of each node.
 use Rattle.std.proofs.Common.{◌≡◌, ℕ, ◌+◌, ◌-◌, ◌*◌, ◌<◌, ◌≤◌, nat_eq, Bool, true, false, List, length, Option, Some}
 use Rattle.std.proofs.Common.{None, refl, sym, ap, ap₂, ◌∙◌, subst, arith, length-append}
 use Rattle.std.specs.Prelude.{nat_lt, is_some, if◌then◌else◌}

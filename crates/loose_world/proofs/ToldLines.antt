@@ -43,7 +43,7 @@ shown t node round sent =
     let copy = sent.copies link (Contains-get_or (links_from design node) k d within) in
     ap (copy_lines design link round) copy.1 ∙ ap (λ tuple. line design link round tuple ∷ []) copy.2)
 
--- the sends of each node so far are those of the nodes before
+-- the sends of each node so far are the sends of the earlier events
 abbrev HaveSent : Run → BusState → List ℕ → Type 0
 HaveSent run s before =
     (node : ℕ) → node < length run.design.components → sent_rounds (node_at s node) ≡ sends_of node before

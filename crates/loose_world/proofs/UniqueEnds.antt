@@ -1,4 +1,4 @@
--- The law of one end: a list of loose events ends in one way only, and leaves one state and one journal.
+-- The law of one end: a list of loose events has exactly one end, with one state and one journal.
 use Rattle.std.proofs.Common.{◌≡◌, ◌∙◌, inl, inr, ℕ, zero, suc, ◌<◌, List, [], ◌∷◌, ◌++◌, length, take, slice_get, true}
 use Rattle.std.proofs.Common.{false, Some, None, refl, sym, ap, subst, arith}
 use Rattle.std.proofs.lemmas.Bool.{cases_lt}
@@ -85,7 +85,7 @@ goes_past run (f ∷ events) (suc index) (suc count) e s t journal below is x =
 
 -- ---- the event at which a list ends
 module _ (run : Run) (events : List Event) where
-  -- the events before this one of an index are steps without a stop, and it is none
+  -- the events before this index are steps without a stop, and the event at the index is not
   record IsLast (index : ℕ) (e : Event) (s : BusState) (told : List JournalEntry) : Type 0 where
     comes : ComesTo run events index e s told
     halts : (what : BusEvent) (next : BusState) → loose_event e ≡ Some what → IsStep run s what next

@@ -10,7 +10,7 @@ use Rattle.pals_runs.specs.declared.events_and_faults.EventFault.TheVariants as 
 use Rattle.pals_bus.specs.LooseEvents.{event_node, event_message}
 use Rattle.loose_world.specs.LooseRuns.{IsFaultOf}
 
--- no event is of a node and of a message
+-- no event belongs both to a node and to a message
 node_or_message : (e : Event) (node : NodeNo) (message : LinkNo × ℕ) → event_node e ≡ Some node
     → event_message e ≡ Some message → ⊥
 node_or_message (event.Pass time readings) node message one two = none-some node one

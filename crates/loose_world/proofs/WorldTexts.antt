@@ -1,4 +1,4 @@
--- The law that texts are told: the text of a loose world, with its stop where there is one.
+-- The law of texts: the text of a loose world, with its stop if it has one.
 use Rattle.std.proofs.Common.{◌≡◌, ℕ, List, [], ◌++◌, false, sym, ap, ap₂, ◌∙◌, subst}
 use Rattle.step_code.specs.declared.instr.CodeParts.{CodeParts}
 use Rattle.pals_model.specs.RoundTexts.{text_of, report}

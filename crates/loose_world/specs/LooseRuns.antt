@@ -1,5 +1,4 @@
--- What a run of a list of loose events does: all happen, one stops the run, or one is refused; and what text is told
--- of it.
+-- The result of a list of loose events: all happen, one stops the run, or one is rejected; and the text of it.
 use Rattle.std.specs.Prelude.{◌≡◌, ℕ, List, [], ◌∷◌, ◌++◌, take, Some, slice_get}
 use Rattle.pals_model.specs.declared.design.DesignParts.{DesignParts}
 use Rattle.pals_model.specs.RoundTexts.{text_of}
@@ -21,7 +20,7 @@ pub record IsLooseIn (design : DesignParts) (e : Event) : Type 0 where
   pub is_what : loose_event e ≡ Some what
   pub named : IsNamedIn design e
 
--- the lines of the messages that are sent by an event, where the bus stands like this after it
+-- the lines of the messages that an event sends, given the bus after it
 abbrev pub told_by : BusValue → Event → List (List ℕ)
 told_by b (event.Pass time readings) = []
 told_by b (event.Start node) = []
@@ -32,14 +31,14 @@ told_by b (event.Arrive link round) = []
 told_by b (event.Drop link round) = []
 told_by b (event.Repeat link round) = []
 
--- each event leads from one bus to the next by this relation, and these are the lines of what is sent
+-- each event leads from one bus to the next by this relation, and these are the lines of the sent messages
 abbrev pub InTurn : (BusValue → Event → BusValue → Type 0) → BusValue → List Event → BusValue → List (List ℕ) → Type 0
 InTurn R s [] t lines = (t ≡ s) × (lines ≡ [])
 InTurn R s (e ∷ events) t lines =
     (next : BusValue) × (rest : List (List ℕ)) × R s e next × InTurn R next events t rest
     × (lines ≡ told_by next e ++ rest)
 
--- each event happens, none gives a stop, and these are the lines of what is sent
+-- each event happens, none gives a stop, and these are the lines of the sent messages
 abbrev pub AllHappen : BusValue → List Event → BusValue → List (List ℕ) → Type 0
 AllHappen s events t lines = InTurn GoesOn s events t lines
 
@@ -83,14 +82,14 @@ RunsLoosely s events end.All t lines = AllHappen s events t lines
 RunsLoosely s events (end.Stopped why) t lines = StopsAt s events why t lines
 RunsLoosely s events (end.Refused index why) t lines = IsRefusedAt s events index why t lines
 
--- and the lines of what was sent are added to a text
+-- and the lines of the sent messages are appended to a text
 pub record Tells (s : BusValue) (events : List Event) (how : LooseEnd) (t : BusValue) (old new : List ℕ) : Type 0 where
   pub lines : List (List ℕ)
   pub runs : RunsLoosely s events how t lines
   pub told : new ≡ old ++ text_of lines
 
--- what is left if there is not enough memory: the first `done` events have happened, and none gave a stop; of the
--- lines of what they sent the first ones are added to a text
+-- the result if memory runs out: the first `done` events have happened, and none gave a stop; a prefix of the lines of
+-- their messages is appended to a text
 pub record IsCutShort (s : BusValue) (events : List Event) (t : BusValue) (old new : List ℕ) : Type 0 where
   pub done : ℕ
   pub told : List (List ℕ)

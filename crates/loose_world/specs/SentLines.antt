@@ -19,7 +19,7 @@ copy_lines design link round (Some copy) = sent_line design link round copy.tupl
 abbrev pub message_lines : BusValue → ℕ → ℕ → List (List ℕ)
 message_lines b round link = copy_lines b.run.design link round (oldest round (flight_at b.state link))
 
--- those of the last round that a node has started, in order of the links from it
+-- the messages of the last round that a node has started, in order of the links from it
 abbrev pub sent_lines : BusValue → ℕ → List (List ℕ)
 sent_lines b node = flat_map (message_lines b ((node_at b.state node).count - 1)) (links_from b.run.design node)
 

@@ -1,6 +1,6 @@
 //! A loose world: a list of events without time, in which messages may be lost, repeated and reordered, up to the first
-//! that gives a stop or is not allowed; and what is written of a bus that events leave. Laws: a list of loose events
-//! ends in one way; and what events leave on a bus, whatever its clocks read, is the text of their world.
+//! event that gives a stop or is not allowed; and the text of a bus after events. Laws: a list of loose events has
+//! exactly one end; and the text of a bus after events, whatever its clocks read, is the text of their world.
 #![tactic(auto)]
 
 mod journal_text;

@@ -15,17 +15,17 @@ use std::alloc::AllocError;
 /// How a loose world ended.
 #[derive(Clone, Copy)]
 pub enum LooseEnd {
-    /// Each event happened, and no stop stands.
+    /// Each event happened, and the run has no stop.
     All,
-    /// An event gave this stop. Those after it are not looked at.
+    /// An event gave this stop. The events after it are ignored.
     Stopped(Stop),
     /// The event of this index, from 0, is not allowed: a `WrongPhase` or a `NoSuchMessage`.
     Refused { index: u32, fault: EventFault },
 }
 
-/// Does the events in order, up to the first that gives a stop or is not allowed, and adds a line
-/// for each message that they send. If there is not enough memory, the bus stands after a first
-/// part of them, which all happened without a stop, and the text has lines of these events alone.
+/// Executes the events in order, up to the first that gives a stop or is not allowed, and appends a line
+/// for each message that they send. If memory runs out, the bus is the one after a prefix of the events,
+/// which all happened without a stop, and the text has only lines of these events.
 pub fn run_loose(
     bus: &mut Bus,
     events: &[Event],
@@ -62,8 +62,8 @@ pub fn run_loose(
     Ok(LooseEnd::All)
 }
 
-/// Adds a line for each message that an event has sent, where the bus stands behind it. If there is not
-/// enough memory, nothing is added.
+/// Appends a line for each message that an event has sent, given the bus after it. If memory runs out,
+/// nothing is appended.
 pub fn add_sent_messages(
     links: &OutLinks,
     sent: &mut Vec<u8>,

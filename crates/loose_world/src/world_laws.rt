@@ -22,38 +22,38 @@ pub fn events_are_counted()
     ensures sent { RoundsAreSent }
 {}
 
-/// The rows of the rounds that some node has finished are those of the world; those of the rounds that
-/// every node has finished are a report of the composition. Without nodes these are all of the run.
+/// The rows of the rounds that some node has finished are the rows of the world; the rows of the rounds
+/// that every node has finished are a report of the composition. Without nodes these are all rounds of the run.
 pub fn rows_are_told()
     ensures world { FinishedRows }
     ensures common { CommonRows }
     ensures none { RoundsWithoutNodes }
 {}
 
-/// Behind a send each link from its node has a copy in flight, of the round and with the message that
-/// the world tells; so the lines that are told are those of the world.
+/// After a send each link from its node has a copy in flight, of the round and message that the number of
+/// sends determines; so the lines are the lines of the world.
 pub fn messages_are_told()
     ensures in_flight { SendsAreInFlight }
     ensures lines { LinesAreTold }
 {}
 
-/// The rows and the lines of messages that events leave are the text of the world, so also where all
-/// events of a loose world happen; where one gives a stop, the rows of the rounds that every node has
-/// finished are a report.
+/// The rows and the lines of messages after events are the text of the world, so also if all events of a
+/// loose world happen; if an event gives a stop, the rows of the rounds that every node has finished are a
+/// report.
 pub fn texts_are_told()
     ensures world { WorldIsTold }
     ensures all { TextIsTold }
     ensures stopped { StopIsTold }
 {}
 
-/// Where all components have finished the same rounds, the rows of a world are those of the report that
-/// `sync` writes of these rounds.
+/// If all components have finished the same rounds, the rows of a world are the rows of the report that
+/// `sync` prints for these rounds.
 pub fn worlds_are_reported()
     ensures rows { WorldIsReported }
     ensures text { WorldTextIsReported }
 {}
 
-/// However a list of loose events ends, the journal replays to where the bus stands, up to and including
+/// However a list of loose events ends, the journal replays to the state of the bus, up to and including
 /// the event that gives a stop, and the bus agrees with the composition.
 pub fn journals_are_replayed()
     ensures { JournalReplays }
@@ -65,9 +65,8 @@ pub fn events_are_steps()
     ensures { EventsAreSteps }
 {}
 
-/// A list of loose events ends in one way: with one stop, or with one event that is not allowed and its
-/// fault, or with neither. Where all events are steps, or one gives a stop, they lead to one state, and
-/// leave one journal.
+/// A list of loose events has exactly one end: one stop, or one event that is not allowed and its fault, or
+/// neither. If all events are steps, or one gives a stop, they lead to one state and have one journal.
 pub fn one_end()
     ensures { OneEnd }
 {}

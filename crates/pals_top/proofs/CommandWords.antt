@@ -20,11 +20,11 @@ either w x y e px py =
       by-cases true b e p q = p refl
       by-cases false b e p q = q e
 
--- a flag is no plain word
+-- a flag is not a plain word
 flag_begins : (w : List ℕ) → is_flag w ≡ true → is_plain w ≡ false
 flag_begins w e = either w (codes "--loose") (codes "--trace") e refl refl
 
--- and is no command with a root
+-- and is not a command with a root
 begins : (c : ℕ) → not (nat_eq c 45) ≡ false → nat_eq c 45 ≡ true
 begins c e = not-false (nat_eq c 45) e where
   not-false : (b : Bool) → not b ≡ false → b ≡ true
@@ -169,7 +169,7 @@ three_items (x ∷ y ∷ []) a b c least most e1 e2 e3 = absurd (omega arith)
 three_items (x ∷ y ∷ z ∷ []) a b c least most e1 e2 e3 = cc
 three_items (x ∷ y ∷ z ∷ w ∷ ws) a b c least most e1 e2 e3 = absurd (omega arith)
 
--- what a test says of the item of a place, it says of the item that the list shows there
+-- a test of the item at a place has the same result for the item that the list shows there
 pub is_same : {A : Type 0} (test : A → Bool) (k : ℕ) {xs ys : List A} {item : A} {b : Bool} → item ≡ get_or xs k item
     → xs ≡ ys → test item ≡ b
     → test (get_or ys k item) ≡ b

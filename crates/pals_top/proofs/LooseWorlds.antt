@@ -35,7 +35,7 @@ use Rattle.pals_top.specs.proof.StatusAndText.{status_of, text_of, Says}
 abbrev opens : DesignParts → Scenario → List CodeParts → BusValue
 opens design scenario programs = opening_bus (run_of design scenario) programs false
 
--- ---- events are of the run that they began with
+-- ---- events belong to the run that they began with
 pub all_run : (s t : BusValue) (events : List Event) (lines : List (List ℕ)) → AllHappen s events t lines
     → t.run ≡ s.run
 all_run s t [] lines happen = ap (λ (b : BusValue). b.run) happen.0

@@ -13,7 +13,7 @@ use Rattle.pals_top.specs.Answers.{IsAnswer, IsFormAnswer}
 use Rattle.pals_top.specs.ProgramInput.{Reading}
 use Rattle.pals_top.specs.proof.StatusAndText.{status_of, text_of, IsWritten}
 
--- no answer says that a write failed, or that there was not enough memory
+-- no answer reports a failed write or that memory ran out
 no_ending : (a : Answer) → (status_of a ≢ WRITE_FAULT) × (status_of a ≢ NO_MEMORY)
 no_ending (Done text) = (λ e. absurd (cc), λ e. absurd (cc))
 no_ending (NotSo text) = (λ e. absurd (cc), λ e. absurd (cc))
@@ -30,7 +30,7 @@ no_ending TooLong = (λ e. absurd (cc), λ e. absurd (cc))
 apart : WRITE_FAULT ≢ NO_MEMORY
 apart e = absurd (cc)
 
--- ---- what is written of an answer that was made, and the sink where none was
+-- ---- the written part of a computed answer, and the sink without an answer
 module _ {E K : Type 0} (form : Option Command) (seen : Reading) (before after : SinkView) (old new : K)
     (status : ℕ) where
   abbrev Answered : Result Answer E → Type 0

@@ -1,4 +1,4 @@
--- What is answered to a bundle that has no design.
+-- The answer to a bundle that has no design.
 use Rattle.std.proofs.Common.{◌≡◌, inl, inr, ℕ, List, sym, subst}
 use Rattle.bundle_designs.specs.declared.refusal.Refusal.{Refusal}
 use Rattle.bundle_designs.specs.declared.refusal.Refusal.TheVariants.{Text, Design, Memory}

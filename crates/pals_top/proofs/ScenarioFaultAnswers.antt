@@ -1,4 +1,4 @@
--- What is answered to a scenario with a fault.
+-- The answer to a scenario with a fault.
 use Rattle.std.proofs.Common.{◌≡◌, ◌≢◌, ℕ, List, ◌++◌, Result, Ok, Err, IfOk}
 use Rattle.pals_model.specs.declared.design.DesignParts.{DesignParts}
 use Rattle.pals_model.specs.RoundTexts.{line_end}
@@ -13,7 +13,7 @@ use Rattle.pals_top.specs.declared.status.TheConstants.{SCENARIO_REFUSED}
 use Rattle.pals_top.specs.BundleScenarios.{HasScenarioFault}
 use Rattle.pals_top.specs.proof.StatusAndText.{status_of, text_of}
 
--- the answer says that the bundle's scenario has a fault, and its design is this one
+-- the answer reports that the bundle's scenario has a fault, and its design is this one
 pub record SaysFault (root bundle : List ℕ) (design : DesignParts) (command : Command) (a : Answer) : Type 0 where
   pub status_is : status_of a ≡ SCENARIO_REFUSED
   pub faulty : HasScenarioFault root bundle command (text_of a)

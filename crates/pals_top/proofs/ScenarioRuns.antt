@@ -1,5 +1,5 @@
--- For `run_nodes`: the readings of a scenario's clocks are in range, and what is told of a run of it is told of the
--- scenario.
+-- For `run_nodes`: the readings of a scenario's clocks are in range, and the report of a run of the scenario is a
+-- report for the scenario.
 use Rattle.std.proofs.Common.{◌≡◌, inl, inr, ℕ, ◌≤◌, Bool, List, length, All, sym, subst}
 use Rattle.std.proofs.lemmas.Bool.{cases_lt}
 use Rattle.std.proofs.lemmas.List.{get_or_past}
@@ -36,7 +36,7 @@ pub are_readings : (design : DesignParts) (clocks : Clocks) → AreClocksFor des
 are_readings design Meet are = tt
 are_readings design (Lists clocks) are = in_range design clocks are
 
--- what is told of the outcome of a bus that opens as the scenario asks is told of the scenario's run
+-- the report on the outcome of a bus that opens as the scenario specifies is a report on the scenario's run
 pub told_of_scenario : (design : DesignParts) (scenario : Scenario) (trace : Bool) (codes : List CodeParts)
     (meeting : Bool) (bus new : BusValue) (ends : List NodeEnd) (told is : RunReport) → IsScenarioOf design scenario
     → bus ≡ opening_bus (run_of design scenario) codes meeting → IsOutcome bus scenario.clocks new ends

@@ -28,7 +28,7 @@ Makes Watch design scenario status text = IsWatched design scenario status text
 Makes Vote design scenario status text = IsVoted design scenario status text
 Makes Fuse design scenario status text = IsFusedAnswer design scenario status text
 
--- The bundle means a design and a scenario, and this is what is made of them.
+-- The bundle means a design and a scenario, and this is the result for them.
 pub record IsAnalysed (what : Analysis) (root bundle : List ℕ) (status : ℕ) (text : List ℕ) : Type 0 where
   pub design : DesignParts
   pub scenario : Scenario

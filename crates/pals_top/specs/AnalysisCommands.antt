@@ -1,9 +1,9 @@
--- The kinds of analyses: what each command that needs no step codes makes of a design and a scenario.
+-- The kinds of analyses: the result of each command without step codes for a design and a scenario.
 
 pub data Analysis : Type 0 where
   -- the rounds of the synchronous composition
   Sync : Analysis
-  -- what properties say in each round
+  -- the values of properties in each round
   Watch : Analysis
   -- the rounds with replicas that vote
   Vote : Analysis

@@ -1,4 +1,4 @@
--- What the program answers: a status and a text, to its words and to what its source had.
+-- The program's output: a status and a text, for its arguments and the bytes of its source.
 use Rattle.std.specs.Prelude.{◌≡◌, ℕ, Bool, true, false, List, Option, Some, None, ◌⊎◌}
 use Rattle.pals_runs.specs.declared.commands.Command.{Command}
 use Rattle.pals_runs.specs.declared.commands.Command.TheVariants.{Print, Check, Sync, World, Run, Audit, Ring, Watch}
@@ -29,7 +29,7 @@ IsCommandAnswer (Audit root) bundle status text = IsExecutionAnswer execution.Au
 IsCommandAnswer (Budget root) bundle status text = IsExecutionAnswer execution.Budget root bundle status text
 IsCommandAnswer (Ring nodes rounds) bundle status text = ⊥
 
--- A command reads all bytes and answers them, or says why they were not read.
+-- A command reads all bytes and answers them, or reports why they were not read.
 pub record IsBundleAnswer (command : Command) (seen : Reading) (status : ℕ) (text : List ℕ) : Type 0 where
   pub bundle : List ℕ
   pub read : HasRead seen bundle
@@ -47,7 +47,7 @@ abbrev pub IsFormAnswer : Command → Reading → ℕ → List ℕ → Type 0
 IsFormAnswer (Ring nodes rounds) seen status text = IsRingAnswer nodes rounds status text × (seen.after ≡ seen.before)
 IsFormAnswer command seen status text = IsSourceAnswer command seen status text
 
--- Words that are no form read nothing.
+-- Invalid arguments read nothing.
 abbrev pub IsAnswer : Option Command → Reading → ℕ → List ℕ → Type 0
 IsAnswer None seen status text = (status ≡ USAGE) × (text ≡ usage_line) × (seen.after ≡ seen.before)
 IsAnswer (Some command) seen status text = IsFormAnswer command seen status text

@@ -18,13 +18,13 @@ abbrev pub is_sound : Verdict → Bool
 is_sound (Sound rounds stop) = true
 is_sound (Wrong index rule) = false
 
--- the status and the text of a verdict; not so where it is wrong
+-- the status and the text of a verdict; false if the verdict is wrong
 abbrev pub SaysVerdict : DesignParts → Verdict → ℕ → List ℕ → Type 0
 SaysVerdict design v status text =
     (status ≡ (if is_sound v then DONE else NOT_SO)) × (text ≡ verdict_line design v ++ line_end)
 
--- the verdict on the scenario's trace. It is sound, with a number of rounds and a stop, exactly where the trace is
--- that of a history which is over: all nodes have finished so many rounds, and it stands at that stop
+-- the verdict on the scenario's trace. It is sound, with a number of rounds and a stop, if and only if the trace is the
+-- trace of a history that is over: all nodes have finished this many rounds, and the history has that stop
 pub record IsAudited (design : DesignParts) (scenario : Scenario) (status : ℕ) (text : List ℕ) : Type 0 where
   pub judged : SaysVerdict design (verdict (run_of design scenario) scenario.trace) status text
   pub sound : (rounds : ℕ) (stop : Option Stop)

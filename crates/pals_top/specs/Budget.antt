@@ -13,8 +13,8 @@ use Rattle.pals_top.specs.declared.status.TheConstants.{DONE, NOT_SO}
 abbrev pub processors_of : Scenario → List Processor
 processors_of scenario = map processor_of scenario.processors
 
--- where a processor fits, its steps are in time in any number of rounds, by any numbers of instructions up to the
--- weights of their codes, and by those that the codes make
+-- if a processor fits, its steps are in time in any number of rounds, for any numbers of instructions up to the weights
+-- of their codes, and for the numbers that the codes execute
 abbrev pub FitsInTime : DesignParts → List CodeParts → Processor → Type 0
 FitsInTime design programs p = fits_on design programs p ≡ true → RespondInTime design programs p.nanos p.members
 

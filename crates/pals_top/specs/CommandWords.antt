@@ -15,7 +15,7 @@ abbrev pub is_plain : List ℕ → Bool
 is_plain [] = true
 is_plain (c ∷ cs) = not (nat_eq c 45)
 
--- ---- flags may stand anywhere
+-- ---- flags may be anywhere
 abbrev pub is_flag : List ℕ → Bool
 is_flag word = bytes_eq word (codes "--loose") || bytes_eq word (codes "--trace")
 
@@ -94,7 +94,7 @@ abbrev pub IsWithinRingLimits : Command → Type 0
 IsWithinRingLimits (Ring nodes rounds) = (2 ≤ nodes) × (nodes ≤ RING_NODES) × (1 ≤ rounds) × (rounds ≤ RING_ROUNDS)
 IsWithinRingLimits command = Unit {0}
 
--- Why words give no command: they are no form, or they are one and there was not enough memory.
+-- Why arguments give no command: they are invalid, or memory ran out.
 abbrev pub IsWordsEnd : Option Command → WordsEnd → Type 0
 IsWordsEnd command Usage = command ≡ None
 IsWordsEnd command Memory = IsSome command

@@ -35,7 +35,7 @@ Makes (Run trace) design scenario status text = IsRunAnswer design scenario trac
 Makes Audit design scenario status text = IsAudited design scenario status text
 Makes Budget design scenario status text = IsBudgeted design scenario status text
 
--- The bundle means a design and a scenario, no code is too long, and this is what is made of them.
+-- The bundle means a design and a scenario, no code is too long, and this is the result for them.
 pub record IsExecuted (what : Execution) (root bundle : List ℕ) (status : ℕ) (text : List ℕ) : Type 0 where
   pub design : DesignParts
   pub scenario : Scenario

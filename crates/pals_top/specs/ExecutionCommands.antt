@@ -1,4 +1,4 @@
--- The kinds of executions: what each command that needs step codes makes of a design, its codes and a scenario.
+-- The kinds of executions: the result of each command with step codes for a design, its codes and a scenario.
 use Rattle.std.specs.Prelude.{Bool}
 
 pub data Execution : Type 0 where
@@ -6,7 +6,7 @@ pub data Execution : Type 0 where
   TimedWorld : Execution
   -- what a list of events without time leaves
   LooseWorld : Execution
-  -- what a run of the nodes in threads leaves, with its journal where a trace is wanted
+  -- the result of a run of the nodes in threads, with its journal if a trace is requested
   Run : Bool → Execution
   -- the verdict on a trace
   Audit : Execution

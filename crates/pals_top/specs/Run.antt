@@ -6,8 +6,8 @@ use Rattle.run_texts.specs.RunTexts.{IsCompletedRun, IsStoppedRun, IsEndedRun}
 use Rattle.pals_top.specs.declared.status.TheConstants.{DONE, STOPPED, CLOCK_ENDED}
 use Rattle.pals_top.specs.BundleScenarios.{run_of}
 
--- The nodes keep to the scenario's clocks, in some order, until all are done, or a stop stands, or each node is done
--- or its list has ended.
+-- The nodes respect the scenario's clocks, in some order, until all are done, or the run has stopped, or each node is
+-- done or its list has ended.
 abbrev pub IsRunAnswer : DesignParts → Scenario → Bool → ℕ → List ℕ → Type 0
 IsRunAnswer design scenario trace status text =
     let run = run_of design scenario in

@@ -14,7 +14,7 @@ pub record IsVoted (design : DesignParts) (scenario : Scenario) (status : ℕ) (
   pub status_is : status ≡ DONE
   pub text_is : text ≡ voted_report design scenario.env (replicated_in design scenario.replicas) (faults_of scenario.faults)
       scenario.rounds
-  -- where no two replicas are at fault towards one reader in one round, they are the composition's, with each line of a
+  -- if no two replicas are at fault towards one reader in one round, they are the composition's, with each line of a
   -- replicated component three times
   pub outvoted : AreOutvoted (faults_of scenario.faults)
       → text ≡ tripled_report design scenario.env (replicated_in design scenario.replicas) scenario.rounds

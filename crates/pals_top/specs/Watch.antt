@@ -7,7 +7,7 @@ use Rattle.run_monitor.specs.WatchText.{watch_text}
 use Rattle.analysis_texts.specs.MonitoredFormulas.{named, formulas}
 use Rattle.pals_top.specs.declared.status.TheConstants.{DONE, NOT_SO}
 
--- what each property says in each round, over the states of the composition; not so where one is false at some round
+-- the value of each property in each round, over the states of the composition; false if one is false at some round
 pub record IsWatched (design : DesignParts) (scenario : Scenario) (status : ℕ) (text : List ℕ) : Type 0 where
   pub status_is : status ≡ (if is_some_false design scenario.env scenario.rounds (formulas scenario.properties) then
       NOT_SO else DONE)

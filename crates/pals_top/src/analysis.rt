@@ -1,4 +1,4 @@
-//! What all commands share that are answered from a design and a scenario, without step codes.
+//! The common part of all commands that need a design and a scenario, without step codes.
 ghost use Rattle.std.specs.Prelude.{◌≡◌, IfOk};
 ghost use Rattle.scenario_json.specs.proof.ScenarioValidity.{IsScenarioOf};
 ghost use Rattle.plant_fuse.specs.FusedComposition.{ArePairs};
@@ -16,7 +16,7 @@ use scenario_json::{Scenario, read_scenario};
 use scenario_laws::plant_laws::pairs_can_be_fused;
 use std::alloc::Global;
 
-/// A command that is answered from a design and a scenario.
+/// A command that needs a design and a scenario.
 pub trait ScenarioCommand {
     // What it makes of them.
     ghost analysis: { Self → Analysis };

@@ -1,4 +1,4 @@
-//! Answers: what is written, and with which status.
+//! Answers: the output text and the status.
 ghost use Rattle.std.specs.Prelude.{◌≡◌, if◌then◌else◌, IfOk, OnErr};
 ghost use Rattle.bundle_designs.specs.declared.refusal.Refusal.{Refusal};
 ghost use Rattle.pals_top.specs.proof.RefusalStatusAndText.{SaysWhy};
@@ -20,11 +20,11 @@ pub enum Answer {
     Done(Vec<u8>),
     /// What the command asks for, where something in it is not so.
     NotSo(Vec<u8>),
-    /// The words are no form.
+    /// The arguments are invalid.
     Usage,
     /// Why the bundle's design text is refused.
     TextRefused(Vec<u8>),
-    /// Why the design is refused: the first fault of its package, or all that is wrong with it.
+    /// Why the design is rejected: the first fault of its package, or all its violations.
     DesignRefused(Vec<u8>),
     /// Why the scenario is refused.
     ScenarioRefused(Vec<u8>),
@@ -53,7 +53,7 @@ impl Answer {
         }
     }
 
-    /// The answer to a bundle that has no design. There is none if there was not enough memory.
+    /// The answer to a bundle that has no design; `None` if memory ran out.
     pub fn refused(refusal: Refusal) -> Result<Answer, NoMemory>
         ensures answer { IfOk result (SaysWhy refusal) }
         ensures no_memory { OnErr result (refusal ≡ Refusal.Memory) }

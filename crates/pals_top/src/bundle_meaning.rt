@@ -20,7 +20,7 @@ use scenario_laws::event_and_trace_laws::{events_are_few, events_are_loose, trac
 use std::alloc::{AllocError, Global};
 use step_code::Code;
 
-/// A command that is answered from a design, its step codes and a scenario.
+/// A command that needs a design, its step codes and a scenario.
 pub trait CodedCommand {
     // What it makes of them.
     ghost execution: { Self → Execution };
@@ -43,7 +43,7 @@ pub struct Coded {
 pub enum BundleMeaning {
     /// What the command is made of.
     Coded(Coded),
-    /// The answer that says why there is no such thing.
+    /// The answer that reports why there is no such thing.
     Refused(Answer),
 }
 

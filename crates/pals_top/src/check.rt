@@ -9,7 +9,7 @@ use pals_base::{NoMemory, Text};
 use pals_report::add_check;
 use std::alloc::Global;
 
-/// The answer of `check` to a bundle. What stands behind the divider is not looked at.
+/// The answer of `check` to a bundle. The text after the divider is ignored.
 pub fn answer_check(alloc: Global, bundle: &[u8], root: &Text) -> Result<Answer, NoMemory>
     ensures { IfOk result (λ answer. IsCheckAnswer root.now bundle.now (status_of answer) (text_of answer)) }
 {

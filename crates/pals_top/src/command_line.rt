@@ -19,10 +19,10 @@ pub const RING_ROUNDS: u32 = 500;
 // How many digits a number may have.
 const DIGITS: usize = 6;
 
-/// Why words are no command.
+/// Why arguments are not a command.
 #[derive(Clone, Copy)]
 pub enum WordsEnd {
-    /// The words are no form.
+    /// The arguments are invalid.
     Usage,
     /// There was not enough memory.
     Memory,
@@ -39,7 +39,7 @@ impl From<AllocError> for WordsEnd {
     }
 }
 
-/// The command that the words are. `Usage` is answered exactly where they are no form.
+/// The command of the arguments. Returns `Usage` if and only if they are invalid.
 pub fn read_words(alloc: Global, words: &[Text]) -> Result<Command, WordsEnd>
     ensures { IsRead (command_of_words words.now) result }
 {

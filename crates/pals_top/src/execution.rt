@@ -1,4 +1,4 @@
-//! What all commands share that are answered from a design, its step codes and a scenario, without a host.
+//! The common part of all commands that need a design, its step codes and a scenario, without a host.
 ghost use Rattle.std.specs.Prelude.{IfOk};
 ghost use Rattle.pals_model.specs.DesignRules.{IsDesign};
 ghost use Rattle.pals_bus.specs.proof.StepCodesOfNodes.{AreCodes};
@@ -15,7 +15,7 @@ use pals_base::{NoMemory, Text};
 use pals_model::Design;
 use std::alloc::Global;
 
-/// A command that is answered by what it makes of a design, its step codes and a scenario, without a host.
+/// A command whose answer is a function of a design, its step codes and a scenario, without a host.
 pub trait ExecutionCommand: CodedCommand {
     /// The answer to a design with its step codes and a scenario.
     fn answer(self, alloc: Global, coded: Coded) -> Result<Answer, NoMemory>

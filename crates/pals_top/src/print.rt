@@ -8,7 +8,7 @@ use bundle_designs::print_bundle;
 use pals_base::NoMemory;
 use std::alloc::Global;
 
-/// The answer of `print` to a bundle. What stands behind the divider is not looked at.
+/// The answer of `print` to a bundle. The text after the divider is ignored.
 pub fn answer_print(alloc: Global, bundle: &[u8]) -> Result<Answer, NoMemory>
     ensures { IfOk result (λ answer. IsPrintAnswer bundle.now (status_of answer) (text_of answer)) }
 {

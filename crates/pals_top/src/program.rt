@@ -33,15 +33,15 @@ use std::sync::Wait;
 use std::thread::Threads;
 use world_texts::tell_ring;
 
-/// Does what the words say with the bytes of the source, writes the answer's text to the sink and
-/// returns its status. A run's nodes go in threads where the starter admits them, and the gate is told of
-/// their jobs; it may wait for locks and for the threads to end. No other command is given the runtime.
+/// Executes the command of the arguments on the bytes of the source, writes the answer's text to the sink
+/// and returns its status. A run's nodes run in threads if the starter admits them, and the gate is notified
+/// of their jobs; `run` may wait for locks and for the threads to end. No other command receives the runtime.
 ///
-/// 0: what the command asks for was written. 1: it was written, and something in it is not so: a trace
-/// is wrong, a property is false at some round, or a processor has more to do than fits. 2: the words are
-/// no form. 3: the bundle's design text is refused. 4: the design is refused. 5: the scenario is refused,
+/// 0: the result was written. 1: it was written, and a checked property does not hold: a trace is wrong, a
+/// property is false at some round, or a processor has more work than fits. 2: the arguments are invalid.
+/// 3: the bundle's design text is rejected. 4: the design is rejected. 5: the scenario is rejected,
 /// or an event of it. 6: a missed or an early input stopped the nodes. 7: the clock of a node ended. 9: the
-/// source failed. 10: the sink failed. 11: there was not enough memory, and nothing was written. 12: there
+/// source failed. 10: the sink failed. 11: memory ran out, and nothing was written. 12: there
 /// were more bytes than a bundle may have. 13: the step code of a component is too long.
 pub fn pals<R: Threads + Wait + Sync, S: Source, K: Sink, W: Starter, G: Gate + Sync>(
     rt: &R,
@@ -96,7 +96,7 @@ fn write_answer<K: Sink>(sink: &mut K, answer: Result<Answer, NoMemory>) -> u8
     }
 }
 
-// The answer of a command that is no run.
+// The answer of a command other than `run`.
 fn answer_command<S: Source>(
     alloc: Global,
     command: Command,

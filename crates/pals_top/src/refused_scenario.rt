@@ -15,8 +15,8 @@ use pals_runs::EventFault;
 use scenario_json::ScenarioFault;
 use std::alloc::{AllocError, Global};
 
-/// The answer to a scenario with this fault. That there is not enough memory is no fault of a
-/// scenario, and is passed on.
+/// The answer to a scenario with this fault. Out of memory is not a fault of a scenario, and is
+/// returned as an error.
 pub fn refused_scenario(alloc: Global, fault: &ScenarioFault) -> Result<Answer, NoMemory>
     ensures status { IfOk result (λ answer. status_of answer ≡ SCENARIO_REFUSED) }
     ensures text { IfOk result (λ answer. text_of answer ≡ scenario_fault_line fault.now ++ line_end) }

@@ -25,8 +25,8 @@ use std::alloc::{AllocError, Global};
 use std::sync::Wait;
 use std::thread::Threads;
 
-// `run`, with its journal where a trace is wanted. Of its scenario the root's inputs, the number of rounds, the clocks
-// and the delays count.
+// `run`, with its journal if a trace is requested. Only the root's inputs, the number of rounds, the clocks and the
+// delays of the scenario matter.
 #[derive(Clone, Copy)]
 struct RunCommand {
     trace: bool,
@@ -43,7 +43,7 @@ impl CodedCommand for RunCommand {
     }
 }
 
-/// The answer of `run` to the bytes of a source, with the journal where a trace is wanted.
+/// The answer of `run` to the bytes of a source, with the journal if a trace is requested.
 pub fn answer_run<R: Threads + Wait + Sync, S: Source, W: Starter, G: Gate + Sync>(
     host: Host<'_, R, W, G>,
     alloc: Global,
@@ -68,7 +68,7 @@ pub fn answer_run<R: Threads + Wait + Sync, S: Source, W: Starter, G: Gate + Syn
     }
 }
 
-// What comes of the nodes of a design in threads, each by its clock of the scenario.
+// The outcome of the nodes of a design in threads, each by its clock of the scenario.
 fn run_nodes<R: Threads + Wait + Sync, W: Starter, G: Gate + Sync>(
     host: Host<'_, R, W, G>,
     alloc: Global,

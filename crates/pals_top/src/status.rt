@@ -7,7 +7,7 @@ pub const DONE: u8 = 0;
 /// false at some round, or a processor has more to do than fits.
 pub const NOT_SO: u8 = 1;
 
-/// The words are no form.
+/// The arguments are invalid.
 pub const USAGE: u8 = 2;
 
 /// The bundle's design text is refused.

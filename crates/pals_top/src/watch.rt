@@ -1,4 +1,4 @@
-//! The command `watch`: what properties say in each round.
+//! The command `watch`: the values of properties in each round.
 ghost use Rattle.std.specs.Prelude.{IfOk};
 ghost use Rattle.pals_top.specs.AnalysisCommands.{Watch};
 ghost use Rattle.pals_top.specs.Watch.{IsWatched};
@@ -29,7 +29,7 @@ impl ScenarioCommand for WatchCommand {
     }
 }
 
-// What the properties of a scenario say in each round.
+// The values of the properties of a scenario in each round.
 fn answer_watch(alloc: Global, design: Design, scenario: &Scenario) -> Result<Answer, NoMemory>
     ensures { IfOk result (λ answer. IsWatched design scenario.now (status_of answer) (text_of answer)) }
 {

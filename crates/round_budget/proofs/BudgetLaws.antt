@@ -35,7 +35,7 @@ use Rattle.round_budget.proofs.ReleaseTimes.{releases_are_far}
 use Rattle.round_budget.proofs.TimelyService.{served_releases, length_serve, every_serve, pairs_serve, TakesItsTime}
 use Rattle.round_budget.proofs.TimelyService.{none_early, one_at_a_time, IsApart, IsWeighed, all_in_time}
 
--- ---- what is served
+-- ---- the served steps
 pub each_is_served : EachIsServed
 each_is_served design members rounds nanos count x =
     let cost : Release → ℕ = λ y. nanos * count y in
@@ -88,7 +88,7 @@ module _ (design : DesignParts) (members : List ℕ) (sound : IsDesign design) (
       (pairs_in_order (AreFar design) (far_either design) (releases design members rounds)
       (releases_are_far design members sound are rounds))
 
-  -- with what holds of the first of the two
+  -- with the property of the first of the two
   record IsAll (x y : Release) : Type 0 where
     both : IsBoth design x y
     first : IsRelease design members x

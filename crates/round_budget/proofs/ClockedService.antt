@@ -39,7 +39,7 @@ one_kept g cost reached free late x some behind near here =
     omega arith in
     (done, record { due = due; prompt = prompt; before = before; finish = finish })
 
--- all steps, beside the timetable
+-- all steps, along the timetable
 all_kept : (g : Gamma) (cost : Release → ℕ) (reached : ReachTimes) (free late : ℕ) (xs : List Release) → 1 ≤ g.eps
     → late < free + g.eps → ((x : Release) → IsReachedInTime g reached x)
     → Every (IsDoneIn g.alpha_max) (serve cost free xs)

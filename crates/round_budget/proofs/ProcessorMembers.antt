@@ -30,7 +30,7 @@ rising_few xs m rising below =
       | inr fits ↦ fits
     ]
 
--- what holds of the number of each member
+-- a property of the number of each member
 pub member_at : (P : ℕ → Type 0) (members : List NodeNo) (k : ℕ) (d : NodeNo) → All P (numbers members)
     → k < length members → P (slice_index_or members k d).0
 member_at P members k d all within =

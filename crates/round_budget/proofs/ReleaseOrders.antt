@@ -1,4 +1,4 @@
--- Releases put in order: what holds of all stays, and each comes before those that it precedes.
+-- Sorted releases: a property of all stays, and each release comes before the releases that it precedes.
 use Rattle.std.proofs.Common.{◌≡◌, ◌⊎◌, inl, inr, ℕ, suc, ◌<◌, ◌≤◌, true, false, List, [], ◌∷◌, length, refl, ap, ◌∙◌}
 use Rattle.std.proofs.Common.{arith}
 use Rattle.std.specs.Prelude.{nat_eq, nat_lt, ◌&&◌, ◌||◌, if◌then◌else◌}

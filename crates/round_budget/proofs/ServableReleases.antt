@@ -22,7 +22,7 @@ use Rattle.round_budget.specs.declared.releases.Release.{Release}
 use Rattle.round_budget.specs.proof.ReleaseAndLineValues.{release_value}
 use Rattle.round_budget.specs.proof.ServableReleases.{CanServe}
 
--- it comes at the round's alarm or later
+-- it is at the round's alarm or later
 record ComesLate (design : DesignParts) (x : budgets.Release) : Type 0 where
   late : design.period ≤ x.time
   first : x.round ≡ 0
@@ -85,7 +85,7 @@ all_can_serve design codes nanos members sound budgeted count =
     (can_serve design codes nanos members sound budgeted count)
     (releases design members 1) (releases_are design members sound budgeted.members_are 1) (all_late design members))
 
--- back to what the code has
+-- back to the weight of the code
 every_of_values : (P : budgets.Release → Type 0) (xs : List Release) → Every P (map release_value xs)
     → Every (λ x. P (release_value x)) xs
 every_of_values P [] all = tt

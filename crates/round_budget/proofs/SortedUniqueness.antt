@@ -184,7 +184,7 @@ all_not_after (x ∷ y ∷ rest) sorted =
       later,
     )
 
--- ---- what is served stands in strict order
+-- ---- the served steps are in strict order
 every_unserved : (P : Release → Type 0) (cost : Release → ℕ) (free : ℕ) (xs : List Release)
     → Every (λ (s : Served). P s.release) (serve cost free xs) → Every P xs
 every_unserved P cost free [] all = tt

@@ -11,7 +11,7 @@ use Rattle.round_budget.specs.Budgets.{Release, Served, begins, serve}
 use Rattle.round_budget.proofs.ListQuantifiers.{every_both}
 use Rattle.round_budget.proofs.FilteredSums.{part, with_one, part_le, part_more}
 
--- ---- what is served
+-- ---- the served steps
 pub served_releases : (cost : Release → ℕ) (free : ℕ) (xs : List Release)
     → map (λ (s : Served). s.release) (serve cost free xs) ≡ xs
 served_releases cost free [] = refl
@@ -90,7 +90,7 @@ module _ (gap : ℕ) (w : ℕ → ℕ) (members : List ℕ) (cost : Release → 
     ];
   }
 
-  -- or the stretch goes on
+  -- or the busy interval continues
   onward : (start : ℕ) (used : ℕ → Bool) (x y : Release) → start ≤ x.time → IsApart gap x y
       → ComesLater gap start used y → ComesLater gap start (with_one x.node used) y
   onward start used x y first apart later = record {

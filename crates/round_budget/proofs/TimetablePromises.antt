@@ -23,7 +23,7 @@ pub timetable_is_each : (design : DesignParts) (codes : List CodeParts) (nanos :
 timetable_is_each design codes nanos members sound budgeted rounds =
     timetable_repeats design codes nanos members rounds sound budgeted
 
--- by numbers of instructions up to the weights of the codes, and so by those that they make
+-- for numbers of instructions up to the weights of the codes, and so for the numbers that the codes execute
 pub respond_in_time : (design : DesignParts) (codes : List CodeParts) (nanos : ℕ) (members : List ℕ)
     → IsDesign design → 1 ≤ nanos
     → IsWithinBudget design codes nanos members → RespondInTime design codes nanos members

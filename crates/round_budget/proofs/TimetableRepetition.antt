@@ -24,7 +24,7 @@ use Rattle.round_budget.proofs.ReleaseOrders.{every_in_order}
 use Rattle.round_budget.proofs.ReleaseTimes.{IsIn, in_round, rate_fits}
 use Rattle.round_budget.proofs.BudgetLaws.{rounds_are_apart}
 
--- ---- rounds stand one behind the other
+-- ---- rounds follow one another
 put_front : (x : Release) (as' bs : List Release) → Every (λ y. precedes y x ≡ false) bs
     → put x (as' ++ bs) ≡ put x as' ++ bs
 put_front x [] [] none = refl
@@ -144,7 +144,7 @@ module _ (design : DesignParts) (codes : List CodeParts) (nanos : ℕ) (members 
   abbrev of_round : ℕ → List Release
   of_round round = in_order (releases_in design members round)
 
-  -- the releases of a round are those of the first one, later
+  -- the releases of a round are the releases of the first round, later
   release_later : (round node step : ℕ)
       → release_of design round node step ≡ later t round (release_of design 0 node step)
   release_later round node step =

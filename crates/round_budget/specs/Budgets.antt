@@ -1,5 +1,5 @@
--- Round budgets: when one processor makes the steps of several components, one after the other. All
--- numbers of time are nanoseconds.
+-- Round budgets: when one processor runs the steps of several components, one after the other. All
+-- times are nanoseconds.
 use Rattle.std.specs.Prelude.{ℕ, ◌+◌, ◌-◌, ◌*◌, max, nat_eq, nat_lt, nat_le, Bool, ◌&&◌, ◌||◌, if◌then◌else◌, List, []}
 use Rattle.std.specs.Prelude.{◌∷◌, flat_map, map, Option, Some, None, slice_get}
 use Rattle.std.specs.List.{sum_by}
@@ -33,7 +33,7 @@ release_of design round node step = record {
 abbrev pub releases_of : DesignParts → ℕ → ℕ → List Release
 releases_of design round node = map (release_of design round node) (upwards 0 (rate_of design node))
 
--- all that the members of a processor release in a round
+-- every release of the members of a processor in a round
 abbrev pub releases_in : DesignParts → List ℕ → ℕ → List Release
 releases_in design members round = flat_map (releases_of design round) members
 
@@ -84,7 +84,7 @@ abbrev pub most_in : Option CodeParts → ℕ
 most_in None = 0
 most_in (Some c) = capped (weight_of c)
 
--- the most that a component's code makes in a step
+-- the maximum number of instructions of a component's code in a step
 abbrev pub most_of : List CodeParts → ℕ → ℕ
 most_of codes node = most_in (slice_get codes node)
 

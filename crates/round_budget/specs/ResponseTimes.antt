@@ -23,11 +23,11 @@ pub record AreInTime (design : DesignParts) (served : List Served) : Type 0 wher
   pub responses : All (λ s. response s ≤ design.gamma.alpha_max) served
   pub rounds : All (λ s. s.done ≤ alarm design.period (suc s.release.round)) served
 
--- the steps of these components make no more instructions than their codes weigh
+-- the steps of these components execute at most the weight of their codes
 abbrev pub AreAtMost : List CodeParts → List ℕ → (Release → ℕ) → Type 0
 AreAtMost codes members count = (x : Release) → Contains members x.node → count x ≤ most_of codes x.node
 
--- ---- the instructions that a code makes in a step of the composition
+-- ---- the instructions that a code executes in a step of the composition
 abbrev pub frame_before : DesignParts → Env → Release → Option Component → Frame
 frame_before design env x None = no_frame
 frame_before design env x (Some c) = (partial_steps design env x.node x.round c x.step).frame
@@ -41,7 +41,7 @@ abbrev pub made_in : Option CodeParts → Frame → List PortValue → ℕ
 made_in None frame inputs = 0
 made_in (Some c) frame inputs = instructions_made c frame inputs
 
--- those that the component's code makes in that step of the composition
+-- the instructions that the component's code executes in that step of the composition
 abbrev pub by_exec : DesignParts → Env → List CodeParts → Release → ℕ
 by_exec design env codes x =
     made_in (slice_get codes x.node) (frame_before design env x (slice_get design.components x.node))
@@ -52,7 +52,7 @@ pub record RespondInTime (design : DesignParts) (codes : List CodeParts) (nanos 
   -- whatever numbers of instructions they make up to the weights of their codes
   pub weighed : (rounds : ℕ) (count : Release → ℕ) → AreAtMost codes members count
       → AreInTime design (budget design members rounds nanos count)
-  -- and where they make those that their codes make in the composition, in every environment
+  -- and if they execute the instructions of their codes in the composition, in every environment
   pub executed : (env : Env) (rounds : ℕ)
       → AreInTime design (budget design members rounds nanos (by_exec design env codes))
   -- and by clocks within the skew, if the processor keeps the order of the timetable

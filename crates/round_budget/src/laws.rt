@@ -18,16 +18,16 @@ pub fn steps_follow_one_another()
     ensures apart { OneAtATime }
 {}
 
-/// Where one step of each member takes at most the longest execution, each step is done within the
-/// longest execution after its release: by any counts of instructions up to the weights of the codes, by
-/// the weights, and by what the codes make in the composition.
+/// If one step of each member fits into the maximum execution time, each step is done within the maximum
+/// execution time after its release: for any counts of instructions up to the weights of the codes, for the
+/// weights, and for the counts that the codes execute in the composition.
 pub fn responses_fit()
     ensures any { ResponsesFit }
     ensures most { MostResponsesFit }
     ensures exec { ExecResponsesFit }
 {}
 
-/// And then no step of a round is left when the next one begins, so one round's timetable is every
+/// And then every step of a round is finished when the next one begins, so one round's timetable is every
 /// round's.
 pub fn rounds_are_apart()
     ensures apart { RoundsAreApart }
@@ -41,7 +41,7 @@ pub fn text_is_one()
     ensures verdict { VerdictIsOne }
 {}
 
-/// The turn controller on one processor: the sums, the timetable where they fit, and what is written.
+/// The turn controller on one processor: the sums, the timetable if they fit, and its text.
 pub fn turn_is_budgeted()
     ensures compiled { TurnIsCompiled }
     ensures fits { TurnFits }

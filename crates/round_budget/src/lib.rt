@@ -1,6 +1,6 @@
-//! The round budget of one processor: what one step of each of its components takes at most, whether
-//! that fits the longest execution, and the timetable of its rounds. Definitions and laws of round
-//! budgets, and of the text that is written of them, stand in `specs`.
+//! The round budget of one processor: the maximum time of one step of each of its components, whether the
+//! sum fits the maximum execution time, and the timetable of its rounds. Definitions and laws of round
+//! budgets, and of their text, are in `specs`.
 #![tactic(auto)]
 
 pub mod laws;

@@ -46,7 +46,7 @@ fn releases(alloc: Global, design: &Design, members: &[NodeNo]) -> Result<Vec<Re
     Ok(releases)
 }
 
-// Adds those of one component.
+// Appends the releases of one component.
 fn add_releases(design: &Design, node: NodeNo, releases: &mut Vec<Release>) -> Result<(), NoMemory>
     requires { node.0 < length design.now.components }
     ensures { OnOk result

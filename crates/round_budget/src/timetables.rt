@@ -25,10 +25,10 @@ pub enum BudgetEnd {
 }
 
 /// The steps of one round in the order in which the processor serves them, where an instruction takes
-/// `nanos` nanoseconds; each takes the most instructions of its code. Where there is a timetable, it is
-/// that of every round, and in any number of rounds each step is done within the longest execution after
-/// its release, by the most instructions of its code and by those that it makes. By clocks within the
-/// skew, each step is done less than the skew later, and within the bounds of a world.
+/// `nanos` nanoseconds; each executes the maximum number of instructions of its code. A timetable is the
+/// timetable of every round, and in any number of rounds each step is done within the maximum execution
+/// time after its release, for the maximum number of instructions and for the number that it executes. By
+/// clocks within the skew, each step is done less than the skew later, and within the bounds of a world.
 pub fn timetable(
     alloc: Global,
     design: &Design,

@@ -1,4 +1,4 @@
--- The weights that are computed, stopped at u64's greatest value, are those of the definition.
+-- The computed weights, capped at u64's maximum, are the weights of the definition.
 use Rattle.std.proofs.Common.{◌≡◌, ◌∙◌, inl, inr, ℕ, zero, suc, ◌+◌, ◌-◌, ◌*◌, ◌^◌, ◌<◌, ◌≤◌, min, max, List, [], ◌∷◌}
 use Rattle.std.proofs.Common.{◌++◌, length, map, Option, Some, None, refl, sym, ap, subst, ⊎_elim, arith}
 use Rattle.std.proofs.Common.{slice_index_or, slice_set, lit<, take}

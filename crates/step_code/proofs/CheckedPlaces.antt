@@ -1,4 +1,4 @@
--- What the verifier finds at one place of the code, and what is known of the places that it leads to.
+-- The verifier's result at one place of the code, and the facts about the places that it leads to.
 use Rattle.std.proofs.Common.{◌≡◌, ◌∙◌, ℕ, ◌+◌, ◌<◌, ◌≤◌, Bool, true, false, ◌||◌, List, length, Option, Some, None}
 use Rattle.std.proofs.Common.{option_to_list, sym, ap, subst, ⊎_elim, arith, slice_index_or}
 use Rattle.std.specs.Prelude.{not, nat_lt, if◌then◌else◌, Result, Ok, Err, IfErr, OnOk, slice_get}
@@ -22,7 +22,7 @@ use Rattle.step_code.proofs.LoopCrossings.{not_le}
 use Rattle.step_code.proofs.ListMembers.{member_either}
 use Rattle.step_code.proofs.ReachedHeights.{AreLater, on_jump, one_height, reached_heights, reached_held}
 
--- what the rules say of an instruction, and where they find nothing
+-- the rules for an instruction, and when they find nothing
 pub record IsKnown (c : CodeParts) (p : ℕ) (i : Instr) : Type 0 where
   pub here : slice_get c.instrs p ≡ Some i
   pub entry : is_bad_entry c.instrs c.entries p ≡ false

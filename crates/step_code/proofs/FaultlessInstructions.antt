@@ -16,7 +16,7 @@ pub untrue : (b : Bool) → ¬ IsTrue b → b ≡ false
 untrue true none = absurd (none refl)
 untrue false none = refl
 
--- what no rule finds at an instruction
+-- an instruction at which no rule finds a fault
 pub record IsSound (c : CodeParts) (p : ℕ) (i : Instr) : Type 0 where
   pub jumps : jumps_badly c.instrs p i ≡ false
   pub forward : jumps_back c.instrs p i ≡ false

@@ -39,7 +39,7 @@ longer code s (suc k) m p stack slots outs over =
     ap (λ n. run code s n p stack slots outs) e
     ∙ (one_more code s (m + k) p stack slots outs (subst IsOver (sym before) over)).0 ∙ before
 
--- the step of a machine whose loop keeps what a run of n comes to: that stays, and one instruction fewer is left
+-- the step of a machine whose loop preserves the result of a run of n: the result stays, with one instruction fewer
 pub record Moves (code : List Instr) (s : StepInputs) (n p q : ℕ) (stack slots stack' slots' : List ℤ)
     (outs outs' : List Value) : Type 0 where
   pub same : run code s n q stack' slots' outs' ≡ run code s n p stack slots outs

@@ -1,4 +1,4 @@
--- The weight of code is that of a heaviest path from an entry: for the claim that the weight is the greatest.
+-- The weight of code is the weight of a heaviest path from an entry: for the claim that the weight is the maximum.
 use Rattle.std.proofs.Common.{◌≡◌, ◌∙◌, inl, inr, ℕ, ℤ, zero, suc, ◌+◌, ◌-◌, ◌<◌, ◌≤◌, List, [], ◌∷◌, length, map}
 use Rattle.std.proofs.Common.{Option, Some, None, refl, sym, ap, subst, ⊎_elim, arith}
 use Rattle.std.specs.Prelude.{◌⊎◌, slice_get}
@@ -60,7 +60,7 @@ pub record Attains (code : List Instr) (p w : ℕ) : Type 0 where
   pub path : IsPath code p rest
   pub weighs : path_weight code p rest ≡ w
 
--- the greatest number is that of a member, or 0
+-- the maximum is attained by a member, or is 0
 attained : {A : Type 0} (f : A → ℕ) (ts : List A)
     → (greatest (map f ts) ≡ 0) ⊎ ((t : A) × Member ts t × (greatest (map f ts) ≡ f t))
 attained f [] = inl refl

@@ -26,7 +26,7 @@ is_set old o p h is there =
       count = length-set old p (Some h);
     })
 
--- ---- all that an instruction leads to
+-- ---- every successor of an instruction
 pub there_jump : (p n : ℕ) (i : Instr) → AreThere (forward_successors p (Some i)) n → AreThere (option_to_list (jump_of i)) n
 there_jump p n i there =
     record {

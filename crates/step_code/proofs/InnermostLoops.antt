@@ -96,7 +96,7 @@ starts_by code p q None is le = tt
 starts_by code p q (Some l) is le = let f = is_found code p (λ m. nat_lt p m.exit) l is in
     let less = f.below in omega arith
 
--- the loops below an earlier place that go on beyond a later one are those from the innermost one on
+-- the loops below an earlier place that extend beyond a later one are the loops from the innermost one on
 beyond_by : (code : List Instr) (p q : ℕ) (o : Option LoopSpan) → innermost code p ≡ o → p ≤ q
     → filter (λ m. nat_lt q m.exit) (loops_below code p) ≡ filter (λ m. nat_lt q m.exit) (outwards code o)
 beyond_by code p q None is le =
@@ -141,7 +141,7 @@ pub read_innermost : (code : List Instr) (found : List (Option LoopSpan)) (k : �
     → AreInnermost code found → k < length found → slice_index_or found k d ≡ innermost code k
 read_innermost code found k d are within = get_or_from_slice_get found k (innermost code k) d (are.each k within)
 
--- the first candidate, of the place behind the last one
+-- the first candidate, of the place after the last one
 pub comes_first : (code : List Instr) (found : List (Option LoopSpan)) (d : Option LoopSpan) → AreInnermost code found
     → (length found ≡ 0 → ⊥)
     → ComesFrom code (length found)

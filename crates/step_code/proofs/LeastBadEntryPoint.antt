@@ -1,4 +1,4 @@
--- The verifier's search for bad entries finds the least of them.
+-- The verifier's search for bad entries finds the smallest of them.
 use Rattle.std.proofs.Common.{◌≡◌, ◌∙◌, ℕ, ◌+◌, ◌<◌, Bool, true, false, ◌&&◌, ◌||◌, List, [], ◌∷◌, ◌++◌, length, Option}
 use Rattle.std.proofs.Common.{Some, None, refl, sym, ap, arith, take, slice_index_or, nat_eq}
 use Rattle.std.proofs.lemmas.List.{take_more}
@@ -39,7 +39,7 @@ least_more code es all i x o same within is least =
     least_same _ (is_bad_entry code (take (i + 1) es)) o
     (λ q. ap (λ l. is_bad_entry code l q) more ∙ one_entry code (take i es) x q) least
 
--- an empty entry is none
+-- an empty entry is not bad
 pub least_none : (code : List Instr) (es all : List (Option ℕ)) (i : ℕ) (o : Option ℕ) → all ≡ es → i < length all
     → slice_index_or all i None ≡ None → IsLeast (is_bad_entry code (take i es)) o
     → IsLeast (is_bad_entry code (take (i + 1) es)) o

@@ -1,4 +1,4 @@
--- Whether a jump crosses the border of a loop's body, told by the innermost loops of its two places alone.
+-- Whether a jump crosses the border of a loop's body, which the innermost loops of its two places determine.
 use Rattle.std.proofs.Common.{◌≡◌, ◌∙◌, ℕ, zero, suc, ◌<◌, ◌≤◌, Bool, true, false, ◌&&◌, ◌||◌, if◌then◌else◌, cond}
 use Rattle.std.proofs.Common.{List, ◌∷◌, length, Option, Some, None, refl, sym, ap, subst, ⊎_elim, arith, nat_lt}
 use Rattle.std.proofs.Common.{nat_eq, slice_index_or}
@@ -33,7 +33,7 @@ not_le_by : (a b : ℕ) (t : Bool) → nat_lt a b ≡ t → not t ≡ false → 
 not_le_by a b true is not_it = ltb-true a b is
 not_le_by a b false is not_it = cc
 
--- `a` stands below `b` where it is not the case that it does not
+-- `a` is below `b` if `b` is not at most `a`
 pub not_le : (a b : ℕ) → not (nat_lt a b) ≡ false → a < b
 not_le a b is = not_le_by a b (nat_lt a b) refl is
 
@@ -112,7 +112,7 @@ IsInnermost code p o = IsTop code p (λ l. nat_lt p l.exit) o
 pub innermost_is : (code : List Instr) (p : ℕ) → IsInnermost code p (innermost code p)
 innermost_is code p = top_is code p (λ l. nat_lt p l.exit)
 
--- ---- a loop round the start of a closed one goes on beyond its exit
+-- ---- a loop around the start of a closed loop extends beyond its exit
 within_exit : (code : List Instr) (p k : ℕ) (l m : LoopSpan) → p ≤ length code → AreClosed code p
     → loop_at code l.start ≡ Some l → l.start < p → loop_at code k ≡ Some m → k < l.start → l.start < m.exit
     → l.exit < m.exit
@@ -229,8 +229,8 @@ parts_by code low high false false le small closed ends starts =
     (stay_low code low high k m (innermost code low) le small closed refl ends at)
     (stay_high code low high k m (innermost code high) le refl starts at))))
 
--- bodies part two places exactly where the innermost one round the lower ends by the higher, or that round the higher
--- starts from the lower on
+-- bodies separate two places if and only if the innermost one around the lower ends by the higher, or the one around
+-- the higher starts from the lower on
 pub parts_bodies : (code : List Instr) (low high : ℕ) → low ≤ high → high < length code → AreClosed code low
     → (ends_by (innermost code low) high || starts_from (innermost code high) low) ≡ not (stays code low high)
 parts_bodies code low high le small closed =
@@ -296,7 +296,7 @@ around_outer code p l small closed is =
 abbrev pub has_slot : ℕ → List LoopSpan → Bool
 has_slot slot = list_any (λ l. nat_eq l.slot slot)
 
--- what is left to look at
+-- the remaining candidates
 pub record LooksOn (code : List Instr) (place slot : ℕ) (round : Option LoopSpan) : Type 0 where
   pub at : ℕ
   pub below : at ≤ place

@@ -83,7 +83,7 @@ filter_below code f g (suc m) same =
     filter_step code f g m (loop_at code m) refl (same m)
     (filter_below code f g m (λ k l lt is. same k l (omega arith) is))
 
--- those that start from s on are dropped
+-- the loops that start from s on are dropped
 drop_from : (code : List Instr) (f : LoopSpan → Bool) (s n : ℕ)
     → ((k : ℕ) (l : LoopSpan) → s ≤ k → k < s + n → loop_at code k ≡ Some l → f l ≡ false)
     → filter f (loops_below code (s + n)) ≡ filter f (loops_below code s)
@@ -94,7 +94,7 @@ drop_from code f s (suc n) none =
     ∙ drop_step code f (s + n) (loop_at code (s + n)) (λ l is. none (s + n) l (omega arith) (omega arith) is) refl
     ∙ drop_from code f s n (λ k l ge lt is. none k l ge (omega arith) is)
 
--- ---- instructions that are no LoopNext
+-- ---- instructions other than LoopNext
 abbrev pub is_next : Instr → Bool
 is_next (LoopNext slot high to) = true
 is_next other = false
@@ -278,7 +278,7 @@ module _ (code : List Instr) (vars : ℕ) (clean : IsClean code vars) where
       (λ k m lt opens. beyond p m.exit (one_ends p s k l m slot to high is e.opens e.exit opens lt)) in
       here ∙ ap (λ r. l ∷ r) (sym (next ∙ same))
 
-  -- variables are no slots of loops
+  -- variables are not slots of loops
   free_step : (f : LoopSpan → Bool) (x m : ℕ) (o : Option LoopSpan) → loop_at code m ≡ o → x < vars
       → Free (filter f (loops_below code m)) x → Free (filter f (with_loop o (loops_below code m))) x
   free_step f x m None is small rest = rest

@@ -1,4 +1,4 @@
--- The stack heights that the verifier holds once it is past a place are those that paths from places below it give.
+-- The stack heights that the verifier has after a place are the heights of the paths from places below it.
 use Rattle.std.proofs.Common.{◌≡◌, ◌∙◌, ℕ, zero, suc, ◌+◌, ◌<◌, ◌≤◌, Bool, false, List, length, Option, Some, None}
 use Rattle.std.proofs.Common.{option_to_list, sym, ap, subst, ⊎_elim, arith, slice_index_or}
 use Rattle.std.specs.Prelude.{slice_get}
@@ -12,7 +12,7 @@ use Rattle.step_code.specs.proof.VerifierRules.{on_some}
 use Rattle.step_code.specs.proof.VerifierIntermediateResults.{Holds, Clashes, AreHeights, PassesOn}
 use Rattle.step_code.proofs.ListMembers.{member_right, member_or_not}
 
--- ---- the stack is no higher than the place
+-- ---- the height of the stack is at most the place
 after_little : (h : ℕ) (i : Instr) → after h i ≤ h + 1
 after_little h (Store x) = omega arith
 after_little h (Jump to) = omega arith
@@ -62,8 +62,8 @@ reached_held code entries heights n p h are within r =
 pub one_height : (heights : List (Option ℕ)) (p h k : ℕ) → Holds heights p h → Holds heights p k → h ≡ k
 one_height heights p h k a b = let twice : ◌≡◌ {A = Option (Option ℕ)} (Some (Some h)) (Some (Some k)) = sym a ∙ b in cc
 
--- ---- heights behind a place
--- an instruction that no path comes to gives none
+-- ---- heights after a place
+-- an instruction that no path reaches gives none
 split_unreached : (code : List Instr) (entries heights : List (Option ℕ)) (p t k n : ℕ)
     → AreHeights code entries p heights → p < length code → slice_get heights p ≡ Some None → t < length code
     → (r : Reaches code entries n t k) → ComesFromBelow code entries (p + 1) n t k r → Holds heights t k

@@ -58,7 +58,7 @@ two_reached : (P : ℕ → List ℤ → Type 0) (o : Op) (p : ℕ) (stack slots 
 two_reached P o p stack slots outs h =
     top_reached P stack _ (λ b below. top_reached P below _ (λ a rest. result_reached P (applied o a b) _ (λ v. h)))
 
--- what has to hold where an instruction leads
+-- the condition on the successor of an instruction
 abbrev Needs : (ℕ → List ℤ → Type 0) → ℕ → List ℤ → Instr → Type 0
 Needs P p slots (Jump to) = P to slots
 Needs P p slots (JumpZero to) = P to slots × P (p + 1) slots
@@ -154,8 +154,8 @@ best_on code p q i is among later within =
     let more = heaviest_more code (length code - q) m q (omega arith) in
     omega arith
 
--- ---- turns that are left
--- the slots of these loops hold numbers of theirs; what all turns but the present ones weigh
+-- ---- remaining turns
+-- the slots of these loops hold numbers of theirs; the weight of all turns but the present ones
 abbrev TurnsLeft : List Instr → List ℤ → List LoopSpan → ℕ → Type 0
 TurnsLeft code slots [] rest = rest ≡ 0
 TurnsLeft code slots (l ∷ ls) rest =
@@ -248,7 +248,7 @@ Within code s n =
     → TurnsLeft code slots (around code p) rest → best code p + rest ≤ n * weight_at code p
     → IsOver (run code s n p stack slots outs)
 
--- what is left at a place that an instruction leads to within the same loops
+-- the remaining weight at a successor of an instruction within the same loops
 onto : (code : List Instr) (s : StepInputs) (n p q : ℕ) (i : Instr) (slots : List ℤ) (rest : ℕ) → Within code s n
     → slice_get code p ≡ Some i
     → ((f : ℕ → ℕ) → f q ≤ greatest (map f (forward_successors p (Some i)))) → On code p q

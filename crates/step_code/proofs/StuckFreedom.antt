@@ -1,4 +1,4 @@
--- Code at which the rules find nothing never gets stuck, by what holds wherever its run stands.
+-- Code without a fault never gets stuck, by an invariant of every place of its run.
 use Rattle.std.proofs.Common.{◌≡◌, ◌∙◌, inl, inr, ℕ, zero, suc, ◌+◌, ◌-◌, ◌<◌, ◌≤◌, ℤ, pos, ◌+ℤ◌, Bool, true, false}
 use Rattle.std.proofs.Common.{if◌then◌else◌, List, [], ◌∷◌, length, Option, Some, None, refl, sym, subst, ⊎_elim, arith}
 use Rattle.std.specs.Prelude.{not, slice_get, slice_set, int_lt, Result, Ok, Err}
@@ -52,7 +52,7 @@ if_fine : (P : Holds) (b : Bool) (x y : Next) → Fine P x → Fine P y → Fine
 if_fine P true x y h k = h
 if_fine P false x y h k = k
 
--- what has to hold where an instruction leads
+-- the condition on the successor of an instruction
 abbrev Wants : Holds → ℕ → ℕ → List ℤ → List Value → Instr → Type 0
 Wants P p h slots outs i =
     (q : ℕ) → Member (all_successors p i) q → (stack' slots' : List ℤ) (outs' : List Value) → length stack' ≡ after h i
@@ -173,7 +173,7 @@ abbrev pub Begun : List Instr → List (Option ℕ) → List LoopSpan → Type 0
 Begun code entries [] = Unit {0}
 Begun code entries (l ∷ ls) = ((n : ℕ) × (h : ℕ) × Reaches code entries n l.start h) × Begun code entries ls
 
--- where a run of verified code may stand
+-- where a run of verified code may be
 pub record Stands (code : List Instr) (entries : List (Option ℕ)) (slots# outs# p : ℕ) (stack slots : List ℤ)
     (outs : List Value) : Type 0 where
   pub within : p < length code
@@ -186,7 +186,7 @@ pub record Stands (code : List Instr) (entries : List (Option ℕ)) (slots# outs
 module _ (code : List Instr) (entries : List (Option ℕ)) (s : StepInputs) (slots# outs# : ℕ) (nested : IsNested code)
     (level : HasAgreeingHeights code entries) (fed : HasSlotsAndPorts code slots# (length s.held) outs#)
     (eq : length s.fresh ≡ length s.held) where
-  -- what holds wherever a run stands
+  -- the invariant of every place of a run
   abbrev Going : Holds → Type 0
   Going P =
       (m p : ℕ) (stack slots : List ℤ) (outs : List Value) → p < length code → length slots ≡ slots#

@@ -1,5 +1,5 @@
--- What the verifier knows before each place: the places below are clean, the heights are those of paths, and the bad
--- entry is the least.
+-- The verifier's knowledge before each place: the places below are clean, the heights are heights of paths, and the
+-- bad entry is the smallest.
 use Rattle.std.proofs.Common.{◌≡◌, ◌∙◌, ℕ, ◌<◌, ◌≤◌, Bool, true, List, length, Option, Some, None, sym, ap, subst}
 use Rattle.std.proofs.Common.{arith}
 use Rattle.std.proofs.lemmas.Bool.Decides.{nat_tests}
@@ -16,7 +16,7 @@ abbrev pub StandsFrom : ℕ → Option ℕ → Type 0
 StandsFrom at None = Unit {0}
 StandsFrom at (Some e) = at ≤ e
 
--- the rules find nothing below a place, and no bad entry stands there
+-- the rules find nothing below a place, and no bad entry is there
 pub record Looked (c : CodeParts) (at : ℕ) (heights : List (Option ℕ)) (entry : Option ℕ) : Type 0 where
   pub clean : IsCleanBelow c at
   pub heights' : AreHeights c.instrs c.entries at heights

@@ -7,7 +7,7 @@ use Rattle.pals_base.specs.ExpressionAndActionTrees.{Expression, Literal, Variab
 use Rattle.pals_base.specs.ExpressionAndActionTrees.{NoMore, Then, Action, Assign, Emit, If, For, Actions, Nothing, Do, Branches}
 use Rattle.pals_base.specs.ExpressionAndActionTrees.{NoBranch, Where, Trigger, Dispatch, Always, When, Edge}
 
--- an operator behind a right side of n instructions
+-- an operator after a right side of n instructions
 abbrev pub operand_length : Op → ℕ → ℕ
 operand_length AndThen n = n + 3
 operand_length OrElse n = n + 3
@@ -43,13 +43,13 @@ abbrev mutual
   length_branches NoBranch = 0
   length_branches (Where guard actions rest) = length_of guard + length_acts actions + 2 + length_branches rest
 
--- a guard, and the jump past what it guards
+-- a guard, and the jump past its transition
 abbrev pub length_trigger : Trigger → ℕ
 length_trigger Dispatch = 0
 length_trigger Always = 0
 length_trigger (When e) = length_of e + 1
 
--- a transition: its guard, its actions, and the end or the jump behind them
+-- a transition: its guard, its actions, and the end or the jump after them
 abbrev pub length_edge : Edge → ℕ
 length_edge e = length_trigger e.trigger + length_acts e.actions + 1
 

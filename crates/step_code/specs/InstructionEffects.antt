@@ -29,7 +29,7 @@ abbrev pub on_top : List ℤ → (ℤ → List ℤ → Next) → Next
 on_top [] go = Sticks
 on_top (v ∷ stack) go = go v stack
 
--- what is there, if it is
+-- a function of the element, if there is one
 abbrev pub on_found : {A : Type 0} → Option A → (A → Next) → Next
 on_found None go = Sticks
 on_found (Some x) go = go x

@@ -43,7 +43,7 @@ greatest (n ∷ ns) = max n (greatest ns)
 abbrev pub weight_at : List Instr → ℕ → ℕ
 weight_at code place = product (map turns_of (around code place))
 
--- the greatest weight of a path of at most n instructions
+-- the maximum weight of a path of at most n instructions
 abbrev pub heaviest : List Instr → ℕ → ℕ → ℕ
 heaviest code zero place = 0
 heaviest code (suc n) place = weight_at code place + greatest (map (heaviest code n) (forward_successors_at code place))
@@ -52,7 +52,7 @@ abbrev pub entry_weight : List Instr → Option ℕ → ℕ
 entry_weight code None = 0
 entry_weight code (Some e) = heaviest code (length code) e
 
--- the greatest weight of a path from an entry
+-- the maximum weight of a path from an entry
 abbrev pub weight : List Instr → List (Option ℕ) → ℕ
 weight code entries = greatest (map (entry_weight code) entries)
 

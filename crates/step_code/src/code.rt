@@ -39,7 +39,7 @@ impl Code {
     ghost use Rattle.step_code.specs.proof.VerifierRules.{IsVerified};
     ghost use Rattle.step_code.specs.CappedWeights.{capped};
 
-    /// The code of verified parts and their weight. It takes no memory.
+    /// The code of verified parts and their weight. Does not allocate.
     pub(crate) fn new(parts: CodeParts, most: u64) -> Code
         requires verified { IsVerified parts }
         requires most { most ≡ capped (weight_of parts) }
@@ -56,7 +56,7 @@ impl Code {
         &self.parts
     }
 
-    // The weight that is kept.
+    // The stored weight.
     fn most(&self) -> u64
         ensures { result ≡ capped (weight_of self.now) }
     {
@@ -64,8 +64,8 @@ impl Code {
     }
 }
 
-/// How many instructions one step takes at most, stopped at u64's greatest value. It takes no
-/// memory.
+/// The maximum number of instructions of one step, capped at u64's maximum. Does not
+/// allocate.
 pub fn most(code: &Code) -> u64
     ensures { result ≡ capped (weight_of code.now) }
 {

@@ -1,15 +1,15 @@
-//! The faults of parts that are no code: the rules of the verifier that they break, too many instructions, or want
-//! of memory.
+//! The faults of parts that are not a code: the violated rule of the verifier, too many instructions, or memory that
+//! ran out.
 
 use std::alloc::AllocError;
 use thiserror::Error;
 
-/// The first fault of parts, each `at` a place of an instruction, or of an entry where it stands
-/// badly.
+/// The first fault of parts, each `at` a place of an instruction, or of an entry if the entry is
+/// bad.
 #[derive(Clone, Copy, Debug, PartialEq, Error)]
 pub enum CodeFault {
-    /// A jump to no place, or into or out of the body of a loop; or an entry at no place, or in a
-    /// body; or an instruction behind which there is none.
+    /// A jump to a missing place, or into or out of the body of a loop; or an entry at a missing place, or in
+    /// a body; or a last instruction that may fall through.
     #[error("BadJump")]
     BadJump { at: usize },
     /// An instruction finds fewer operands than it takes.
@@ -24,7 +24,7 @@ pub enum CodeFault {
     /// There are more instructions than the limit.
     #[error("TooLong")]
     TooLong { length: u64 },
-    /// A jump to a place that is not greater, or a part of a loop that is none.
+    /// A jump to a place that is not greater, or an incomplete part of a loop.
     #[error("BackJump")]
     BackJump { at: usize },
     /// There was not enough memory, for instructions that are not too many.

@@ -14,7 +14,7 @@ pub enum Instr {
     Store(u32),
     /// Pushes the held input of the port.
     Port(u32),
-    /// Pushes 1 where an input came to the port in this step, else 0.
+    /// Pushes 1 if the port received an input in this step, else 0.
     Fresh(u32),
     Neg,
     Abs,
@@ -45,7 +45,7 @@ pub enum Instr {
         high: i64,
         exit: u32,
     },
-    /// Adds 1 to the slot and goes back to `to` where the slot is below `high`, else goes on.
+    /// Adds 1 to the slot and jumps back to `to` if the slot is below `high`; else continues.
     LoopNext {
         slot: u32,
         high: i64,
@@ -135,8 +135,8 @@ impl Instr {
 }
 
 /// Instructions, the place at which the step of each complete state begins, and the numbers of
-/// variables, of slots for loops, of in ports and of out ports. The slots of the loops stand
-/// behind those of the variables.
+/// variables, of slots for loops, of in ports and of out ports. The slots of the loops follow
+/// the slots of the variables.
 #[derive(Drop)]
 pub struct CodeParts {
     pub instrs: ItemList<Instr>,
@@ -147,7 +147,7 @@ pub struct CodeParts {
     pub outs: u32,
 }
 
-/// The instruction at a place, or none past the end.
+/// The instruction at a place; `None` past the end.
 pub fn instr_at(instrs: &[Instr], place: usize) -> Option<Instr>
     ensures { result ≡ slice_get instrs.now place }
 {

@@ -9,7 +9,7 @@ ghost use Rattle.step_code.specs.proof.CodeRuns.{has_entry};
 use crate::instr::{CodeParts, Instr};
 use crate::loops::{LoopSpan, loop_at};
 
-/// Whether an instruction jumps to no place, or into or out of a body, or has none behind it.
+/// Whether an instruction jumps to a missing place, or into or out of a body, or has no next instruction.
 pub fn jumps_badly(
     parts: &CodeParts,
     innermost: &[Option<LoopSpan>],
@@ -29,7 +29,7 @@ pub fn jumps_badly(
     badly || lacks_next(parts, place, instr)
 }
 
-// Whether there is none behind an instruction that may go on.
+// Whether an instruction that may fall through has no next instruction.
 fn lacks_next(parts: &CodeParts, place: usize, instr: Instr) -> bool
     requires { place < length parts.now.instrs }
     ensures { result ≡ lacks_next parts.now.instrs place instr }
@@ -90,7 +90,7 @@ pub fn jumps_back(instrs: &[Instr], place: usize, instr: Instr) -> bool
     back || lacks_loop(instrs, place, instr)
 }
 
-// Whether an instruction is no part of a loop, but should be.
+// Whether an instruction is not part of a loop, but should be.
 fn lacks_loop(instrs: &[Instr], place: usize, instr: Instr) -> bool
     requires { place < length instrs.now }
     ensures { result ≡ lacks_loop instrs.now place instr }

@@ -14,7 +14,7 @@ ghost use Rattle.step_code.specs.InstructionsPerStep.{instructions_made};
 ghost use Rattle.step_code.specs.proof.VerifierRules.{IsVerified};
 ghost use Rattle.step_code.specs.proof.Examples.{counter, at_four, surface, nested};
 
-/// A counter at 4 that gets 2 makes its nine instructions, keeps 7 and gives it.
+/// A counter at 4 that gets 2 executes its nine instructions, stores 7 and outputs it.
 pub fn counter_counts()
     ensures weight { weight_of counter ≡ 9 }
     ensures instructions_made { instructions_made counter at_four (Present (pos 2) ∷ []) ≡ 9 }
@@ -25,7 +25,7 @@ pub fn counter_counts()
         }) }
 {}
 
-/// A path weighs what its instructions weigh: each as often as the loops round it turn.
+/// The weight of a path is the sum of its instructions, each as often as the loops around it repeat.
 pub fn worked_weights()
     ensures surface { weight_of surface ≡ 16 }
     ensures nested { weight_of nested ≡ 44 }

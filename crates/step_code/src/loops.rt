@@ -19,7 +19,7 @@ pub struct LoopSpan {
 }
 
 impl LoopSpan {
-    /// How often the body runs, stopped at u64's greatest value.
+    /// The number of turns of the body, capped at u64's maximum.
     pub fn turns(self) -> u64
         ensures { result ≡ min (turns_of self) (2 ^ 64 - 1) }
     {
@@ -97,9 +97,9 @@ pub fn innermost(alloc: Global, instrs: &[Instr]) -> Result<Vec<Option<LoopSpan>
     Ok(found)
 }
 
-// The loop with the highest start in whose body the next place lies, behind those for which it is
-// found: the loop that starts just before it, or else one round the place before, is the first
-// candidate, and then those round that one.
+// The loop with the highest start whose body contains the next place, given the loops of the places
+// before it: the loop that starts just before it, or else one around the place before, is the first
+// candidate, and then the loops around that one.
 fn innermost_at(instrs: &[Instr], found: &[Option<LoopSpan>]) -> Option<LoopSpan>
     requires { AreInnermost instrs.now found.now }
     ensures { result ≡ innermost instrs.now (length found.now) }

@@ -90,7 +90,7 @@ fn check_place(
     }
 }
 
-// The least entry that is no place, or stands in a body.
+// The smallest entry that is not a place, or is in a body.
 fn first_bad_entry(parts: &CodeParts, innermost: &[Option<LoopSpan>]) -> Option<usize>
     requires innermost { AreInnermost parts.now.instrs innermost.now }
     requires count { length innermost.now ≡ length parts.now.instrs }

@@ -13,7 +13,7 @@ use crate::loops::LoopSpan;
 use pals_base::NoMemory;
 use std::alloc::Global;
 
-/// The greatest weight of a path from an entry, stopped at u64's greatest value.
+/// The maximum weight of a path from an entry, capped at u64's maximum.
 pub fn most_weight(
     alloc: Global,
     parts: &CodeParts,
@@ -32,7 +32,7 @@ pub fn most_weight(
     Ok(most)
 }
 
-// The greatest weight of a path from an entry, if it is one.
+// The maximum weight of a path from an entry, if there is one.
 fn entry_weight(parts: &CodeParts, best: &[u64], entry: Option<u32>) -> u64
     requires verified { IsVerified parts.now }
     requires best { AreBest parts.now.instrs 0 best.now }
@@ -45,7 +45,7 @@ fn entry_weight(parts: &CodeParts, best: &[u64], entry: Option<u32>) -> u64
     }
 }
 
-// The greatest weight of the paths from each place.
+// The maximum weight of the paths from each place.
 fn best_weights(
     alloc: Global,
     parts: &CodeParts,
@@ -66,7 +66,7 @@ fn best_weights(
     Ok(best)
 }
 
-// The greatest weight of the paths from `place`, where `best` has those from the places behind it.
+// The maximum weight of the paths from `place`, given the weights from the later places in `best`.
 fn best_at(parts: &CodeParts, weights: &[u64], best: &[u64], place: usize) -> u64
     requires verified { IsVerified parts.now }
     requires weights { AreWeights parts.now.instrs weights.now }
@@ -79,7 +79,7 @@ fn best_at(parts: &CodeParts, weights: &[u64], best: &[u64], place: usize) -> u6
     weights[place].saturating_add(best_onward(best, place, instr))
 }
 
-// The greatest of the numbers at the places to which an instruction leads.
+// The maximum of the numbers at the places to which an instruction leads.
 fn best_onward(best: &[u64], place: usize, instr: Instr) -> u64
     requires small { place < INSTRUCTIONS }
     requires there { AreThere (forward_successors place (Some instr)) (length best.now) }
@@ -119,8 +119,8 @@ fn weights(
     Ok(weights)
 }
 
-// What the instruction at `place` weighs, where `weights` has what those before it weigh: the turns
-// of the innermost loop, times what its start weighs.
+// The weight of the instruction at `place`, given the earlier weights in `weights`: the turns of the
+// innermost loop, times the weight of its start.
 fn weight_at(
     parts: &CodeParts,
     innermost: &[Option<LoopSpan>],

@@ -181,7 +181,7 @@ module _ (whole : List Instr) (s : StepInputs) (z : Sizes) where
       }
 
   -- ---- loops
-  -- the variable of a loop behind those in sight
+  -- the variable of a loop after the variables in scope
   shows_behind : (n : ℕ) (slots vars : List ℤ) (v : ℤ) → length vars ≡ n
       → ((x : ℕ) → x < n → slice_get slots x ≡ Some (slice_index_or vars x (pos 0))) → slice_get slots n ≡ Some v
       → (x : ℕ) → x < n + 1 → slice_get slots x ≡ Some (slice_index_or (vars ++ v ∷ []) x (pos 0))

@@ -8,7 +8,7 @@ use Rattle.pals_base.specs.declared.behaviour.Branch.{Branch}
 use Rattle.pals_base.specs.ExpressionAndActionTrees.{Then, Do, Where}
 use Rattle.pals_base.specs.proof.TreeViews.{tree_of, operands_along, action_of, actions_along, branches_along}
 
--- a part of n items, and what is laid out behind it
+-- a part of n items, and the code after it
 pub both_parts : {A : Type 0} (old mid new a : List A) (n : ℕ) (rest : ℕ → List A) → mid ≡ old ++ a → length a ≡ n
     → new ≡ mid ++ rest (length mid) → new ≡ old ++ (a ++ rest (length old + n))
 both_parts old mid new a n rest first len second =
@@ -20,7 +20,7 @@ pub more_parts : {A : Type 0} (old mid a : List A) (n : ℕ) (rest : ℕ → Lis
     → mid ++ rest (length mid) ≡ old ++ (a ++ rest (length old + n))
 more_parts old mid a n rest first len = both_parts old mid (mid ++ rest (length mid)) a n rest first len refl
 
--- ---- what is left of a list
+-- ---- the rest of a list
 
 pub next_operand : (xs : List Operand) (i : ℕ) (x : Operand) → i < length xs → x ≡ slice_index_or xs i x
     → operands_along (drop i xs) ≡ Then x.op (tree_of x.right) (operands_along (drop (i + 1) xs))
@@ -40,7 +40,7 @@ pub one_more : {A : Type 0} (old mid new a : List A) (i : A) → mid ≡ old ++ 
     → new ≡ old ++ (a ++ i ∷ [])
 one_more old mid new a i first second = second ∙ ap (λ xs. xs ++ i ∷ []) first ∙ append_assoc old a (i ∷ [])
 
--- a part, what is laid out behind it, and an item
+-- a part, the code after it, and an item
 pub between : {A : Type 0} (old c1 c2 new g : List A) (k : A) (n : ℕ) (laid : ℕ → List A) → c1 ≡ old ++ g → length g ≡ n
     → c2 ≡ c1 ++ laid (length c1) → new ≡ c2 ++ k ∷ []
     → new ≡ old ++ (g ++ (laid (length old + n) ++ k ∷ []))
@@ -50,7 +50,7 @@ between old c1 c2 new g k n laid first len second third =
     ∙ append_assoc old (g ++ laid (length old + n)) (k ∷ [])
     ∙ ap (λ xs. old ++ xs) (append_assoc g (laid (length old + n)) (k ∷ []))
 
--- a part, an instruction, what is laid out behind them, and an item
+-- a part, an instruction, the code after them, and an item
 pub between_two : {A : Type 0} (old c1 c2 c3 new g : List A) (i k : A) (n : ℕ) (laid : ℕ → List A) → c1 ≡ old ++ g
     → length g ≡ n → c2 ≡ c1 ++ i ∷ [] → c3 ≡ c2 ++ laid (length c2) → new ≡ c3 ++ k ∷ []
     → new ≡ old ++ (g ++ i ∷ (laid (length old + n + 1) ++ k ∷ []))
@@ -61,7 +61,7 @@ between_two old c1 c2 c3 new g i k n laid first len jump second third =
     ∙ ap (λ xs. old ++ xs) (append_assoc g (i ∷ []) (laid (length old + (n + 1)) ++ k ∷ []))
     ∙ ap (λ q. old ++ (g ++ i ∷ (laid q ++ k ∷ []))) place
 
--- three items, and what is laid out behind them
+-- three items, and the code after them
 pub behind_three : {A : Type 0} (old c1 c2 c3 new : List A) (i j k : A) (laid : ℕ → List A) → c1 ≡ old ++ i ∷ []
     → c2 ≡ c1 ++ j ∷ [] → c3 ≡ c2 ++ k ∷ [] → new ≡ c3 ++ laid (length c3)
     → new ≡ old ++ i ∷ j ∷ k ∷ laid (length old + 3)

@@ -126,7 +126,7 @@ pub record IsBuilt (b : BehaviourParts) (order : List ℕ) : Type 0 where
   pub within : (s : ℕ) → is_placed order s ≡ true → s < length b.states
   pub sum : order_length b order ≡ placed_length order b.transitions
   pub once : AreOnce order
-  -- the block of a state that is not complete stands behind those that jump to it
+  -- the block of a passing state follows the blocks that jump to it
   pub behind : (e : Edge) → Member b.transitions e → is_placed order e.target ≡ true → is_complete b e.target ≡ false
       → (is_placed order e.source ≡ true)
       × (start_of b order e.source + block_length b e.source ≤ start_of b order e.target)

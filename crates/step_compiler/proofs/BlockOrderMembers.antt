@@ -8,7 +8,7 @@ use Rattle.std.proofs.lemmas.List.Folds.{list_any_at}
 use Rattle.pals_base.specs.UpwardNumbers.{upwards}
 use Rattle.step_compiler.specs.proof.BlockOrder.{is_placed}
 
--- ---- what is placed
+-- ---- the placed blocks
 placed_by : (t s : ℕ) (order : List ℕ) (here : Bool) → nat_eq t s ≡ here → (here || is_placed order s) ≡ true
     → (is_placed order s ≡ true → Contains order s) → Contains (t ∷ order) s
 placed_by t s order true same is later = (0, omega arith, eqb-true t s same)
@@ -22,7 +22,7 @@ placed_contains (t ∷ order) s is = placed_by t s order (nat_eq t s) refl is (p
 pub contains_placed : (order : List ℕ) (s : ℕ) → Contains order s → is_placed order s ≡ true
 contains_placed order s among = list_any_at (λ t. nat_eq t s) order among.0 s among.1 (eq-eqb _ _ among.2)
 
--- ---- the least number that passes
+-- ---- the smallest number that passes
 least_by : (f : ℕ → Bool) (from n s : ℕ) (here : Bool) → f from ≡ here
     → (if here then Some from else find f (upwards (suc from) n)) ≡ Some s
     → (find f (upwards (suc from) n) ≡ Some s → (t : ℕ) → suc from ≤ t → t < s → f t ≡ false) → (t : ℕ) → from ≤ t

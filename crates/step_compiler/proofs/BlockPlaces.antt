@@ -1,4 +1,4 @@
--- Where the blocks and the dispatch transitions of the compiled code stand.
+-- The places of the blocks and the dispatch transitions in the compiled code.
 use Rattle.std.proofs.Common.{◌≡◌, ◌∙◌, ℕ, ◌+◌, ◌<◌, Bool, true, false, ◌||◌, if◌then◌else◌, List, [], ◌∷◌, ◌++◌}
 use Rattle.std.proofs.Common.{length, Some, refl, sym, ap, subst, arith, append_assoc, length-append, nat_eq, ⊎_elim}
 use Rattle.std.proofs.Common.{◌-◌, ◌≤◌}
@@ -21,7 +21,7 @@ use Rattle.step_compiler.proofs.PlacedCodeLengths.{HasAt, has_front, has_back, e
 use Rattle.step_compiler.proofs.BlockOrderCompleteness.{order_full}
 use Rattle.step_compiler.proofs.BlockOrderInvariant.{AreOnce}
 
--- ---- a list stands at its own beginning
+-- ---- a list is at its own beginning
 get_seam : (a : List Instr) (x : Instr) (xs : List Instr) → slice_get (a ++ x ∷ xs) (length a) ≡ Some x
 get_seam [] x xs = refl
 get_seam (y ∷ a) x xs = get_seam a x xs

@@ -1,4 +1,4 @@
--- The places where blocks begin, as the compiler lists them, stopped at the greatest number.
+-- The places where blocks begin, as the compiler lists them, capped at the maximum number.
 use Rattle.std.proofs.Common.{◌≡◌, ℕ, ◌+◌, ◌<◌, Bool, true, false, if◌then◌else◌, List, [], ◌∷◌, length, map}
 use Rattle.std.proofs.Common.{slice_index_or, refl, arith, nat_eq}
 use Rattle.std.specs.List.{All}

@@ -33,7 +33,7 @@ at p stack slots outs = record { place = p; stack = stack; slots = slots; outs =
 abbrev pub runs : List Instr → StepInputs → ℕ → At → CodeOutcome
 runs whole s n a = run whole s n a.place a.stack a.slots a.outs
 
--- whatever comes of b comes of a
+-- every result of b is a result of a
 pub record Leads (whole : List Instr) (s : StepInputs) (a b : At) : Type 0 where
   pub by : (k : ℕ) → (j : ℕ) × (runs whole s j a ≡ runs whole s k b)
 
@@ -80,7 +80,7 @@ module _ (whole : List Instr) (s : StepInputs) where
         ∙ ap (λ n. then_run n (run whole s 0)) e,
   )
 
-  -- a result comes of what leads to it
+  -- a result follows from the run that leads to it
   pub after : (a b : At) (q : ℕ) (stack : List ℤ) (r : Result ℤ Trap) → b.slots ≡ a.slots → b.outs ≡ a.outs
       → Leads whole s a b → Gives whole s b q stack r → Gives whole s a q stack r
   after a b q stack (Ok v) es eo l g =
@@ -107,7 +107,7 @@ module _ (whole : List Instr) (s : StepInputs) where
       → Gives whole s a q stack r
   ends_at a p q stack r e g = subst (λ x. Gives whole s a x stack r) e g
 
-  -- the right side's code, wherever it stands
+  -- the right side's code, at any place
   abbrev Right : List ℤ → List Value → (ℕ → List Instr) → ℕ → Result ℤ Trap → Type 0
   Right slots outs right n r =
       (p : ℕ) (stack : List ℤ) → HasAt whole p (right p) → Gives whole s (at p stack slots outs) (p + n) stack r

@@ -25,7 +25,7 @@ use Rattle.step_compiler.proofs.BlockPlaces.{start_is}
 use Rattle.step_compiler.specs.proof.LayoutLaws.{HasLayout, LaidOutCodeIsOne, LaidOutCodesAreOne}
 use Rattle.step_compiler.proofs.SoundAndUniqueOrder.{blocks_are_ordered, order_is_one}
 
--- ---- starts count at states alone
+-- ---- only states have starts
 targets : (b : BehaviourParts) (es : List Edge) → list_all (is_edge b) es ≡ true
     → Every (λ (e : Edge). e.target < length b.states) es
 targets b [] all = tt

@@ -10,7 +10,7 @@ use Rattle.step_compiler.specs.ExpressionAndActionInstructions.{code_of, code_ac
 use Rattle.step_compiler.specs.BlockInstructions.{edge_code, block_code}
 use Rattle.step_compiler.specs.proof.BlockLengthsAndStarts.{leaving_among}
 
--- a branch and those behind it
+-- a branch and the branches after it
 pub branches_split : (g : Expression) (as' : Actions) (later : Branches) (n end p : ℕ)
     → code_branches (Where g as' NoBranch) n end p
     ++ code_branches later n end (p + length_branches (Where g as' NoBranch))
@@ -24,7 +24,7 @@ branches_split g as' later n end p =
     ∙ ap (λ xs. code_of g p ++ code.JumpZero q ∷ xs)
     (append_assoc body (code.Jump end ∷ []) (code_branches later n end q))
 
--- a transition that leaves a state, if it does, and those behind it
+-- a transition that leaves a state, if it does, and the transitions after it
 split_by : (b : BehaviourParts) (starts : ℕ → ℕ) (complete : Bool) (e : Edge) (rest : List Edge) (p : ℕ) (t : Bool)
     → block_code b starts complete (if t then e ∷ [] else []) p
     ++ block_code b starts complete rest (p + length_edges (if t then e ∷ [] else []))

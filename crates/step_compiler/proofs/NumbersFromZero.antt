@@ -33,7 +33,7 @@ filter_more f n t is =
     ∙ ap (λ k. filter f (upwards 0 n) ++ filter f (k ∷ [])) (zero-add n)
     ∙ ap (λ xs. filter f (upwards 0 n) ++ xs) (filter_one f n t is)
 
--- ---- what is found
+-- ---- the found element
 found_by : (f : ℕ → Bool) (from n s : ℕ) (t : Bool) → f from ≡ t
     → (if t then Some from else find f (upwards (suc from) n)) ≡ Some s
     → (find f (upwards (suc from) n) ≡ Some s → (f s ≡ true) × (s < suc from + n)) → (f s ≡ true) × (s < from + suc n)

@@ -1,4 +1,4 @@
--- Code that stands at a place, and how long it is.
+-- Code at a place, and its length.
 use Rattle.std.proofs.Common.{◌≡◌, ℕ, ◌+◌, pos, Bool, List, [], ◌∷◌, ◌++◌, length, Some, refl, subst, arith}
 use Rattle.std.proofs.Common.{length-append}
 use Rattle.std.specs.Prelude.{slice_get}
@@ -28,7 +28,7 @@ pub has_front : (whole : List Instr) (p : ℕ) (a b : List Instr) → HasAt whol
 has_front whole p [] b h = tt
 has_front whole p (i ∷ a) b h = (h.0, has_front whole (p + 1) a b h.1)
 
--- what stands behind a stretch of n instructions
+-- the code after a stretch of n instructions
 pub has_back : (whole : List Instr) (p n q : ℕ) (a b : List Instr) → length a ≡ n → p + n ≡ q → HasAt whole p (a ++ b)
     → HasAt whole q b
 has_back whole p n q [] b len e h = let f : p ≡ q = omega arith in subst (λ k. HasAt whole k b) f h

@@ -149,7 +149,7 @@ module _ (b : BehaviourParts) (o p : List ℕ) (is_o : IsBlockOrder b o) (is_p :
   abbrev completes : ℕ
   completes = length (complete_states b)
 
-  -- none stands behind the end of the other
+  -- no state of one order is after the end of the other
   none_more : (x y : List ℕ) → IsBlockOrder b x → IsBlockOrder b y → (k t : ℕ) → completes ≤ k → take k x ≡ take k y
       → slice_get x k ≡ None → slice_get y k ≡ Some t → ⊥
   none_more x y is_x is_y k t past same ended there =

@@ -1,4 +1,4 @@
--- In a sound behaviour, all that expressions, actions and transitions read and write exists.
+-- In a sound behaviour, everything that expressions, actions and transitions read and write exists.
 use Rattle.std.proofs.Common.{◌≡◌, ℕ, ◌+◌, ◌*◌, ◌<◌, ◌≤◌, Bool, true, false, ◌&&◌, ◌||◌, length, Option, Some, None}
 use Rattle.std.proofs.Common.{refl, sym, ap, subst, arith, nat_lt}
 use Rattle.std.specs.Prelude.{slice_get}

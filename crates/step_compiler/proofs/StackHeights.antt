@@ -20,7 +20,7 @@ use Rattle.step_compiler.specs.BlockInstructions.{trigger_code, last_instr, fals
 use Rattle.step_compiler.proofs.PlacedCodeLengths.{HasAt, has_front, has_back, code-length, operand-length, act-length}
 use Rattle.step_compiler.proofs.PlacedCodeLengths.{acts-length, branches-length, trigger-length, edge-length}
 
--- behind a jump stands code for one number fewer, or for none
+-- the code after a jump is for one number fewer, or for none
 abbrev pub next_height : ℕ → Option Instr → ℕ
 next_height h None = h
 next_height h (Some (code.Jump to)) = h - 1
@@ -39,7 +39,7 @@ module _ (whole : List Instr) where
   pub height_at : (p q h : ℕ) → p ≡ q → height whole p ≡ h → height whole q ≡ h
   height_at p q h same at = ap (height whole) (sym same) ∙ at
 
-  -- a part, and one instruction behind it
+  -- a part, and one instruction after it
   one_behind : (p n q h k : ℕ) (c : List Instr) (i : Instr) → HasAt whole p (c ++ i ∷ []) → length c ≡ n → p + n + 1 ≡ q
       → height whole (p + n) ≡ h → next_height h (Some i) ≡ k → height whole q ≡ k
   one_behind p n q h k c i has len place at next =

@@ -63,7 +63,7 @@ module _ (whole : List Instr) (s : StepInputs) (z : Sizes) (b : BehaviourParts) 
   abbrev standing : Frame → List Value → Fired
   standing frame outs = record { frame = frame; outs = outs }
 
-  -- the block of each state that is not complete does what is left of the step
+  -- the block of each passing state does the rest of the step
   abbrev Blocks : ℕ → Type 0
   Blocks m =
       (slots : List ℤ) (outs : List Value) (frame : Frame) → Fits s z z.declared slots outs frame fresh
@@ -127,7 +127,7 @@ module _ (whole : List Instr) (s : StepInputs) (z : Sizes) (b : BehaviourParts) 
       (settled m b fresh (standing next done.outs)) c.leads
       (moved m q (is_complete b e.target) c.slots' done.outs next refl blocks fits' good.settles' good.target here)
 
-  -- a transition that is taken, behind its guard
+  -- a transition that is taken, after its guard
   pub taken : (m p : ℕ) (e : Edge) (slots : List ℤ) (outs : List Value) (frame : Frame) → Blocks m → IsGood b z m e
       → Fits s z z.declared slots outs frame fresh
       → HasAt whole p (code_acts e.actions (length b.vars) p ++ last_instr b starts e.target ∷ [])
@@ -144,7 +144,7 @@ module _ (whole : List Instr) (s : StepInputs) (z : Sizes) (b : BehaviourParts) 
       acted m p q e slots outs frame (acts e.actions frame fresh outs) blocks good fits here
       (acts_run whole s z e.actions z.declared p [] slots outs frame fresh fits good.actions has')
 
-  -- what follows where the first open transition is found
+  -- the code after the first open transition
   abbrev onwards : ℕ → Frame → List Value → Option Edge → Result Fired Trap
   onwards m frame outs e = on_value (along e fresh (standing frame outs)) (λ next. settled m b fresh next)
 

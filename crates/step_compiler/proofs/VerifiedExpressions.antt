@@ -35,7 +35,7 @@ pub record AreFine (c : CodeParts) (p q : ℕ) : Type 0 where
 pub less_not : (a b : ℕ) → a < b → not (nat_lt a b) ≡ false
 less_not a b lt = grind arith
 
--- ---- instructions that go on to the next place alone
+-- ---- instructions that only continue at the next place
 abbrev pub is_plain : Instr → Bool
 is_plain (code.Jump to) = false
 is_plain (code.JumpZero to) = false

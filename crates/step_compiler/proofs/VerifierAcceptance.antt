@@ -1,4 +1,4 @@
--- The verifier accepts the compiled code, so that only want of memory can refuse it.
+-- The verifier accepts the compiled code, so that it can fail only if memory runs out.
 use Rattle.std.proofs.Common.{◌≡◌, ◌∙◌, inl, inr, ⊎_elim, ℕ, zero, suc, ◌+◌, ◌-◌, ◌<◌, ◌≤◌, Bool, true, false, ◌&&◌}
 use Rattle.std.proofs.Common.{◌||◌, not, if◌then◌else◌, List, [], ◌∷◌, ◌++◌, length, map, Option, Some, None, refl, sym}
 use Rattle.std.proofs.Common.{ap, subst, arith, nat_lt, nat_eq}

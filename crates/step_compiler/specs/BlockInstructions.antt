@@ -18,7 +18,7 @@ trigger_code (When e) to p = code_of e p ++ code.JumpZero to ∷ []
 abbrev pub last_instr : BehaviourParts → (ℕ → ℕ) → ℕ → Instr
 last_instr b starts target = if is_complete b target then code.End target else code.Jump (starts target)
 
--- where a guard that is not true leads: behind the transition, or, where it is never taken, to its last instruction
+-- the target of a guard that is not true: after the transition, or, if it is never taken, its last instruction
 abbrev pub false_guard_target : Bool → Edge → ℕ → ℕ
 false_guard_target complete e p = if complete then p + length_edge e - 1 else p + length_edge e
 
@@ -48,7 +48,7 @@ blocks_code b starts (s ∷ order) p =
     block_code b starts (is_complete b s) (leaving b s) p ++ blocks_code b starts order (p + block_length b s)
 
 -- ---- entries
--- how long the transitions are that stand before the one at the dispatch
+-- the length of the transitions before the one at the dispatch
 abbrev pub dispatch_offset : List Edge → ℕ
 dispatch_offset [] = 0
 dispatch_offset (e ∷ es) = if is_dispatch e.trigger then 0 else length_edge e + dispatch_offset es

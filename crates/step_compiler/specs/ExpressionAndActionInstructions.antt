@@ -30,7 +30,7 @@ operator op.Xor = code.Xor
 operator op.AndThen = code.And
 operator op.OrElse = code.Or
 
--- an operator and its right side of n instructions, behind the left value
+-- an operator and its right side of n instructions, after the left value
 abbrev pub operand_code : Op → ℕ → (ℕ → List Instr) → ℕ → List Instr
 operand_code op.AndThen n right p =
     code.JumpZero (p + n + 2) ∷ (right (p + 1) ++ (code.Jump (p + n + 3) ∷ code.Push (pos 0) ∷ []))
@@ -54,11 +54,11 @@ abbrev mutual
   code_rest (Then op e rest) p =
       operand_code op (length_of e) (code_of e) p ++ code_rest rest (p + operand_length op (length_of e))
 
--- the later operand of a chain behind the value of what stands left of it
+-- the later operand of a chain, after the value of the operands to its left
 abbrev pub operand_of : Op → Expression → ℕ → List Instr
 operand_of o e p = operand_code o (length_of e) (code_of e) p
 
--- ---- actions, where n variables are in sight, those of the loops round the place too
+-- ---- actions, with n variables in scope, including the variables of the surrounding loops
 abbrev mutual
   pub code_act : Action → ℕ → ℕ → List Instr
   code_act (Assign x e) n p = code_of e p ++ code.Store x ∷ []

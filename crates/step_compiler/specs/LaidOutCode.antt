@@ -11,7 +11,7 @@ use Rattle.pals_base.specs.SingleStep.{is_complete}
 use Rattle.pals_base.specs.UpwardNumbers.{upwards}
 
 -- ---- the order of blocks
--- the block of a state may stand next: it is not placed, and all that jump to it are
+-- the block of a state may be next: it is not placed, and every block that jumps to it is
 pub record MayFollow (b : BehaviourParts) (placed : List ℕ) (state : ℕ) : Type 0 where
   pub is_state : state < length b.states
   pub new : ¬ Contains placed state
@@ -28,8 +28,8 @@ states_of b = upwards 0 (length b.states)
 abbrev pub complete_states : BehaviourParts → List ℕ
 complete_states b = filter (is_complete b) (states_of b)
 
--- the complete states stand first, in their order; then each is the next behind those before it; and
--- each state stands somewhere
+-- the complete states come first, in their order; then each state is the next one after the states before it; and each
+-- state is somewhere
 pub record IsBlockOrder (b : BehaviourParts) (order : List ℕ) : Type 0 where
   pub complete : take (length (complete_states b)) order ≡ complete_states b
   pub others : (k state : ℕ) → length (complete_states b) ≤ k → slice_get order k ≡ Some state →
@@ -37,8 +37,7 @@ pub record IsBlockOrder (b : BehaviourParts) (order : List ℕ) : Type 0 where
   pub all : (state : ℕ) → state < length b.states → Contains order state
 
 -- ---- the code
--- the blocks stand one behind the other in that order, from 0 on; a complete state is entered at its dispatch
--- transition
+-- the blocks follow one another in that order, from 0 on; a complete state is entered at its dispatch transition
 pub record IsLaidOut (b : BehaviourParts) (code : CodeParts) : Type 0 where
   pub order : List ℕ
   pub is_order : IsBlockOrder b order

@@ -11,8 +11,8 @@ use crate::expressions::push_expr;
 use pals_base::{Act, Branch, ItemList, NoMemory};
 use step_code::Instr;
 
-/// Adds the instructions of actions, where `variables` variables are in sight, those of the loops
-/// round the place among them. It recurs as deep as the tree is, and counts each part again at each
+/// Appends the instructions of actions, with `variables` variables in scope, including the variables of the
+/// surrounding loops. The recursion is as deep as the tree, and counts each part again at each
 /// level above it.
 #[cycle(push_act)]
 pub fn push_acts(code: &mut ItemList<Instr>, acts: &[Act], variables: u32) -> Result<(), NoMemory>

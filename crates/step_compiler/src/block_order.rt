@@ -9,9 +9,9 @@ use crate::transitions::is_complete;
 use pals_base::{Behaviour, NoMemory, Transition};
 use std::alloc::Global;
 
-/// All states, the complete ones first, and then the others, each behind all that jump to its
-/// block. Once for each state it looks at all transitions, and at each pair of states: with 64
-/// states that is at most 64 looks at each transition.
+/// All states, the complete ones first, and then the others, each after every state that jumps to its
+/// block. For each state it reads all transitions and each pair of states: with 64 states, each transition
+/// at most 64 times.
 #[tactic(auto, using(crate::proofs::BlockOrderTurns::next_turn))]
 pub fn block_order(alloc: Global, behaviour: &Behaviour) -> Result<Vec<usize>, NoMemory>
     ensures { IfOk result (λ order. order.items ≡ block_order behaviour.now) }

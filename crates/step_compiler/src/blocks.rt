@@ -1,4 +1,4 @@
-//! The blocks of states, one behind the other.
+//! The blocks of states, one after the other.
 ghost use Rattle.std.specs.Prelude.{◌≡◌, ◌<◌, [], ◌∷◌, filter, map, nat_eq, length, IfOk, OnOk};
 ghost use Rattle.std.specs.List.{All};
 ghost use Rattle.step_code.specs.CappedWeights.{capped};
@@ -57,7 +57,7 @@ fn block_length(transitions: &[Transition], state: usize) -> u64
     length
 }
 
-// The place at which the block of a state begins: behind those before it in the order.
+// The place at which the block of a state begins: after the blocks before it in the order.
 fn start_in(lengths: &[u64], order: &[usize], state: usize) -> u64
     ensures { result ≡ capped (start_in lengths.now order.now state) }
 {
@@ -100,7 +100,7 @@ fn entry_of(behaviour: &Behaviour, starts: &[u32], state: usize) -> Result<Optio
     Ok(Some(place))
 }
 
-// How long the transitions of a state are that stand before the one at the dispatch.
+// The length of the transitions of a state before the one at the dispatch.
 fn dispatch_offset(transitions: &[Transition], state: usize) -> u64
     ensures { result ≡ capped (dispatch_offset (filter (λ e. nat_eq e.source state) transitions.now)) }
 {

@@ -17,7 +17,7 @@ pub fn count(things: usize) -> Result<u32, NoMemory>
     }
 }
 
-/// The place `length` instructions behind another.
+/// The place `length` instructions after another.
 pub fn place_behind(place: usize, length: u64) -> Result<u32, NoMemory>
     ensures { (n : ℕ) → length ≡ capped n → IfOk result (λ to. to ≡ place + n) }
 {

@@ -1,5 +1,5 @@
-//! How many instructions the parts of a behaviour take, stopped at u64's greatest value. Each
-//! function recurs as deep as its tree is.
+//! The number of instructions of the parts of a behaviour, capped at u64's maximum. The recursion of
+//! each function is as deep as its tree.
 ghost use Rattle.std.specs.Prelude.{◌≡◌};
 ghost use Rattle.pals_base.specs.proof.TreeViews.{tree_of, operands_along, action_of, actions_along, branches_along};
 ghost use Rattle.pals_base.specs.proof.TreeViews.{trigger_of};

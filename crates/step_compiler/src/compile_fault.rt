@@ -6,8 +6,8 @@ use thiserror::Error;
 /// Why a behaviour is not compiled.
 #[derive(Clone, Copy, Debug, Error)]
 pub enum CompileFault {
-    /// Its code has more instructions than a component may have. The length is stopped at u64's
-    /// greatest value.
+    /// Its code has more instructions than a component may have. The length is capped at u64's
+    /// maximum.
     #[error("CodeTooLong")]
     CodeTooLong { length: u64 },
     /// There was not enough memory, for code that is not too long.

@@ -1,4 +1,4 @@
-//! The compiler from behaviours to step code: no node can tell the code from the behaviour.
+//! The compiler from behaviours to step code: the code computes the same step as the behaviour.
 #![tactic(auto)]
 
 mod actions;

@@ -43,8 +43,8 @@ pub fn push_transition(
     code.push(last_instr(behaviour, starts, transition.target))
 }
 
-// Where a guard that is not true leads: behind the transition, or to its last instruction in a
-// complete state, of which no step takes a guarded transition and behind which nothing may stand.
+// The target of a guard that is not true: after the transition, or its last instruction in a complete
+// state, in which no step takes a guarded transition and after which there may be no instruction.
 fn false_guard_target(
     place: usize,
     transition: &Transition,

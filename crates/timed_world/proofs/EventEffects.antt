@@ -1,4 +1,4 @@
--- What an event without a fault leaves of a world: the world after it, which keeps what every world keeps.
+-- The effect of an event without a fault on a world: the world after it, which satisfies the invariant of worlds.
 use Rattle.std.proofs.Common.{◌≡◌, ℕ, ◌<◌, ◌≤◌, true, false, List, [], ◌∷◌, ◌++◌, length, Option, Some, None, refl, ap}
 use Rattle.std.proofs.Common.{ap₂, ◌∙◌, sym, subst, arith}
 use Rattle.std.specs.Prelude.{Bool, slice_index_or, slice_set}
@@ -23,14 +23,14 @@ use Rattle.run_laws.proofs.WorldInvariantAfterStarts.{start_is}
 use Rattle.run_laws.proofs.KeptWorldInvariant.{event_keeps_time}
 use Rattle.timed_world.specs.proof.WorldValuesAndMoves.{WorldValue, world_of, KeepsWorld, BusMoves, Moves}
 
--- ---- what is kept
+-- ---- the invariant
 others_stay : (old : BusValue) (what : Option BusEvent) (new : BusValue) → BusMoves old what new
     → new ≡ record old { state = new.state; journal = new.journal }
 others_stay old None new same =
     subst (λ (b : BusValue). b ≡ record old { state = b.state; journal = b.journal }) (sym same) refl
 others_stay old (Some e) new happens = happens.others
 
--- an event changes the state and the journal of the bus alone
+-- an event changes only the state and the journal of the bus
 pub bus_stays : (old : WorldValue) (e : Event) (new : WorldValue) → Moves old e new
     → new.bus ≡ record old.bus { state = new.bus.state; journal = new.bus.journal }
 bus_stays old e new moves = others_stay old.bus (bus_event (world_of old) e) new.bus moves.bus
@@ -38,7 +38,7 @@ bus_stays old e new moves = others_stay old.bus (bus_event (world_of old) e) new
 abbrev pub HasNoFault : WorldValue → Event → Type 0
 HasNoFault v e = fault_of v.bus.run (world_of v) e ≡ None
 
--- an event without a fault keeps what every world keeps
+-- an event without a fault preserves the invariant of worlds
 pub moves_keep : (old : WorldValue) (e : Event) (new : WorldValue) → KeepsWorld old → HasNoFault old e → Moves old e new
     → KeepsWorld new
 moves_keep old e new keeps fine moves =
@@ -54,12 +54,12 @@ moves_keep old e new keeps fine moves =
       keeps = subst (λ (r : Run). KeepsTime r (world_of new)) (sym same) left;
     }
 
--- ---- each event, by what its calls leave
+-- ---- each event, by the effect of its calls
 -- the reading that a node's clock shows
 abbrev pub Reads : WorldValue → NodeNo → ℕ → Type 0
 Reads old node reading = reading ≡ reading_at (world_of old) node.0
 
--- it stands at the node's place in the list of readings
+-- it is at the node's index in the list of readings
 pub reads : (v : WorldValue) (node : NodeNo) (reading : ℕ) → KeepsWorld v → node.0 < length v.bus.run.design.components
     → reading ≡ slice_index_or v.readings node.0 reading → Reads v node reading
 reads v node reading keeps within is =

@@ -17,7 +17,7 @@ or_past o rest is = ap (λ (x : Option EventFault). or_else x rest) is
 or_found : (o rest : Option EventFault) (why : EventFault) → o ≡ Some why → or_else o rest ≡ Some why
 or_found o rest why is = ap (λ (x : Option EventFault). or_else x rest) is
 
--- a row that has come to one of its faults goes past it, or has found it
+-- a row after one of its faults has passed it, or has found it
 pub goes_past : (row o rest : Option EventFault) → row ≡ or_else o rest → o ≡ None → row ≡ rest
 goes_past row o rest at none = at ∙ or_past o rest none
 
@@ -38,7 +38,7 @@ within_found a b why most = ap (λ (t : Bool). found_if t why) (le-leb a b most)
 pub within_past : (a b : ℕ) (why : EventFault) → b < a → found_if (nat_le a b) why ≡ None
 within_past a b why less = ap (λ (t : Bool). found_if t why) (lt-leb a b less)
 
--- ---- what is left of a row
+-- ---- the rest of a row
 -- readings, from an index on
 abbrev pub readings_left : (Reading → Option EventFault) → List ℕ → ℕ → Option EventFault
 readings_left f readings index = first_of (map f (enumerate_from index (drop index readings)))

@@ -52,7 +52,7 @@ module _ (run : Run) (w : World) (rules : IsRunOf run) (few : run.rounds ≤ ROU
       (λ last same. (times_are_readings run w rules few keeps).nodes node last within same) in
       omega arith
 
-  -- what the bus says of the node's phase
+  -- the node's phase on the bus
   abbrev Agreed : Phase → Type 0
   Agreed p = PhaseAgrees run node (component_at run.design node) (node_at w.bus node) p
 
@@ -68,7 +68,7 @@ module _ (run : Run) (w : World) (rules : IsRunOf run) (few : run.rounds ≤ ROU
         running = λ step is. record { within = (agreed (Running step) is).within; since = since_small step is };
       }
 
--- so is whatever has its count, its phase, and the moment since which it stands so
+-- so is every state with its count, its phase, and the time since which it is in the phase
 pub sound_again : (v : WorldValue) (node : ℕ) (s : NodeStanding) → KeepsWorld v
     → node < length v.bus.run.design.components
     → s.count ≡ (node_at v.bus.state node).count → s.phase ≡ (node_at v.bus.state node).phase

@@ -24,7 +24,7 @@ one_within : (delay most : ℕ) → delay ≤ most → All (λ d. d ≤ most) (d
 one_within delay most small zero d below = small
 one_within delay most small (suc k) d below = absurd (omega arith)
 
--- the least delay on each link
+-- the minimum delay on each link
 abbrev pub least_delays : DesignParts → Delays
 least_delays design = record { lists = map (λ (_ : Link). design.gamma.mu_min ∷ []) design.links }
 
@@ -52,7 +52,7 @@ opening_kept design codes env rounds rules some few =
 abbrev pub no_sendings : DesignParts → List (List ℕ)
 no_sendings design = map (λ (_ : Component). []) design.components
 
--- a world is told by its parts
+-- a world is determined by its parts
 pub same_world : (old : WorldValue) (bus : BusValue) (time : ℕ) (readings since ready : List ℕ)
     (sent_at : List (List ℕ)) → bus ≡ old.bus → time ≡ old.time
     → readings ≡ old.readings → since ≡ old.since → ready ≡ old.ready → sent_at ≡ old.sent_at

@@ -1,4 +1,4 @@
--- An event without a fault is refused by a bus for want of memory alone.
+-- A bus rejects an event without a fault only if memory runs out.
 use Rattle.std.proofs.Common.{◌≡◌, ◌≢◌, inl, inr, ℕ, ◌≤◌, Some, None, refl, ap, ◌∙◌, sym, subst}
 use Rattle.std.specs.Prelude.{unwrap_or}
 use Rattle.std.proofs.lemmas.Bool.{false≢true, le-ltb}
@@ -34,14 +34,14 @@ use Rattle.run_laws.proofs.KeptWorldInvariant.{event_keeps_time}
 use Rattle.timed_world.specs.proof.WorldValuesAndMoves.{WorldValue, world_of, KeepsWorld}
 use Rattle.timed_world.proofs.EventEffects.{HasNoFault, Reads}
 
--- no stop stands after a start
+-- the run has no stop after a start
 start_goes : (old : WorldValue) (node : NodeNo) (new : BusState) → KeepsWorld old → HasNoFault old (event.Start node)
     → new ≡ after old.bus.run old.bus.state (Start node (Some (reading_at (world_of old) node.0))) → new.stop ≡ None
 start_goes old node new keeps fine is =
     ap (λ (s : BusState). s.stop) is
     ∙ (event_keeps_time old.bus.run (world_of old) (event.Start node) keeps.rules keeps.keeps fine).going
 
--- a start is refused for memory alone, and then the bus is as before
+-- a start is rejected only if memory runs out, and then the bus is as before
 start_ends : (old : WorldValue) (node : NodeNo) (new : BusValue) (end : BusError StartEnd) → KeepsWorld old
     → HasNoFault old (event.Start node)
     → BusStartEnds old.bus node (Some (reading_at (world_of old) node.0)) new end
@@ -71,7 +71,7 @@ pub start_only : (old : WorldValue) (node : NodeNo) (reading : ℕ) (new : BusVa
 start_only old node reading new end keeps fine reads cause =
     start_ends old node new end keeps fine (subst (λ at. BusStartEnds old.bus node (Some at) new end) reads cause)
 
--- a step is refused for memory alone
+-- a step is rejected only if memory runs out
 step_ends : (old : WorldValue) (node : NodeNo) (end : BusError StepEnd) → KeepsWorld old
     → HasNoFault old (event.Step node)
     → BusStepEnds old.bus node (Some (reading_at (world_of old) node.0)) end → end ≡ fault.Refused step.Memory
@@ -96,7 +96,7 @@ pub step_only : (old : WorldValue) (node : NodeNo) (reading : ℕ) (end : BusErr
 step_only old node reading end keeps fine reads cause =
     step_ends old node end keeps fine (subst (λ at. BusStepEnds old.bus node (Some at) end) reads cause)
 
--- an arrival is refused for memory alone
+-- an arrival is rejected only if memory runs out
 pub arrival_only : (old : WorldValue) (link : LinkNo) (round : ℕ) (end : BusError MessageError) → KeepsWorld old
     → HasNoFault old (event.Arrive link round) → LinkEnds old.bus link round end → end ≡ fault.Refused message.Memory
 arrival_only old link round (fault.Stopped why) keeps fine cause =

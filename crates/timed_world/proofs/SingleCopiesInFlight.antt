@@ -1,5 +1,5 @@
 -- At most one copy is in flight on a link, of the last round that its target has started or of the next one; so a
--- message past its deadline is of one of these two.
+-- message past its deadline belongs to one of these two.
 use Rattle.std.proofs.Common.{◌≡◌, ◌⊎◌, inl, inr, ℕ, suc, ◌+◌, ◌-◌, ◌<◌, ◌≤◌, Bool, true, cond, List, [], ◌∷◌, length}
 use Rattle.std.proofs.Common.{Option, Some, None, refl, ap, sym, subst, arith, map, ◌∙◌}
 use Rattle.std.proofs.lemmas.Bool.{cases_order, cases_lt, eq-eqb, cases_eq, ne_eqb}
@@ -150,7 +150,7 @@ module _ (run : Run) (w : World) (rules : IsRunOf run) (keeps : KeepsTime run w)
         ]
       ]
 
-  -- so of two rounds that may be past their deadlines the first tells, or the other
+  -- so of two rounds that may be past their deadlines the first decides, or the other
   module _ (time : ℕ) where
     abbrev flying_of : Bool → ℕ → Option EventFault
     flying_of b round =
@@ -210,7 +210,7 @@ module _ (run : Run) (w : World) (rules : IsRunOf run) (keeps : KeepsTime run w)
           subst Same (sym one.1) (with_one c (near c.round flies))
     ]
 
-    -- of the two rounds the first is past its time, or the other tells
+    -- of the two rounds the first is past its time, or the other decides
     pub first_is_past : (before : ℕ) (why : EventFault) → before ≡ count - 1
         → flying_past run w time number before ≡ Some why
         → Some why ≡ link_past run w time number

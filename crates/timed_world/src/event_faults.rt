@@ -10,7 +10,7 @@ use pals_base::{LinkNo, NodeNo};
 use pals_runs::{Event, EventFault, EventSubject};
 
 impl World {
-    /// The first row of the table of faults that fits an event, or none.
+    /// The first row of the table of faults that applies to an event, or `None`.
     pub(crate) fn fault(&self, event: &Event) -> Option<EventFault>
         ensures { result ≡ fault_of self.now.bus.run (world_of self.now) event.now }
     {

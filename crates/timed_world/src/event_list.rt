@@ -13,13 +13,13 @@ use std::alloc::AllocError;
 pub enum WorldEnd {
     /// Each event happened.
     All,
-    /// The event of this index, from 0, has this fault, which is not `Memory`. Those after it are not
-    /// looked at.
+    /// The event of this index, from 0, has this fault, which is not `Memory`. The events after it are
+    /// ignored.
     At { index: u32, fault: EventFault },
 }
 
-/// Does the events in order, up to the first that has a fault. If there is not enough memory, the
-/// world stands after a first part of them, which all happened.
+/// Executes the events in order, up to the first that has a fault. If memory runs out, the world is the one
+/// after a prefix of them, which all happened.
 pub fn run_list(world: &mut World, events: &[Event]) -> Result<WorldEnd, NoMemory>
     requires few { length events.now ≤ LIST_ITEMS }
     ensures ok { IfOk result (λ end. ListEnds world.old events.now end world.new) }

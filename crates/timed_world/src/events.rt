@@ -17,8 +17,8 @@ use pals_runs::{Event, EventFault};
 use std::alloc::AllocError;
 
 impl World {
-    /// Does an event if it has no fault, and else says the first row of the table of faults that
-    /// fits. An error leaves the world as it was.
+    /// Executes an event if it has no fault; otherwise returns the first row of the table of faults that
+    /// applies. An error leaves the world unchanged.
     pub fn apply(&mut self, event: &Event) -> Result<(), EventFault>
         ensures fine { OnOk result (fault_of self.old.bus.run (world_of self.old) event.now ≡ None) }
         ensures moves { OnOk result (Moves self.old event.now self.new) }
@@ -56,7 +56,7 @@ impl World {
         }
     }
 
-    // Time goes on. It takes no memory.
+    // Time passes. Does not allocate.
     fn pass(&mut self, time: Nanos, readings: &[Nanos])
         requires fine { fault_of self.old.bus.run (world_of self.old) (event.Pass time readings.now) ≡ None }
         ensures { Moves self.old (event.Pass time readings.now) self.new }
@@ -65,7 +65,7 @@ impl World {
         self.readings.copy_from_slice(readings);
     }
 
-    // A node starts its next round. The job of its first step is let go, and a finish runs it.
+    // A node starts its next round. The job of its first step is dropped, and a finish runs it.
     fn start(&mut self, node: NodeNo) -> Result<(), NoMemory>
         requires fine { fault_of self.old.bus.run (world_of self.old) (event.Start node) ≡ None }
         ensures ok { OnOk result (Moves self.old (event.Start node) self.new) }
@@ -79,7 +79,7 @@ impl World {
         Ok(())
     }
 
-    // A node starts its next step of the round. Its job is let go too.
+    // A node starts its next step of the round. Its job is dropped too.
     fn step(&mut self, node: NodeNo) -> Result<(), NoMemory>
         requires fine { fault_of self.old.bus.run (world_of self.old) (event.Step node) ≡ None }
         ensures ok { OnOk result (Moves self.old (event.Step node) self.new) }
@@ -93,7 +93,7 @@ impl World {
         Ok(())
     }
 
-    // A node finishes the step that is out. It takes no memory.
+    // A node finishes its outstanding step. Does not allocate.
     fn finish(&mut self, node: NodeNo)
         requires fine { fault_of self.old.bus.run (world_of self.old) (event.Finish node) ≡ None }
         ensures { Moves self.old (event.Finish node) self.new }
@@ -140,7 +140,7 @@ impl World {
     }
 }
 
-// Adds a time to those of a node. If there is not enough memory, nothing changes.
+// Appends a time to the times of a node. If memory runs out, nothing changes.
 fn add_moment(
     moments: &mut ItemList<ItemList<Nanos>>,
     at: usize,

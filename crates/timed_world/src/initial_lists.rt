@@ -1,4 +1,4 @@
-//! What a world begins with: the least delay on each link, and for each node the time 0 and no times of sends.
+//! The initial lists of a world: the minimum delay on each link, and for each node the time 0 and no times of sends.
 ghost use Rattle.std.specs.Prelude.{◌≡◌, IfOk, [], ◌∷◌, length, map};
 ghost use Rattle.pals_model.specs.Delays.{AreDelays};
 ghost use Rattle.pals_model.specs.DesignRules.{IsDesign};

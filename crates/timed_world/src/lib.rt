@@ -1,5 +1,5 @@
-//! A timed world: a run of a design with the time and the readings of its clocks. It takes the events
-//! that its bounds allow, and says why it refuses another. No stop ever stands on its bus.
+//! A timed world: a run of a design with the time and the readings of its clocks. It executes the events
+//! that its bounds allow, and reports why it rejects another. Its bus never has a stop.
 #![tactic(auto)]
 
 mod event_faults;

@@ -1,4 +1,4 @@
-//! The standing of a node: where it stands in its rounds, which events that forbids, and the last time that it
+//! The progress of a node in its rounds, which events it forbids, and the last time that it
 //! allows.
 ghost use Rattle.std.specs.Prelude.{◌≡◌, ◌<◌, ◌≤◌, nat_lt};
 ghost use Rattle.pals_base.specs.declared.limits.TheConstants.{HOUR};
@@ -15,9 +15,9 @@ use pals_base::{Gamma, Nanos, NodeNo};
 use pals_runs::{EventFault, EventSubject, Phase};
 use round_timer::{alarm, step_alarm};
 
-/// Where a node of a world stands: how many rounds it has started, what it is doing, whether the last
-/// round is sent, the reading of its clock, since when it stands so, and since when the steps that are
-/// sent are finished. Readings and times are nanoseconds.
+/// The progress of a node of a world: how many rounds it has started, its phase, whether the last
+/// round is sent, the reading of its clock, the time since which it is in its phase, and the time since
+/// which the steps that are sent are finished. Readings and times are nanoseconds.
 #[derive(Drop)]
 pub struct NodeStanding {
     pub count: u32,
@@ -93,7 +93,7 @@ impl NodeStanding {
         not_due(plan.node, self.release_of(plan), self.reading)
     }
 
-    /// The last time at which it may stand so, or none.
+    /// The last time at which it may be in its phase, or `None`.
     pub fn last_time(&self, plan: &Plan, gamma: &Gamma) -> Option<u128>
         requires plan { IsPlan plan.now }
         requires sound { IsSound plan.now self.now }
@@ -124,7 +124,7 @@ impl NodeStanding {
         }
     }
 
-    // The last time by what it is doing.
+    // The last time by its phase.
     fn phase_last(&self, plan: &Plan, gamma: &Gamma) -> Option<u128>
         requires plan { IsPlan plan.now }
         requires sound { IsSound plan.now self.now }
@@ -138,7 +138,7 @@ impl NodeStanding {
         }
     }
 
-    // The last time by what it has to send.
+    // The last time by its next send.
     fn send_last(&self, plan: &Plan, gamma: &Gamma) -> Option<u128>
         requires plan { IsPlan plan.now }
         requires sound { IsSound plan.now self.now }

@@ -1,4 +1,4 @@
-//! Why a world refuses that time goes on.
+//! Why a world rejects that time passes.
 ghost use Rattle.std.specs.Prelude.{◌≡◌, ◌<◌, length, map};
 ghost use Rattle.std.specs.List.{enumerate_from};
 ghost use Rattle.pals_base.specs.UpwardNumbers.{upwards};

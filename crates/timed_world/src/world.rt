@@ -1,4 +1,4 @@
-//! A world, and what it shows.
+//! A world and its observers.
 ghost use Rattle.std.specs.Prelude.{◌≡◌, ◌<◌, ◌≤◌, length, slice_index_or, IfOk};
 ghost use Rattle.std.specs.Arc.{arc_value};
 ghost use Rattle.pals_base.specs.declared.limits.TheConstants.{COMPONENTS, LINKS, ROUNDS};
@@ -23,9 +23,9 @@ use std::sync::Arc;
 use step_code::Code;
 
 /// A run with the time and the reading of each node's clock, within the bounds of its design. For each
-/// node it has the time since which the node stands as it does, the time since which the steps of its
+/// node it has the time since which the node is in its phase, the time since which the steps of its
 /// round that are sent are finished, and the times at which it sent its rounds. All times and readings
-/// are nanoseconds. No stop ever stands on its bus.
+/// are nanoseconds. Its bus never has a stop.
 #[derive(Drop)]
 pub struct World {
     pub(crate) bus: Bus,
@@ -102,8 +102,8 @@ impl World {
         &self.bus
     }
 
-    /// What every world keeps: no stop stands, the bus agrees with the composition, and all times are
-    /// within the bounds.
+    /// The invariant of every world: the run has no stop, the bus agrees with the composition, and all times
+    /// are within the bounds.
     pub fn kept(&self)
         ensures time { KeepsTime self.now.bus.run (world_of self.now) }
         ensures run { IsRunOf self.now.bus.run }
@@ -137,7 +137,7 @@ impl World {
         self.bus.plan(node)
     }
 
-    /// Where a node stands.
+    /// The progress of a node.
     pub(crate) fn standing(&self, node: NodeNo) -> NodeStanding
         requires { node.0 < length self.now.bus.run.design.components }
         ensures value { result ≡ standing_of (world_of self.now) node.0 }

@@ -1,5 +1,5 @@
--- Where faults are outvoted, replicas, messages and root out ports are those of the composition; and so they are
--- without replicas.
+-- If faults are outvoted, replicas, messages and root out ports are the composition's; and so they are without
+-- replicas.
 use Rattle.std.proofs.Common.{◌≡◌, ◌∙◌, ℕ, zero, suc, ◌<◌, Bool, false, if◌then◌else◌, List, [], ◌∷◌, length, map, None}
 use Rattle.std.proofs.Common.{Some, slice_get, slice_index_or, sym, ap, ap₂, arith, true≢false}
 use Rattle.std.proofs.lemmas.List.{length-map}

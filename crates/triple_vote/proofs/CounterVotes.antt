@@ -26,7 +26,7 @@ pub two_liars_text : TwoLiarsText
 unfolding digits fire voted_composition voted_tap
 two_liars_text = refl
 
--- ---- such a fault is one of those that the laws allow
+-- ---- such a fault is one that the laws allow
 in_one : (x f : VoteFault) (k : ℕ) → k < 1 → slice_index_or (x ∷ []) k f ≡ f → x ≡ f
 in_one x f zero within is = is
 in_one x f (suc k) within is = absurd (omega arith)

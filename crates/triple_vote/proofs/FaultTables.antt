@@ -1,5 +1,5 @@
 -- The table of first faults, filled from the last fault of the list to the first: each place holds the first fault
--- there, which is what is sent to a reader. For the claim of `first_faults`.
+-- there, which is sent to a reader. For the claim of `first_faults`.
 use Rattle.std.proofs.Common.{◌≡◌, ◌≢◌, ◌∙◌, ℕ, suc, ◌+◌, ◌-◌, ◌*◌, ◌<◌, ◌≤◌, nat_eq, nat_lt, ◌&&◌, Bool, true, false}
 use Rattle.std.proofs.Common.{cond, if◌then◌else◌, List, [], ◌∷◌, length, set, drop, replicate, find, Option, None}
 use Rattle.std.proofs.Common.{Some, slice_get, slice_index_or, refl, sym, subst, ap, ap₂, inl, inr, arith, add-one}
@@ -143,7 +143,7 @@ module _ (faults : List VoteFault) (links : ℕ) (places after : List (Option �
   fault_is : slice_get faults (at - 1) ≡ Some f
   fault_is = slice_get-get_or faults (at - 1) f at_within ∙ ap Some (sym is)
 
-  -- what is found from there on
+  -- the fault that is found from there on
   found_from : (test : VoteFault → Bool) (b : Bool) → test f ≡ b
       → find test (drop (at - 1) faults) ≡ cond b (Some f) (find test (drop at faults))
   found_from test b passes = ap (find test) rest_is ∙ ap (λ c. cond c (Some f) (find test (drop at faults))) passes
@@ -187,7 +187,7 @@ module _ (faults : List VoteFault) (links : ℕ) (places after : List (Option �
   pub filled_put : IsFilled faults links after (at - 1)
   filled_put = subst (λ table. IsFilled faults links table (at - 1)) (sym put) (filled_by (is_placed links f) refl)
 
--- ---- before the first of them, and behind the last
+-- ---- before the first of them, and after the last
 pub filled_none : (faults : List VoteFault) (links at : ℕ) (places : List (Option ℕ)) → length faults ≤ at
     → places ≡ replicate (links * 9 + 4) None
     → IsFilled faults links places at
@@ -213,7 +213,7 @@ first_of_none faults links places none is l link replica target below within =
     ap (λ table. fault_at faults (slice_index_or table (place l (suc replica) (suc target)) None)) is
     ∙ sym (ap (find (is_fault l (suc replica) (suc target))) none)
 
--- ---- what is sent to a reader
+-- ---- the values that a reader receives
 pub sent_first : (faults : List VoteFault) (places : List (Option ℕ)) (l replica target at k : ℕ)
     (own x : List PortValue) → AreFirstOn faults l places → replica < 3 → at < 3
     → target ≡ at + 1 → k ≡ place l (suc replica) target

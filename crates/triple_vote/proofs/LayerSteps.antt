@@ -1,4 +1,4 @@
--- The components that a layer has have made their steps, up to one more: what their frames and rows are.
+-- The first components of a layer have completed their steps: their frames and rows, and one more component.
 use Rattle.std.proofs.Common.{◌≡◌, ◌∙◌, ℕ, ◌+◌, ◌<◌, ◌≤◌, inl, inr, Bool, true, false, List, [], length, map, set}
 use Rattle.std.proofs.Common.{slice_get, slice_index_or, Some, sym, ap, ap₂, arith, eq-or-lt_of_le}
 use Rattle.std.proofs.lemmas.Bool.{false≢true}
@@ -27,7 +27,7 @@ use Rattle.triple_vote.specs.proof.ReplicaLayers.{frame_sizes, has_replica, fram
 abbrev rows_of : List Stage → List (List (List PortValue))
 rows_of stages = map (λ (s : Stage). s.rows) stages
 
--- the components before a place that are there have made their steps
+-- the existing components before a place have completed their steps
 abbrev pub RunTo : DesignParts → List PortValue → List (List PortValue) → List Bool → List Frame → List Part
     → List Stage → ℕ → Type 0
 RunTo design values received_messages there frames next stages at =

@@ -1,4 +1,4 @@
--- A layer's messages and shown tuples are those of its components' steps.
+-- A layer's messages and shown tuples are the results of its components' steps.
 use Rattle.std.proofs.Common.{◌≡◌, ◌∙◌, ℕ, inl, inr, true, List, length, map, slice_get, Some, sym, ap, ap₂, arith}
 use Rattle.std.proofs.lemmas.List.{length-map}
 use Rattle.std.proofs.lemmas.Option.{slice_get_cases, slice_get_within}

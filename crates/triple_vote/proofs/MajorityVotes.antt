@@ -1,4 +1,4 @@
--- In a vote of three, a value that two agree on wins, and nothing does where all differ.
+-- In a vote of three, a value that two agree on wins; if all differ, the result is absent.
 use Rattle.std.proofs.Common.{◌≡◌, ◌≢◌, ◌∙◌, ◌||◌, Bool, true, false, if◌then◌else◌, refl, ap, ap₂}
 use Rattle.std.proofs.lemmas.Bool.{or_left, or_right, or_from, false_from_ne_true}
 use Rattle.std.proofs.lemmas.Bool.Decides.{Decides-int_eq}

@@ -91,7 +91,7 @@ report_is_thrice design env replicated faults n sound are outvoted =
     (upwards 0 n))
 
 -- ---- without replicas
--- an element that passes stands behind those before it that pass
+-- an element that passes follows the earlier elements that pass
 later-place : {A : Type 0} (y x : A) (xs before : List A) (b : Bool) → slice_get xs (length before) ≡ Some x
     → slice_get (cond b (y ∷ xs) xs) (length (cond b (y ∷ before) before)) ≡ Some x
 later-place y x xs before true rest = rest
@@ -106,7 +106,7 @@ filter-place test (y ∷ xs) zero x is passes =
 filter-place test (y ∷ xs) (suc n) x is passes =
     later-place y x (filter test xs) (filter test (take n xs)) (test y) (filter-place test xs n x is passes)
 
--- the place of a tap among those of its source
+-- the position of a tap among the taps of its source
 shown-in_part : (design : DesignParts) (env : Env) (round n : ℕ) (tap : Tap) → slice_get design.taps n ≡ Some tap
     → slice_index_or (part design env tap.source.0 round).outs (taps_before design.taps n tap.source.0) []
     ≡ tuple_of (steps_of_round design env round) tap.source.0 tap.out_port

@@ -1,5 +1,5 @@
--- What contracts see of a product with votes, before the first round, after one more and where it is read; and what
--- each keeps.
+-- The model of a product with votes, before the first round, after one more and when it is read; and the invariant of
+-- each product.
 use Rattle.std.proofs.Common.{◌≡◌, ◌∙◌, ℕ, ◌-◌, ◌<◌, ◌≤◌, Bool, List, [], length, map, replicate, slice_get}
 use Rattle.std.proofs.Common.{slice_index_or, Some, sym, ap, ap₂, subst, arith}
 use Rattle.std.proofs.lemmas.List.{length-map, get_or-map, get_or-replicate, get_or_default}
@@ -103,7 +103,7 @@ state_advanced design replicated values faults received_messages next old layers
     ∙ ap (λ ps. voted_advanced (voted_state_of design replicated (voted_of design replicated ps received_messages) shown_before) values
     faults) stay.parts
 
--- ---- what is read of it
+-- ---- its observers
 pub frame_read : (design : DesignParts) (replicated : List Bool) (layers : List Layer)
     (received_messages : List (List (List PortValue))) (node replica : ℕ) (layer : Layer) (part : Part)
     → node < length design.components → replica < copies_of replicated node → replica < length layers
@@ -150,7 +150,7 @@ parts_there design layers at node layer are within is below =
       below,
     )
 
--- ---- what each product with votes keeps
+-- ---- the invariant of each product with votes
 pub tables_stay : (design : DesignParts) (replicated : List Bool) (sources : List (List PortSource))
     (old new : List Stage) → HasTables design replicated sources old
     → map stage_size new ≡ map stage_size old → HasTables design replicated sources new

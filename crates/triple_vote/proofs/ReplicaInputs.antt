@@ -1,4 +1,4 @@
--- A replica reads what its component reads, where it received the same messages.
+-- A replica has its component's inputs if it received the same messages.
 use Rattle.std.proofs.Common.{◌≡◌, ◌∙◌, ℕ, nat_eq, List, [], ◌∷◌, length, map, Option, Some, None, slice_get}
 use Rattle.std.proofs.Common.{slice_index_or, refl, ap, ap₂}
 use Rattle.std.specs.Prelude.{position}

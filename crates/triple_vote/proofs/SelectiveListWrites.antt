@@ -6,7 +6,7 @@ use Rattle.std.proofs.lemmas.Bool.{false≢true}
 use Rattle.std.proofs.lemmas.Option.{slice_get_within}
 use Rattle.sync_product.proofs.ComponentLists.{slice_get-set_same, slice_get-set_other}
 
--- each element before a place that passes has what is wanted of it
+-- each element before a place that passes the test has the required property
 abbrev pub Filled : {L X : Type 0} → List L → (L → Bool) → (ℕ → L → X) → List X → ℕ → Type 0
 Filled {L} items test wanted xs at =
     (k : ℕ) (item : L) → k < at → slice_get items k ≡ Some item → test item ≡ true

@@ -1,4 +1,4 @@
--- What holds of the three layers, and of what they received, when one of them is written over by the next.
+-- The invariant of the three layers and of their received messages, when the next layer replaces one of them.
 use Rattle.std.proofs.Common.{◌≡◌, ◌∙◌, ℕ, suc, ◌+◌, ◌<◌, ◌≤◌, inl, inr, Bool, List, [], ◌∷◌, length, map, set}
 use Rattle.std.proofs.Common.{slice_get, slice_index_or, Some, refl, sym, ap, ap₂, subst, arith, eq-or-lt_of_le}
 use Rattle.std.proofs.lemmas.List.{get_or-set_other, get_or_default, length-set}
@@ -42,7 +42,7 @@ made_more design values received_messages layers at new within made so_far repli
       | inr before ↦ so_far replica layer before (sym (slice_get-set_other layers at replica new before) ∙ is)
     ]
 
--- a layer that is written over by one that stands where it stood
+-- a layer that is replaced by a layer in the same state
 pub stay_more : (old layers : List Layer) (at : ℕ) (was new : Layer) → was ≡ slice_index_or layers at was
     → StaysPut was new
     → StayPut old layers → StayPut old (set layers at new)
@@ -68,7 +68,7 @@ pub room_at : (design : DesignParts) (layers : List Layer) (at : ℕ) (layer : L
     → HasRoom design layer
 room_at design layers at layer are within is = subst (HasRoom design) (sym is) (are.rooms at layer within)
 
--- ---- what is received
+-- ---- the received messages
 abbrev HasMessages : DesignParts → List (List PortValue) → Type 0
 HasMessages design tuples = lengths tuples ≡ message_sizes design
 

@@ -1,4 +1,4 @@
--- The votes on what three layers sent and showed, gathered by link and by root out port.
+-- The votes on the sent and shown values of three layers, gathered by link and by root out port.
 use Rattle.std.proofs.Common.{◌≡◌, ◌∙◌, ℕ, zero, suc, ◌+◌, ◌<◌, inl, inr, nat_eq, ◌&&◌, Bool, true, false, List, []}
 use Rattle.std.proofs.Common.{◌∷◌, length, map, set, All, find, Option, Some, None, slice_get, slice_index_or, refl}
 use Rattle.std.proofs.Common.{sym, ap, ap₂, arith, add-one}
@@ -82,8 +82,8 @@ faults_fit design faults number link are is k d within goes =
     fault.values
     ∙ ap (rate_of design) (sym fault.source ∙ ap source_in (ap (slice_get design.links) goes ∙ is))
 
--- ---- what is received
--- what a replica sends has the size
+-- ---- the received messages
+-- a message of a replica has the size
 fault_size : (faults : List VoteFault) (l replica target : ℕ) (own : List PortValue) (size : ℕ) (o : Option VoteFault)
     → find (is_fault l replica target) faults ≡ o
     → FaultsFit faults l size → length own ≡ size → length (fault_or o own) ≡ size
@@ -127,7 +127,7 @@ shown_size true shown n size sizes =
     (sizes 2 (omega arith) ∙ sym one) ∙ one
 shown_size false shown n size sizes = sizes 0 (omega arith)
 
--- what is sent to a reader, from the slices that are voted on
+-- the message for a reader, from the slices that are voted on
 module _ (faults : List VoteFault) (sent : List (List (List PortValue))) (l at target size : ℕ) (next : target ≡ at + 1)
     (sizes : AreOfSize sent l size) (fit : FaultsFit faults l size) where
   abbrev sends : ℕ → List PortValue → List PortValue
@@ -187,7 +187,7 @@ module _ (design : DesignParts) (replicated : List Bool) (faults : List VoteFaul
   room_is : length tuple ≡ rate_of design link.source.0
   room_is = tuple_size link_size design.links received_messages sizes number link tuple link_is tuple_is
 
-  -- the tuples that are voted on have the size of what is written
+  -- the tuples that are voted on have the size of the result
   pub sent_fit : AreOfSize (sent_in layers) number (length tuple)
   sent_fit replica below = sent_sizes design layers number link are link_is replica below ∙ sym room_is
 

@@ -1,4 +1,4 @@
--- What three layers made, and what is voted of it, is one round of *votes*.
+-- The results of three layers, and the votes on them, are one round of *votes*.
 use Rattle.std.proofs.Common.{◌≡◌, ◌∙◌, ℕ, suc, ◌<◌, inl, inr, Bool, true, false, if◌then◌else◌, List, [], length, map}
 use Rattle.std.proofs.Common.{find, slice_get, slice_index_or, Some, refl, sym, ap, ap₂, subst, arith}
 use Rattle.std.proofs.lemmas.Bool.{lt-ltb}
@@ -101,7 +101,7 @@ module _ (design : DesignParts) (replicated : List Bool) (values : List PortValu
       ∙ are replica node (within_three replicated node replica below) within
       ∙ lt-ltb replica (copies_of replicated node) below
 
-  -- ---- the steps of a replica are those of its layer
+  -- ---- the steps of a replica are the steps of its layer
   abbrev layer_steps : ℕ → Component → ℕ → Stepped
   layer_steps node c replica =
       steps c.behaviour (frame_of (parts_in layers) replica node) (inputs_of design values (heard_of replica) node c)

@@ -88,7 +88,7 @@ module _ (design : DesignParts) (faults : ℕ → List VoteFault) (are : AreFaul
       (apart round l target 0 1 (λ e. absurd (cc))) (apart round l target 0 2 (λ e. absurd (cc)))
       (apart round l target 1 2 (λ e. absurd (cc)))
 
--- ---- where one replica of each component is named at most, no two are at fault towards one reader
+-- ---- if at most one replica of each component is named, no two are at fault towards one reader
 pub one_named_is_outvoted : OneNamedIsOutvoted
 one_named_is_outvoted design faults are named round f g in_f in_g link target =
     let one : IsFault design f = All-contains (IsFault design) (faults round) f (are round) in_f in

@@ -34,7 +34,7 @@ abbrev pub receivers_in : List Bool → Option Link → ℕ
 receivers_in replicated None = 0
 receivers_in replicated (Some link) = copies_of replicated link.target.0
 
--- the source of a link, 0 where there is none
+-- the source of a link, 0 if it has none
 abbrev pub source_in : Option Link → ℕ
 source_in None = 0
 source_in (Some link) = link.source.0
@@ -76,7 +76,7 @@ voted_opening design replicated = record {
   received = for_receivers design replicated (λ l replica. first_tuple design (slice_get design.links l));
 }
 
--- ---- the steps of a replica in a round, from what it received
+-- ---- the steps of a replica in a round, from its received messages
 abbrev pub heard_by : ℕ → VotedConfiguration → List (List PortValue)
 heard_by replica v = map (λ tuples. slice_index_or tuples replica []) v.received
 
@@ -92,8 +92,8 @@ replica_steps design values v node replica = steps_in design values v node repli
 abbrev pub tuple_at : DesignParts → List PortValue → VotedConfiguration → ℕ → ℕ → ℕ → List PortValue
 tuple_at design values v node port replica = slice_index_or (replica_steps design values v node replica).tuples port []
 
--- ---- what it sends on a link to a replica of the link's target
--- a fault is of this link, of this replica of its source and towards this one of its target, both numbered from 1
+-- ---- the message on a link to a replica of the link's target
+-- a fault belongs to this link, to this replica of its source and to this replica of its target, both numbered from 1
 abbrev pub is_fault : ℕ → ℕ → ℕ → VoteFault → Bool
 is_fault link replica target f = nat_eq f.link.0 link && (nat_eq f.replica replica && nat_eq f.target_replica target)
 
@@ -139,8 +139,8 @@ voted_composition design env replicated faults zero = voted_opening design repli
 voted_composition design env replicated faults (suc round) =
     next_voted design replicated (values_at env round) (faults round) (voted_composition design env replicated faults round)
 
--- ---- what is seen of it
--- the whole tuple that a root out port shows: of a component that has three replicas, the vote
+-- ---- its observers
+-- the whole tuple that a root out port shows: for a component with three replicas, the vote
 abbrev pub voted_tap_by : DesignParts → List Bool → List PortValue → VotedConfiguration → Tap → List PortValue
 voted_tap_by design replicated values v tap =
     if is_replicated replicated tap.source.0 then vote_of (tuple_at design values v tap.source.0 tap.out_port)

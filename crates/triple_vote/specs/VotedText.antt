@@ -28,7 +28,7 @@ abbrev pub shown_line : DesignParts → (Tap → List PortValue) → Tap → Lis
 shown_line design shown tap =
     tap_line (out_kind (slice_get design.components tap.source.0) tap.out_port) tap (shown tap)
 
--- the row of a round, from the frames of replicas, and from what root out ports show
+-- the row of a round, from the frames of replicas and the values of root out ports
 abbrev pub voted_row : DesignParts → List Bool → (ℕ → ℕ → Frame) → (Tap → List PortValue) → ℕ → List (List ℕ)
 voted_row design replicated frame shown round =
     round_line round

@@ -55,8 +55,8 @@ fn put_fault(places: &mut ItemList<Option<usize>>, links: usize, fault: &VoteFau
     }
 }
 
-/// For each place on so many links, the number of the first fault there. It takes no memory where no
-/// fault is listed.
+/// For each place on this many links, the number of the first fault there. Does not allocate if no fault is
+/// listed.
 pub fn first_faults(
     alloc: Global,
     faults: &[VoteFault],

@@ -11,15 +11,15 @@ pub fn two_of_three_win()
     ensures { VotesOfThree }
 {}
 
-/// Where faults name at most one replica of each component, no two replicas are at fault towards one
+/// If faults name at most one replica of each component, no two replicas are at fault towards one
 /// reader.
 pub fn one_named_is_outvoted()
     ensures { OneNamedIsOutvoted }
 {}
 
-/// Where no two replicas are at fault towards one reader in one round, each replica is in its
-/// component's state of the composition without replicas, receives its messages, and each root out port
-/// shows its tuples.
+/// If no two replicas are at fault towards one reader in one round, each replica is in its component's
+/// state of the composition without replicas, receives its messages, and each root out port shows its
+/// tuples.
 pub fn votes_are_composition()
     ensures states { ReplicasAreStates }
     ensures messages { ReceivedAreMessages }

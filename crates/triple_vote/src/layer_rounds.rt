@@ -13,7 +13,7 @@ use sync_product::round_inputs::RoundInputs;
 use sync_product::tuple_columns::write_port_tuple;
 use sync_product::wiring::WiredComponent;
 
-/// What a table says of a component, false past its end.
+/// The entry of a table for a component; false past its end.
 pub fn has_replica(there: &[bool], node: NodeNo) -> bool
     ensures { result ≡ has_replica there.now node.0 }
 {

@@ -1,5 +1,5 @@
-//! Components that run three times, whose messages each reader votes on: with at most one replica at
-//! fault, all that is received, and each replica's state, is that of the composition without replicas.
+//! Components that run three times, whose messages each reader votes on: with at most one faulty replica, all
+//! received messages and each replica's state are the same as in the composition without replicas.
 #![tactic(auto)]
 
 mod fault_table;

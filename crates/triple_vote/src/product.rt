@@ -23,8 +23,8 @@ use sync_product::component_stage::Stage;
 use sync_product::opening::stages;
 
 /// The composition of a design with three replicas of some components, after some rounds: the frame of
-/// each replica, what each received on each link in the last round, and what each root out port showed
-/// in it.
+/// each replica, the message that each received on each link in the last round, and the values of each root
+/// out port in it.
 pub struct VoteProduct {
     alloc: Global,
     design: Arc<Design>,
@@ -36,7 +36,7 @@ pub struct VoteProduct {
     shown: ItemList<Tuple>,
 }
 
-// By hand, so that a product let go is one call, which the crates above cite.
+// By hand, so that dropping a product is one call, which the crates above cite.
 impl Drop for VoteProduct {
     fn drop(self) {
         let VoteProduct {
@@ -102,12 +102,12 @@ impl VoteProduct {
         })
     }
 
-    /// Goes one round further. The values are those of the root in ports in this round, as
-    /// `Product::advance` of `sync_product` takes them. Where a replica has a fault towards a reader, the
-    /// reader gets the fault's values in place of the replica's own, and of two faults in one place the
-    /// first. If there is not enough memory, nothing changes. After the first two rounds it takes memory
-    /// only where a loop runs that did not run before, and for the places of faults where there are some.
-    /// Its time is in line with the design and the faults.
+    /// Advances by one round. The values are the values of the root in ports in this round, as
+    /// `Product::advance` of `sync_product` takes them. If a replica has a fault towards a reader, the reader
+    /// gets the fault's values in place of the replica's own, and of two faults in one place the first. If
+    /// memory runs out, nothing changes. After the first two rounds it allocates only if a loop runs that did
+    /// not run before, and for the places of faults if there are any. Its time is linear in the design and
+    /// the faults.
     pub fn advance(&mut self, values: &[PortValue], faults: &[VoteFault]) -> Result<(), NoMemory>
         requires { All (IsFault self.old.design) faults.now }
         ensures ok { OnOk result (self.new ≡ voted_advanced self.old values.now faults.now) }

@@ -41,8 +41,8 @@ fn sent_at(layers: &[Layer], replica: usize, number: usize) -> &[PortValue]
     }
 }
 
-// Writes what the replica at a place receives on a link: the vote of what three replicas send to it, or
-// the message of a source that is there once.
+// Writes the message that the replica at a place receives on a link: the vote on the messages of three replicas,
+// or the message of a source without replicas.
 fn receive(
     table: FaultTable,
     layers: &[Layer],
@@ -73,7 +73,7 @@ fn receive(
     }
 }
 
-/// Writes what the replicas at a place receive on each link, from what all replicas made.
+/// Writes the messages that the replicas at a place receive on each link, from the results of all replicas.
 pub fn receive_all(
     design: &Design,
     replicated: &[bool],

@@ -15,9 +15,9 @@ use sync_product::component_stage::Stage;
 use sync_product::opening::opening_messages;
 use sync_product::round_inputs::RoundInputs;
 
-/// The replicas of one number: which components have one, their frames after the last round, room for
-/// those of the next, and what they make in a round: a message for each link, and the whole tuple for
-/// each root out port. What stands where a component has no such replica means nothing.
+/// The replicas of one number: which components have one, their frames after the last round, room for their
+/// frames after the next, and their results of a round: a message for each link, and the whole tuple for
+/// each root out port. The values of a component without such a replica are meaningless.
 pub struct Layer {
     pub there: ItemList<bool>,
     pub parts: ItemList<Part>,
@@ -26,7 +26,7 @@ pub struct Layer {
     pub shown: ItemList<Tuple>,
 }
 
-// By hand, so that a layer let go is one call.
+// By hand, so that dropping a layer is one call.
 impl Drop for Layer {
     fn drop(self) {
         let Layer {
@@ -57,7 +57,7 @@ impl Layer {
         })
     }
 
-    /// Makes a round from what these replicas received, beside where they stand.
+    /// Computes a round from the received messages of these replicas; their state is unchanged.
     pub fn run(
         &mut self,
         round: RoundInputs,

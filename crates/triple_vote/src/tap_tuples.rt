@@ -36,7 +36,7 @@ fn show(layers: &[Layer], number: usize, three: bool, to: &mut Tuple)
     }
 }
 
-/// Writes what each root out port shows, from what all replicas made.
+/// Writes the values of each root out port, from the results of all replicas.
 pub fn show_each(
     design: &Design,
     replicated: &[bool],

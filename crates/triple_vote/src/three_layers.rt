@@ -18,8 +18,8 @@ use sync_product::component_stage::Stage;
 use sync_product::opening::opening_messages;
 use sync_product::round_inputs::RoundInputs;
 
-/// Three layers before the first round: one replica of each component, and two more of those that are
-/// marked.
+/// Three layers before the first round: one replica of each component, and two more of each marked
+/// component.
 pub fn opening_layers(
     alloc: Global,
     design: &Design,
@@ -47,8 +47,8 @@ pub fn opening_received(alloc: Global, design: &Design) -> Result<Vec<ItemList<T
     Ok(vec![in alloc; first, second, third]?)
 }
 
-/// Makes a round in each layer. At Ok each has made it from what its replicas received; where they stand
-/// stays in every case.
+/// Computes a round in each layer. At Ok each layer has computed it from the received messages of its
+/// replicas; their state is unchanged in every case.
 pub fn run_each(
     design: &Design,
     values: &[PortValue],

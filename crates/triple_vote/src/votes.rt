@@ -18,7 +18,7 @@ fn same_port(x: PortValue, y: PortValue) -> bool
     }
 }
 
-/// What two of three agree on, and absent where no two do.
+/// The value that two of three agree on, and absent if no two do.
 pub fn vote(x: PortValue, y: PortValue, z: PortValue) -> PortValue
     ensures { result ≡ vote x y z }
 {
@@ -31,7 +31,7 @@ pub fn vote(x: PortValue, y: PortValue, z: PortValue) -> PortValue
     }
 }
 
-/// Writes the vote of each place of three tuples. It takes no memory.
+/// Writes the vote of each place of three tuples. Does not allocate.
 pub fn vote_into(to: &mut Tuple, x: &[PortValue], y: &[PortValue], z: &[PortValue])
     requires to { length to.old ≡ length x.now }
     requires y { length y.now ≡ length x.now }

@@ -1,4 +1,4 @@
--- The event series of a design are sound, and do at each moment what its schedule says.
+-- The event series of a design are sound, and have at each moment the events of its schedule.
 use Rattle.std.proofs.Common.{◌≡◌, ℕ, zero, suc, ◌+◌, ◌*◌, ◌<◌, ◌≤◌, nat_eq, Bool, true, false, List, [], ◌∷◌, ◌++◌}
 use Rattle.std.proofs.Common.{length, map, Some, All, cond, refl, sym, ap, ap₂, ◌∙◌, arith}
 use Rattle.std.specs.Prelude.{flat_map, if◌then◌else◌}
@@ -37,7 +37,7 @@ same_from one other same from [] = refl
 same_from one other same from (x ∷ xs) =
     ap₂ (λ b rest. cond b (Some from) rest) (same x) (same_from one other same (from + 1) xs)
 
--- which one comes depends on the times alone
+-- the next series depends only on the times
 same_which : (one other : ℕ → ℕ) (count moment : ℕ) → ((n : ℕ) → one n ≡ other n)
     → number_at_moment one count moment ≡ number_at_moment other count moment
 same_which one other count moment same =
@@ -51,7 +51,7 @@ same_events : (one other : ℕ → ℕ) (count moment : ℕ) (e : ℕ → Event)
     → event_list (number_at_moment one count moment) e ≡ event_list (number_at_moment other count moment) e
 same_events one other count moment e same = ap (λ o. event_list o e) (same_which one other count moment same)
 
--- ---- courses that stand in a row
+-- ---- consecutive series
 each_from : (moment : ℕ) (series : ℕ → EventSeries) (f : ℕ → List Event) (from n count : ℕ) → from + n ≡ count
     → ((j : ℕ) → j < count → series_events moment (series j) ≡ f j)
     → flat_map (series_events moment) (map series (upwards from n)) ≡ flat_map f (upwards from n)
@@ -92,7 +92,7 @@ if_all true xs ys one two = one
 if_all false xs ys one two = two
 
 module _ (design : DesignParts) (rules : IsDesign design) (rounds : ℕ) where
-  -- what holds of a node's times holds in any run
+  -- a property of a node's times holds in any run
   abbrev run : Run
   run = world_run design no_env 1
 

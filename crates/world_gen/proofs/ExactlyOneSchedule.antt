@@ -21,7 +21,7 @@ use Rattle.run_laws.proofs.TimeArithmetic.{alarm_more}
 use Rattle.run_laws.proofs.WorldLinkTiming.{rule_of}
 use Rattle.world_gen.proofs.ScheduleTimes.{fit, whole, which_is, step_at, least_step}
 
--- ---- behind the last round nothing comes
+-- ---- no event follows the last round
 pub late_none : (time : ℕ → ℕ) (count moment : ℕ) (o : Option ℕ) → number_at_moment time count moment ≡ o
     → ((number : ℕ) → number < count → time number < moment) → o ≡ None
 late_none time count moment None is early = refl

@@ -1,4 +1,4 @@
--- The next moment of a list of event series: nothing of them comes before it, and something comes at it.
+-- The next moment of a list of event series: no event of them is before it, and one is at it.
 use Rattle.std.proofs.Common.{◌≡◌, ◌≢◌, ◌⊎◌, inl, inr, ℕ, ◌+◌, ◌*◌, ◌<◌, ◌≤◌, min, List, [], ◌∷◌, ◌++◌, Option, Some}
 use Rattle.std.proofs.Common.{None, All, refl, sym, ap, ◌∙◌, subst, arith}
 use Rattle.std.specs.Prelude.{fold, option_map}
@@ -18,7 +18,7 @@ use Rattle.world_gen.proofs.ExactlyOneSchedule.{nothing_of, nil_both}
 abbrev next_time : ℕ → EventSeries → Option ℕ
 next_time from c = option_map (time_of c) (next_of c from)
 
--- ---- the least of some times
+-- ---- the minimum of some times
 -- a time, if there is one, is not before this
 abbrev IsLate : ℕ → Option ℕ → Type 0
 IsLate moment None = Unit {0}
@@ -44,7 +44,7 @@ none_of_both None b is = (refl, is)
 none_of_both (Some a) None is = absurd (cc)
 none_of_both (Some a) (Some b) is = absurd (cc)
 
--- what the next deed of each course says of a moment
+-- how the next event of each series relates to a moment
 abbrev AreLate : ℕ → ℕ → List EventSeries → Type 0
 AreLate from moment [] = Unit {0}
 AreLate from moment (c ∷ cs) = IsLate moment (next_time from c) × AreLate from moment cs

@@ -1,4 +1,4 @@
--- Which event of an event series comes next, and which one comes at a moment.
+-- Which event of an event series is next, and which one is at a moment.
 use Rattle.std.proofs.Common.{◌≡◌, inl, inr, ℕ, ◌+◌, ◌-◌, ◌*◌, ◌/◌, ◌%◌, ◌<◌, ◌≤◌, min, nat_eq, nat_le, Bool, true}
 use Rattle.std.proofs.Common.{false, slice_get, Option, Some, None, refl, sym, ap, ◌∙◌, arith}
 use Rattle.std.specs.Prelude.{position}
@@ -103,7 +103,7 @@ next_none c from far n rises is_far is past =
     sym (no_number (λ k. nat_le from (time_of c k)) c.count
     (λ k below. lt-leb from (time_of c k) (not_before c from k rises (omega arith))))
 
--- ---- what the next one tells
+-- ---- the properties of the next one
 pub record IsNext (c : EventSeries) (from n : ℕ) : Type 0 where
   pub below : n < c.count
   pub reached : from ≤ time_of c n
@@ -122,7 +122,7 @@ pub all_before : (c : EventSeries) (from k : ℕ) → next_of c from ≡ None �
 all_before c from k none below =
     leb-false from (time_of c k) (is_nowhere (λ n. nat_le from (time_of c n)) c.count k none below)
 
--- ---- which one comes at a moment
+-- ---- which one is at a moment
 pub at_moment : (c : EventSeries) (moment n : ℕ) → next_of c moment ≡ Some n → time_of c n ≡ moment
     → number_at_moment (time_of c) c.count moment ≡ Some n
 at_moment c moment n is now =
@@ -162,7 +162,7 @@ quiet_after c from time none after =
     no_number (λ k. nat_eq (time_of c k) time) c.count
     (λ k below. ne_eqb (time_of c k) time (λ same. let early = all_before c from k none below in omega arith))
 
--- the next deed comes at its time
+-- the next event is at its time
 pub next_comes : (c : EventSeries) (from n : ℕ) → 0 < c.every → next_of c from ≡ Some n
     → number_at_moment (time_of c) c.count (time_of c n) ≡ Some n
 next_comes c from n rises is =

@@ -1,4 +1,4 @@
--- A schedule as it is made, moment by moment: up to a time, with one moment more, and whole once no moment is left.
+-- A schedule as it is built, moment by moment: up to a time, with one moment more, and complete after the last moment.
 use Rattle.std.proofs.Common.{◌≡◌, ◌≢◌, ℕ, suc, ◌+◌, ◌<◌, ◌≤◌, List, [], ◌∷◌, ◌++◌, length, Some, None, sym, ap, ap₂}
 use Rattle.std.proofs.Common.{◌∙◌, subst, append_assoc, add-one, All}
 use Rattle.std.specs.Prelude.{replicate}
@@ -22,7 +22,7 @@ abbrev at_moment : DesignParts → ℕ → ℕ → List Event
 at_moment design rounds moment =
     event.Pass moment (replicate (length design.components) moment) ∷ events_at design rounds moment
 
--- the events are those of all moments before a time
+-- the events are the events of all moments before a time
 pub record IsSoFar (design : DesignParts) (rounds from : ℕ) (events : List Event) : Type 0 where
   pub moments : List ℕ
   pub made : events ≡ schedule_at design rounds moments
@@ -49,8 +49,8 @@ one_more design rounds from moment events after forward quiet something is_after
       (so_far.goes_on (moment ∷ later) (forward, quiet, something, next));
 }
 
--- ---- by the courses
--- the time goes on, and does not go past the readings
+-- ---- by the series
+-- the time advances, and does not pass the readings
 pub record GoesOn (design : DesignParts) (rounds from moment : ℕ) (events : List Event) : Type 0 where
   pub so_far : IsSoFar design rounds (moment + 1) events
   pub forward : from ≤ moment

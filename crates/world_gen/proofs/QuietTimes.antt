@@ -28,7 +28,7 @@ use Rattle.run_laws.proofs.WorldLinkTiming.{rule_of, under_way}
 use Rattle.world_gen.proofs.WorldsOnSchedule.{begun_by, ended_by, NodeOnSchedule, LinkOnSchedule, IsOnSchedule, bump, bump_done}
 use Rattle.world_gen.proofs.WorldsOnSchedule.{bump_left, bump_other}
 
--- ---- nothing comes at a time
+-- ---- no event is at a time
 none_of : (o : Option ℕ) (e : ℕ → Event) → event_list o e ≡ [] → o ≡ None
 none_of None e none = refl
 none_of (Some number) e none = absurd (cc)
@@ -108,7 +108,7 @@ follows_same run w moment fin st se ar fin' st' se' ar' follows nodes links = re
       (follows.links l below);
 }
 
--- ---- the time of one goes on, where nothing of it comes
+-- ---- the time of a series advances, if no event of it occurs
 made_bump : (time : ℕ → ℕ → ℕ) (count : ℕ → ℕ) (made i j moment : ℕ) → number_at_moment (time j) (count j) moment ≡ None
     → CountBefore (time i) (count i) made (bump moment j i)
     → CountBefore (time i) (count i) made (bump moment (suc j) i)

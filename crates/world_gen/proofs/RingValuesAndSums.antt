@@ -40,7 +40,7 @@ use Rattle.world_gen.specs.proof.RingLaws.{RingNumbersAreSmall, ring_run, number
 use Rattle.world_gen.proofs.TabulatedLists.{numbered_all}
 use Rattle.world_gen.proofs.RingDesigns.{before_below}
 
--- ---- what is left modulo 1000
+-- ---- the remainder modulo 1000
 abbrev IsSmall : ℤ → Type 0
 IsSmall x = (pos 0 ≤ℤ x) × (x <ℤ pos 1000)
 

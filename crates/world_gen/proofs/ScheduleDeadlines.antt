@@ -1,5 +1,5 @@
--- A schedule keeps all deadlines: none of a node or of a message in flight lies before the next moment, so each Pass
--- is within the bounds, and behind it the world has come along its schedule up to that moment.
+-- A schedule meets all deadlines: no deadline of a node or of a message in flight is before the next moment, so each
+-- Pass is within the bounds, and after it the world has followed its schedule up to that moment.
 use Rattle.std.proofs.Common.{◌≡◌, inl, inr, ℕ, suc, ◌+◌, ◌-◌, ◌*◌, ◌<◌, ◌≤◌, Bool, true, cond, List, [], length}
 use Rattle.std.proofs.Common.{slice_get, Some, None, refl, sym, ap, ◌∙◌, subst, arith}
 use Rattle.std.specs.Prelude.{max, replicate, if◌then◌else◌, slice_index_or}
@@ -43,7 +43,7 @@ use Rattle.world_gen.proofs.WorldsOnSchedule.{begun_by, ended_by, NodeOnSchedule
 abbrev pub all_at : ℕ → ℕ → ℕ
 all_at time j = time
 
--- ---- where nothing comes between two times, what is made before the one is made before the other
+-- ---- if no event is between two times, the events before the one are the events before the other
 module _ (run : Run) (rules : IsRunOf run) (w : World) (moment from next : ℕ)
     (follows : IsOnSchedule run w moment (all_at from) (all_at from) (all_at from) (all_at from))
     (forward : from ≤ next) (quiet : (time : ℕ) → from ≤ time → time < next

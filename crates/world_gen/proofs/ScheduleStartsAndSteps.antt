@@ -80,7 +80,7 @@ module _ (run : Run) (rules : IsRunOf run) (w : World) (moment : ℕ) (fin st se
   agrees_at q same =
       subst (PhaseAgrees run j (component_at run.design j) here) same (phase_agrees run w rules follows.keeps j within)
 
-  -- behind a start or a step
+  -- after a start or a step
   abbrev pub After : (ℕ → ℕ) → World → Type 0
   After later v = IsOnSchedule run v moment fin later se ar
 

@@ -1,4 +1,4 @@
--- When the events of a schedule come, as numbers, and which of them comes at a moment.
+-- The times of the events of a schedule, as numbers, and which of them is at a moment.
 use Rattle.std.proofs.Common.{◌≡◌, inl, inr, ℕ, suc, ◌+◌, ◌*◌, ◌/◌, ◌%◌, ◌<◌, ◌≤◌, nat_eq, length, Option, Some, None}
 use Rattle.std.proofs.Common.{refl, sym, ap, ap₂, ◌∙◌, arith}
 use Rattle.std.proofs.lemmas.Bool.{cases_lt, cases_order, eqb-true, eq-eqb, false≢true}
@@ -39,7 +39,7 @@ pub record CountBefore (time : ℕ → ℕ) (count made bound : ℕ) : Type 0 wh
   pub before : (number : ℕ) → number < count → number < made → time number < bound
   pub after : (number : ℕ) → number < count → made ≤ number → bound ≤ time number
 
--- where none of them comes between two times, the same number comes before both
+-- if no event is between two times, the same number of events is before both
 pub made_later : (time : ℕ → ℕ) (count made bound later : ℕ) → bound ≤ later
     → ((number : ℕ) → number < count → bound ≤ time number → time number < later → ⊥)
     → CountBefore time count made bound → CountBefore time count made later
@@ -109,7 +109,7 @@ which_gap time count made bound moment rises m above below =
       ]
     ])
 
--- nor where all are made
+-- nor if all have occurred
 pub which_over : (time : ℕ → ℕ) (count made bound moment : ℕ) → CountBefore time count made bound → count ≤ made
     → bound ≤ moment → number_at_moment time count moment ≡ None
 which_over time count made bound moment m over above =

@@ -4,7 +4,7 @@ use Rattle.std.proofs.Common.{append_assoc}
 use Rattle.pals_base.specs.UpwardNumbers.{upwards}
 use Rattle.pals_base.proofs.UpwardNumbers.{map_upwards_more, get_or-map_upwards, length-map_upwards, All-map_upwards}
 
--- what holds of each number, and of each two
+-- a property of each number, and of each two
 pub numbered_all : {X : Type 0} (P : X → Type 0) (f : ℕ → X) (n : ℕ) → ((k : ℕ) → k < n → P (f k))
     → All P (map f (upwards 0 n))
 numbered_all P f n each = All-map_upwards P f 0 n (λ k above below. let within : k < n = omega arith in each k within)
@@ -17,7 +17,7 @@ numbered_pairs R f n each j k d less within =
     subst₂ R (sym (get_or-map_upwards f n j d (omega arith))) (sym (get_or-map_upwards f n k d below))
     (each j k less below)
 
--- one more behind others
+-- one more after others
 pub add_numbered : {X : Type 0} (before : List X) (f : ℕ → X) (n : ℕ)
     → (before ++ map f (upwards 0 n)) ++ f n ∷ [] ≡ before ++ map f (upwards 0 (n + 1))
 add_numbered before f n =

@@ -205,7 +205,7 @@ module _ (run : Run) (rules : IsRunOf run) (moment : ℕ) where
   moment_runs w follows = moment_by (nat_eq amin 0) refl w follows
 
 -- ---- all moments
--- where nothing is left to come, each node is done
+-- if no event remains, each node is done
 abbrev AreDone : Run → World → Type 0
 AreDone run w = (j : ℕ) → j < length run.design.components → (node_at w.bus j).phase ≡ Done
 

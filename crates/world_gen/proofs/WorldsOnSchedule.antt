@@ -111,7 +111,7 @@ pub runs_all : (run : Run) (count : ℕ) (f : ℕ → List Event) (P : ℕ → W
     → (w : World) → P 0 w → LeadsWithin run w (all_of count f) (P count)
 runs_all run count f P each w holds = runs_from run f P 0 count count (omega arith) each w holds
 
--- the one event that comes, or none
+-- the one event that occurs, or `None`
 pub runs_event : (run : Run) (w : World) (o : Option ℕ) (e : ℕ → Event) (P : World → Type 0) → (o ≡ None → P w)
     → ((number : ℕ) → o ≡ Some number → (fault_of run w (e number) ≡ None) × P (world_after run w (e number)))
     → LeadsWithin run w (event_list o e) P
@@ -180,7 +180,7 @@ module _ (run : Run) (w : World) (bus : BusState) (since ready : List ℕ) (sent
         links = links;
       }
 
--- the node that changes, by what it becomes
+-- the node that changes, by its new state
 pub follows_put : (run : Run) (node : ℕ) (n m : NodeState) (since at_since ready at_ready : ℕ)
     (moments at_moments : List ℕ) (finishes starts sends : ℕ)
     → NodeOnSchedule run node m at_since at_ready at_moments finishes starts sends → n ≡ m → since ≡ at_since
@@ -197,7 +197,7 @@ follows_put run node n m since at_since ready at_ready moments at_moments finish
     subst (λ x. NodeOnSchedule run node n since x at_moments finishes starts sends) (sym is_ready) two in
     subst (λ x. NodeOnSchedule run node n since ready x finishes starts sends) (sym is_moments) three
 
--- a node that keeps what it has sent, and no flight changes
+-- a node whose sent rounds stay, and no flight changes
 pub links_follow : (run : Run) (w : World) (node moment : ℕ) (m : NodeState) (finishes starts sends arrivals : ℕ → ℕ)
     → IsOnSchedule run w moment finishes starts sends arrivals
     → sent_rounds m ≡ sent_rounds (node_at w.bus node) → (number : ℕ) → number < length run.design.links
@@ -209,7 +209,7 @@ links_follow run w node moment m finishes starts sends arrivals follows same num
     (follows.links number within)
 
 -- ---- one after another
--- the time of those below a number has gone on
+-- the time of the nodes below a number has advanced
 abbrev pub bump : ℕ → ℕ → ℕ → ℕ
 bump moment done k = if nat_lt k done then suc moment else moment
 

@@ -21,7 +21,7 @@ use Rattle.pals_model.specs.declared.design.DesignParts.{DesignParts}
 use Rattle.pals_model.specs.Composition.{state}
 use Rattle.pals_model.specs.ComponentInputs.{no_env}
 
--- ---- what each component does
+-- ---- the behaviour of each component
 abbrev pub number_port : List ℕ → PortDecl
 number_port name = record { name = name; kind = Integer }
 
@@ -117,7 +117,7 @@ ring n = record {
   ignored = [];
 }
 
--- ---- what it comes to
+-- ---- its result
 -- the number x of a component after some rounds
 abbrev pub ring_number : ℕ → ℕ → ℕ → ℤ
 ring_number n rounds node = slice_index_or (state (ring n) no_env node rounds).vars 0 (pos 0)

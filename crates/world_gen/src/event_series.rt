@@ -1,4 +1,4 @@
-//! Event series: what is done over and over in a schedule, at equal distances in time. All times are nanoseconds.
+//! Event series: events that recur in a schedule at equal distances in time. All times are nanoseconds.
 ghost use Rattle.std.specs.Prelude.{◌≡◌, ◌<◌, IfSome, option_map};
 ghost use Rattle.world_gen.specs.proof.Schedules.{number_at_moment};
 ghost use Rattle.world_gen.specs.proof.EventSeries.{HasSteps, event_of_kind, IsEventSeries, time_of, next_of};
@@ -60,7 +60,7 @@ impl EventSeries {
         self.first + u64::from(number) * self.every
     }
 
-    // The number of the next deed from a time on, or none.
+    // The number of the next event from a time on, or `None`.
     fn next(&self, from: Nanos) -> Option<u32>
         requires { IsEventSeries self.now }
         ensures value { result ≡ next_of self.now from }
@@ -74,7 +74,7 @@ impl EventSeries {
         }
     }
 
-    /// The time of the next deed from a time on, or none.
+    /// The time of the next event from a time on, or `None`.
     pub fn next_time(&self, from: Nanos) -> Option<Nanos>
         requires { IsEventSeries self.now }
         ensures { result ≡ option_map (time_of self.now) (next_of self.now from) }
@@ -82,7 +82,7 @@ impl EventSeries {
         self.next(from).map(|number| self.time(number))
     }
 
-    /// The number of the deed of a moment, or none.
+    /// The number of the event at a moment, or `None`.
     pub fn number_at(&self, moment: Nanos) -> Option<u32>
         requires { IsEventSeries self.now }
         ensures value { result ≡ number_at_moment (time_of self.now) self.now.count moment }

@@ -19,7 +19,7 @@ pub fn schedules_of_counters()
 {}
 
 /// Each ring of two components or more, within the limit, is a design. Its numbers are from 0 to
-/// 999; and what those of two small rings come to.
+/// 999; and the results of two small rings.
 pub fn rings_are_designs()
     ensures designs { RingsAreDesigns }
     ensures small { RingNumbersAreSmall }

@@ -144,7 +144,7 @@ fn add_arrivals(
     Ok(())
 }
 
-/// The courses of a design for a number of rounds, in the order in which they go on at one moment.
+/// The series of a design for a number of rounds, in the order in which they occur at one moment.
 pub fn timetable(
     alloc: Global,
     design: &Design,
@@ -167,7 +167,7 @@ pub fn timetable(
     Ok(all_series)
 }
 
-// Where there are two times, the lesser.
+// The smaller of two times, if there are two.
 fn lesser(a: Option<Nanos>, b: Option<Nanos>) -> Option<Nanos>
     ensures { result ≡ lesser a b }
 {
@@ -178,7 +178,7 @@ fn lesser(a: Option<Nanos>, b: Option<Nanos>) -> Option<Nanos>
     }
 }
 
-/// The next moment, from a time on, at which one of the courses goes on, or none.
+/// The next moment, from a time on, at which one of the series has an event, or `None`.
 pub fn next_moment(all_series: &[EventSeries], from: Nanos) -> Option<Nanos>
     requires { All IsEventSeries all_series.now }
     ensures { result ≡ next_moment all_series.now from }

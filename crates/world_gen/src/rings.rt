@@ -21,7 +21,7 @@ const BOUNDS: Gamma = Gamma {
     mu_max: 4_000_000,
 };
 
-// How many steps a component makes in a round: 1, 2 or 4.
+// The number of steps of a component in a round: 1, 2 or 4.
 fn rate(number: u32) -> u32
     ensures { result ≡ ring_rate number }
 {

@@ -1,5 +1,5 @@
-//! The schedule of a design: all clocks show the time, each step begins at its alarm and takes the
-//! least time, and each message goes out as soon as it may and takes the least time.
+//! The schedule of a design: all clocks show the time, each step starts at its alarm and takes the
+//! minimum time, and each message is sent as early as allowed and takes the minimum time.
 ghost use Rattle.std.specs.Prelude.{◌≡◌, ◌≤◌, ◌++◌, All, IfOk, OnOk, replicate};
 ghost use Rattle.pals_base.specs.declared.limits.TheConstants.{ROUNDS};
 ghost use Rattle.pals_model.specs.declared.environment.Env.{Env};

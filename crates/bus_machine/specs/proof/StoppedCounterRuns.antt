@@ -1,5 +1,5 @@
--- Two runs of the two counters, each of which counts on from the other's last value: a message that comes too early,
--- and one that is lost.
+-- Two runs of the two counters, each of which counts on from the other's last value: a message that arrives too early,
+-- and a lost message.
 use Rattle.std.specs.Prelude.{◌≡◌, ℕ, codes, List, [], ◌∷◌, ◌++◌, map, None}
 use Rattle.pals_base.specs.declared.basic_types.NodeNo.{NodeNo}
 use Rattle.pals_base.specs.declared.basic_types.LinkNo.{LinkNo}

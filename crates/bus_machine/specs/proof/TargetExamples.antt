@@ -1,4 +1,4 @@
--- Examples of targets: those of a node of one step in a round, and of a node of four.
+-- Examples of targets: of a node with one step in a round, and of a node with four.
 use Rattle.std.specs.Prelude.{◌≡◌, [], ◌∷◌}
 use Rattle.pals_model.specs.proof.TwoCounters.{two_counters}
 use Rattle.bus_machine.specs.declared.plan.Plan.{Plan}

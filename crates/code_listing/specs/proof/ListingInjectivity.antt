@@ -1,5 +1,5 @@
--- The law that two designs with one listing agree in all that nodes need to run, and what that is: the period,
--- bounds, components, codes, links, feeds and taps.
+-- The law that two designs with one listing agree in everything that nodes need to run: the period, bounds,
+-- components, codes, links, feeds and taps.
 use Rattle.std.specs.Prelude.{◌≡◌, ℕ, List, length, map, zip, All}
 use Rattle.pals_base.specs.declared.period_bound_and_releases.Gamma.{Gamma}
 use Rattle.pals_base.specs.declared.behaviour.PortDecl.{PortDecl}
@@ -16,7 +16,7 @@ use Rattle.step_code.specs.declared.instr.CodeParts.{CodeParts}
 use Rattle.code_listing.specs.Listings.{listing}
 use Rattle.code_listing.specs.NumberRanges.{AllFit}
 
--- ---- what is told
+-- ---- the parts that a listing determines
 -- a component: its path and rate, its ports and variables, the names of its states, the number of the initial one,
 -- and its code
 pub record ToldComponent : Type 0 where
@@ -66,8 +66,8 @@ told_design design programs = record {
   taps = design.taps;
 }
 
--- ---- of which designs and codes
--- the code has as many variables and ports as the behaviour, and an entry or none for each of its states
+-- ---- for which designs and codes
+-- the code has as many variables and ports as the behaviour, and an optional entry for each of its states
 pub record IsCodeOf (b : BehaviourParts) (code : CodeParts) : Type 0 where
   pub vars : code.vars ≡ length b.vars
   pub ins : code.ins ≡ length b.ins
@@ -82,7 +82,7 @@ pub record AreListed (design : DesignParts) (programs : List CodeParts) : Type 0
   pub fit : AllFit design.components programs
 
 -- ---- the law
--- what has one listing is told alike
+-- two designs with one listing have the same parts
 abbrev pub ListingTells : Type 0
 ListingTells =
     (design other : DesignParts) (programs others : List CodeParts) → AreListed design programs → AreListed other others

@@ -1,5 +1,5 @@
--- A bus after a list of events, whatever its clocks read: what it undergoes in each, what leaves it so, and that its
--- journal replays to it.
+-- A bus after a list of events, whatever its clocks read: the effect of each event, the events that lead to a bus, and
+-- that its journal replays to it.
 use Rattle.std.specs.Prelude.{◌≡◌, ◌⊎◌, ℕ, false, List}
 use Rattle.step_code.specs.declared.instr.CodeParts.{CodeParts}
 use Rattle.pals_runs.specs.declared.events_and_faults.Event.{Event}
@@ -13,7 +13,7 @@ use Rattle.loose_world.specs.LooseRuns.{InTurn}
 use Rattle.pals_runs.specs.declared.events_and_faults.Event.TheVariants as event
 
 -- ---- one event
--- an event of the bus as one of a world, which does not tell what a clock read
+-- an event of the bus as an event of a world, without the clock reading
 abbrev pub event_of : BusEvent → Event
 event_of (Start node reading) = event.Start node
 event_of (Step node reading) = event.Step node
@@ -40,14 +40,14 @@ abbrev pub Undergoes : BusValue → Event → BusValue → Type 0
 Undergoes s e t = Rests s e t ⊎ Makes s e t
 
 -- ---- a list of events
--- a bus undergoes them in order from the opening of a run on, and these lines are told; the codes of the nodes do not
--- matter
+-- the events happen on a bus in order from the opening of a run on, and these are the lines; the codes of the nodes do
+-- not matter
 pub record IsLeftBy (run : Run) (events : List Event) (t : BusValue) (lines : List (List ℕ)) : Type 0 where
   pub programs : List CodeParts
   pub undergone : InTurn Undergoes (opening_bus run programs false) events t lines
 
--- a bus is of this run; the journal leads from the run's opening to where the bus stands; and the bus agrees with the
--- composition
+-- a bus belongs to this run; the journal leads from the run's opening to the state of the bus; and the bus agrees with
+-- the composition
 pub record IsReplayed (run : Run) (t : BusValue) : Type 0 where
   pub run_is : t.run ≡ run
   pub replays : Replays run t.journal t.state

@@ -12,14 +12,14 @@ pub record AllHaveFinished (design : DesignParts) (events : List Event) (rounds 
   pub some : 0 < length design.components
   pub each : (node : ℕ) → node < length design.components → finished_by design events node ≡ rounds
 
--- then the rows of the world are, byte for byte, those that `sync` reports of these rounds
+-- then the rows of the world are, byte for byte, the rows that `sync` reports of these rounds
 abbrev pub WorldIsReported : Type 0
 WorldIsReported =
     (design : DesignParts) (env : Env) (events : List Event) (rounds : ℕ) → IsDesign design
     → AllHaveFinished design events rounds
     → world_rows design env events ≡ report_lines design env rounds
 
--- and its text is that report, and behind it a line for each message that was sent
+-- and its text is that report, followed by a line for each sent message
 abbrev pub WorldTextIsReported : Type 0
 WorldTextIsReported =
     (design : DesignParts) (env : Env) (events : List Event) (rounds : ℕ) → IsDesign design

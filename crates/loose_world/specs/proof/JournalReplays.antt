@@ -1,4 +1,4 @@
--- What the journal of a loose world tells: a law at every run of a design.
+-- The replay of the journal of a loose world: a law for every run of a design.
 use Rattle.std.specs.Prelude.{ℕ, false, List}
 use Rattle.step_code.specs.declared.instr.CodeParts.{CodeParts}
 use Rattle.pals_runs.specs.declared.events_and_faults.Event.{Event}
@@ -10,9 +10,8 @@ use Rattle.loose_world.specs.declared.loose_run.LooseEnd.{LooseEnd}
 use Rattle.loose_world.specs.LooseRuns.{RunsLoosely}
 use Rattle.loose_world.specs.proof.BusAfterEvents.{IsReplayed}
 
--- however a list of loose events ends, the journal leads to where the bus stands: behind all events, where each
--- happens without a stop; behind the event that gives a stop, up to which the journal goes; and before the event that
--- is not allowed
+-- however a list of loose events ends, the journal leads to the state of the bus: after all events, if each happens
+-- without a stop; after the event that gives a stop, which ends the journal; and before the event that is not allowed
 abbrev pub JournalReplays : Type 0
 JournalReplays =
     (run : Run) (programs : List CodeParts) (events : List Event) (how : LooseEnd) (t : BusValue)

@@ -1,4 +1,4 @@
--- What is in flight directly behind a send: on each link from its node, a copy with the message of the round.
+-- The flights directly after a send: on each link from its node, a copy with the message of the round.
 use Rattle.std.specs.Prelude.{◌≡◌, ℕ, ◌+◌, Some, Contains}
 use Rattle.pals_model.specs.declared.flight_copy.FlightCopy.{FlightCopy}
 use Rattle.pals_model.specs.IncomingAndOutgoingLinks.{links_from}

@@ -18,7 +18,7 @@ steps_in_hand (Between steps) = steps
 steps_in_hand Holding = 0
 steps_in_hand Done = 0
 
--- the steps that a node of this rate has finished: those of its finished rounds, and those of the round in hand
+-- the steps that a node of this rate has finished: the steps of its finished rounds and of its current round
 abbrev pub steps_finished : ℕ → NodeState → ℕ
 steps_finished rate n = rate * length n.parts + steps_in_hand n.phase
 

@@ -8,7 +8,7 @@ use Rattle.loose_world.specs.declared.loose_run.LooseEnd.{LooseEnd}
 use Rattle.loose_world.specs.proof.EventsAsSteps.{StepsTo}
 use Rattle.loose_world.specs.declared.loose_run.LooseEnd.TheVariants as end
 
--- what is left at an end is one state and one journal; where an event is not allowed, nothing is said of these
+-- two ends have one state and one journal; if an event is not allowed, they are unspecified
 abbrev pub LeaveTheSame : LooseEnd → BusState → BusState → List JournalEntry → List JournalEntry → Type 0
 LeaveTheSame end.All s t journal more = (s ≡ t) × (journal ≡ more)
 LeaveTheSame (end.Stopped why) s t journal more = (s ≡ t) × (journal ≡ more)
@@ -20,7 +20,7 @@ pub record AreSameEnd (how other : LooseEnd) (s t : BusState) (journal more : Li
   pub end : how ≡ other
   pub left : LeaveTheSame how s t journal more
 
--- a list of loose events ends in one way from the opening of a run on
+-- a list of loose events has exactly one end from the opening of a run on
 abbrev pub OneEnd : Type 0
 OneEnd =
     (run : Run) (events : List Event) (how other : LooseEnd) (s t : BusState) (journal more : List JournalEntry)

@@ -30,13 +30,13 @@ StepCounts =
     (run : Run) (s t : BusState) (e : BusEvent) (node : ℕ) → IsRunOf run → Agrees run s → IsStep run s e t
     → IsCounted run s (event_of e) t node
 
--- what holds where events left a bus
+-- a property of every bus after events
 abbrev pub AtEachEnd : (Run → List Event → BusValue → List (List ℕ) → Type 0) → Type 0
 AtEachEnd P =
     (run : Run) (events : List Event) (t : BusValue) (lines : List (List ℕ)) → IsRunOf run → IsLeftBy run events t lines
     → P run events t lines
 
--- it is of the same run, its journal replays to it, and it agrees with the composition
+-- it belongs to the same run, its journal replays to it, and it agrees with the composition
 abbrev pub EventsReplay : Type 0
 EventsReplay = AtEachEnd (λ run events t lines. IsReplayed run t)
 
@@ -73,7 +73,7 @@ RoundsWithoutNodes =
     (run : Run) (s : BusState) → Agrees run s → run.design.components ≡ [] → finished_by_all run s ≡ run.rounds
 
 -- ---- messages
--- behind a send, each link from its node has the message of the round that the sends before it tell
+-- after a send, each link from its node has the message of the round, which the number of earlier sends determines
 abbrev pub SendsAreInFlight : Type 0
 SendsAreInFlight =
     AtEachEnd
@@ -81,12 +81,12 @@ SendsAreInFlight =
     (t : BusValue) (node : NodeNo) → Undergoes s (event.Send node) t
     → HasSent t node.0 (sends_of node.0 (senders before)))
 
--- the lines that are told are those of the world
+-- the lines are the lines of the world
 abbrev pub LinesAreTold : Type 0
 LinesAreTold = AtEachEnd (λ run events t lines. lines ≡ sent_lines run.design run.env events [])
 
 -- ---- the texts
--- the rows and the lines that were told are the text of the world
+-- the rows and the lines are the text of the world
 abbrev pub WorldIsTold : Type 0
 WorldIsTold =
     AtEachEnd (λ run events t lines. text_of (finished_lines t) ++ text_of lines ≡ worldtext run.design run.env events)

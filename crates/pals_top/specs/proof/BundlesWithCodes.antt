@@ -1,4 +1,4 @@
--- That a bundle means a design, its step codes and a scenario, with what is kept of events and trace; or is refused.
+-- That a bundle means a design, its step codes and a scenario, with its events and trace; or is rejected.
 use Rattle.std.specs.Prelude.{ℕ, ◌≤◌, List, length, ◌⊎◌}
 use Rattle.pals_base.specs.declared.limits.TheConstants.{LIST_ITEMS}
 use Rattle.pals_model.specs.declared.design.DesignParts.{DesignParts}
@@ -18,7 +18,7 @@ use Rattle.pals_top.specs.BundleScenarios.{HasScenario}
 use Rattle.pals_top.specs.proof.StatusAndText.{status_of, text_of}
 use Rattle.pals_top.specs.declared.bundle_meaning.BundleMeaning.TheVariants as meaning
 
--- what the scenario of each keeps beside
+-- the additional parts of the scenario of each command
 abbrev pub HasEvents : Execution → DesignParts → Scenario → Type 0
 HasEvents TimedWorld design scenario = length scenario.events ≤ LIST_ITEMS
 HasEvents LooseWorld design scenario = AreLooseEvents design scenario.events

@@ -25,7 +25,7 @@ pub record IsWithinBudget (design : DesignParts) (codes : List CodeParts) (nanos
   pub members_are : AreMembers design members
   pub fits : total nanos codes members ≤ design.gamma.alpha_max
 
--- ---- what is served, whatever the steps take
+-- ---- the served steps, whatever their execution times
 -- the releases, each once, in order of release and then of component
 abbrev pub EachIsServed : Type 0
 EachIsServed = (design : DesignParts) (members : List ℕ) (rounds nanos : ℕ) (count : Release → ℕ) (x : Release) →
@@ -72,7 +72,7 @@ ExecResponsesFit =
     IsDesign design → 1 ≤ nanos → IsWithinBudget design codes nanos members →
     All (λ s. response s ≤ design.gamma.alpha_max) (budget design members rounds nanos (by_exec design env codes))
 
--- no step of a round is left when the next round's alarm comes
+-- every step of a round is finished at the next round's alarm
 abbrev pub RoundsAreApart : Type 0
 RoundsAreApart =
     (design : DesignParts) (codes : List CodeParts) (nanos : ℕ) (members : List ℕ) (rounds : ℕ) (count : Release → ℕ) →

@@ -8,12 +8,12 @@ use Rattle.round_budget.specs.proof.LinesFromOwnAlarm.{line_in_round}
 use Rattle.round_budget.specs.declared.timetables.BudgetEnd.{BudgetEnd}
 use Rattle.round_budget.specs.declared.timetables.BudgetEnd.TheVariants.{Over, Memory}
 
--- over, with the sum, exactly where it does not fit; else there was not enough memory
+-- over, with the sum, if and only if it does not fit; otherwise memory ran out
 abbrev pub IsEnd : DesignParts → List CodeParts → ℕ → List ℕ → BudgetEnd → Type 0
 IsEnd design codes nanos members (Over sum) = (sum ≡ total nanos codes members) × (fits design.gamma sum ≡ false)
 IsEnd design codes nanos members Memory = fits design.gamma (total nanos codes members) ≡ true
 
--- what is served in any number of rounds, each step counted from its round's alarm, is the timetable round by round
+-- the served steps in any number of rounds, each counted from its round's alarm, are the timetable round by round
 abbrev pub TimetableIsEach : DesignParts → List CodeParts → ℕ → List ℕ → Type 0
 TimetableIsEach design codes nanos members = (rounds : ℕ) →
     map (line_in_round design) (budget design members rounds nanos (by_most codes))

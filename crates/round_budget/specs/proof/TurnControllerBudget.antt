@@ -29,7 +29,7 @@ all_four = 0 ∷ 1 ∷ 2 ∷ 3 ∷ []
 abbrev slot : ℕ → ℕ → ℕ → ℕ → Line
 slot node step begin done = record { node = node; step = step; begin = begin; done = done }
 
--- they are what its components' behaviours are compiled to
+-- they are the compiled codes of its components' behaviours
 abbrev pub TurnIsCompiled : Type 0
 TurnIsCompiled = map (λ (c : Component). compiled c.behaviour) turn.components ≡ turn_codes
 
@@ -54,7 +54,7 @@ TurnHasSlots =
     ∷ slot 3 3 15000000 15016000
     ∷ []
 
--- ---- what is written of it
+-- ---- its text
 abbrev cpu : ℕ → List Processor
 cpu nanos = record { name = codes "cpu"; nanos = nanos; members = all_four } ∷ []
 

@@ -1,4 +1,4 @@
--- Definitions for proofs: what holds of a jump, a loop, a store or any other instruction at a place where the
+-- Definitions for proofs: the properties of a jump, a loop, a store or any other instruction at a place where the
 -- verifier's rules BadJump, BackJump and BadSlot find nothing.
 use Rattle.std.specs.Prelude.{◌≡◌, ℕ, ◌+◌, ◌<◌, ◌≤◌, true, List, length, Some, slice_get}
 use Rattle.step_code.specs.declared.instr.Instr.{Instr}
@@ -14,7 +14,7 @@ pub record Jumps (code : List Instr) (p to : ℕ) : Type 0 where
   pub forward : p < to
   pub within : stays code p to ≡ true
 
--- a LoopNext is of a loop
+-- a LoopNext belongs to a loop
 pub record IsEnd (code : List Instr) (p : ℕ) : Type 0 where
   pub start : ℕ
   pub loop : LoopSpan

@@ -4,7 +4,7 @@ use Rattle.step_code.specs.declared.instr.Instr.{Instr}
 use Rattle.step_code.specs.SuccessorsAndWeights.{forward_successors_at, weight_at}
 use Rattle.step_code.specs.proof.StackHeights.{Member}
 
--- a place and those behind it are a path: each leads to the next
+-- a place and the following ones are a path: each leads to the next
 abbrev pub IsPath : List Instr → ℕ → List ℕ → Type 0
 IsPath code place [] = Unit {0}
 IsPath code place (next ∷ rest) = Member (forward_successors_at code place) next × IsPath code next rest

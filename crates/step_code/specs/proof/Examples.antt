@@ -34,7 +34,7 @@ surface = record {
   outs = 1;
 }
 
--- sets a variable in a loop of 4 turns that stands in one of 3
+-- sets a variable in a loop of 4 turns inside a loop of 3 turns
 abbrev pub nested : CodeParts
 nested = record {
   instrs =

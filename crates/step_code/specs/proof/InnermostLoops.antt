@@ -16,7 +16,7 @@ innermost code p = first (around code p)
 pub record AreInnermost (code : List Instr) (found : List (Option LoopSpan)) : Type 0 where
   pub each : (p : ℕ) → p < length found → slice_get found p ≡ Some (innermost code p)
 
--- a loop, and those that start below it
+-- a loop, and the loops that start below it
 abbrev pub outwards : List Instr → Option LoopSpan → List LoopSpan
 outwards code None = []
 outwards code (Some l) = l ∷ loops_below code l.start
@@ -25,7 +25,7 @@ abbrev pub StartsBelow : ℕ → Option LoopSpan → Type 0
 StartsBelow p None = Unit {0}
 StartsBelow p (Some l) = l.start < p
 
--- the loops round a place are among a loop and those that start below it
+-- the loops around a place are among a loop and the loops that start below it
 pub record ComesFrom (code : List Instr) (p : ℕ) (candidate : Option LoopSpan) : Type 0 where
   pub starts : StartsBelow p candidate
   pub same : around code p ≡ filter (λ l. nat_lt p l.exit) (outwards code candidate)

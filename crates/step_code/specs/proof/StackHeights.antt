@@ -51,7 +51,7 @@ Reaches code entries (suc n) p h =
     (q : ℕ) × (k : ℕ) × (i : Instr) × Reaches code entries n q k × (slice_get code q ≡ Some i) × (takes i ≤ k)
     × Member (forward_successors q (Some i)) p × (q < p) × (h ≡ after k i)
 
--- the path is an entry, or its last instruction stands below a place
+-- the path is an entry, or its last instruction is below a place
 abbrev pub ComesFromBelow : (code : List Instr) (entries : List (Option ℕ)) (below n p h : ℕ)
     → Reaches code entries n p h → Type 0
 ComesFromBelow code entries below zero p h r = Unit {0}

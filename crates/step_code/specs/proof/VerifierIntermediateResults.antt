@@ -1,4 +1,4 @@
--- What the verifier's functions answer: heights, clashes between them, and the least bad entry.
+-- The results of the verifier's functions: heights, clashes between them, and the smallest bad entry.
 use Rattle.std.specs.Prelude.{◌≡◌, ◌≢◌, ℕ, ◌<◌, ◌≤◌, nat_eq, Bool, true, false, ◌&&◌, ◌||◌, List, length, Option, Some}
 use Rattle.std.specs.Prelude.{None, Result, Ok, Err, slice_get}
 use Rattle.step_code.specs.declared.instr.Instr.{Instr}
@@ -8,12 +8,12 @@ use Rattle.step_code.specs.proof.StackHeights.{takes, after, Member, Given, all_
 use Rattle.step_code.specs.proof.VerifierRules.{enters_badly}
 use Rattle.step_code.specs.declared.fault.CodeFault.TheVariants as fault
 
--- the least number at which a test holds
+-- the smallest number at which a test holds
 abbrev pub IsLeast : (ℕ → Bool) → Option ℕ → Type 0
 IsLeast test None = (q : ℕ) → test q ≡ false
 IsLeast test (Some e) = (test e ≡ true) × ((q : ℕ) → q < e → test q ≡ false)
 
--- a test that holds of one more number where it is bad
+-- a test that holds for one more number if it is bad
 abbrev pub or_bad : List Instr → (ℕ → Bool) → ℕ → ℕ → Bool
 or_bad code test entry q = test q || (nat_eq q entry && enters_badly code q)
 

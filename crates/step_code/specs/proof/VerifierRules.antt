@@ -14,7 +14,7 @@ use Rattle.step_code.specs.proof.CodeRuns.{has_entry}
 use Rattle.step_code.specs.proof.StackHeights.{takes, after, Member, Reaches, Given, all_successors}
 use Rattle.step_code.specs.declared.fault.CodeFault.TheVariants as fault
 
--- whether a test holds of what is there
+-- whether a test holds for the element, if there is one
 abbrev pub on_some : {A : Type 0} → Option A → (A → Bool) → Bool
 on_some None test = false
 on_some (Some x) test = test x
@@ -27,7 +27,7 @@ inside p l = nat_lt l.start p && nat_lt p l.exit
 abbrev pub agrees : ℕ → ℕ → LoopSpan → Bool
 agrees p q l = if inside p l then inside q l else not (inside q l)
 
--- no body has one of the places alone
+-- no body contains only one of the places
 abbrev pub stays : List Instr → ℕ → ℕ → Bool
 stays code p q = list_all (agrees p q) (loops_below code (length code))
 
@@ -35,7 +35,7 @@ stays code p q = list_all (agrees p q) (loops_below code (length code))
 abbrev pub strays : List Instr → ℕ → ℕ → Bool
 strays code p to = not (nat_lt to (length code) && stays code p to)
 
--- an instruction that may go on, and none behind it
+-- an instruction that may fall through, without a next instruction
 abbrev pub lacks_next : List Instr → ℕ → Instr → Bool
 lacks_next code p i = on_some (next_of p i) (λ next. not (nat_lt next (length code)))
 
@@ -46,7 +46,7 @@ abbrev pub is_none : {A : Type 0} → List A → Bool
 is_none [] = true
 is_none (x ∷ xs) = false
 
--- an entry that is no place, or stands in a body
+-- an entry that is not a place, or is in a body
 abbrev pub enters_badly : List Instr → ℕ → Bool
 enters_badly code e = not (nat_lt e (length code) && is_none (around code e))
 
@@ -62,7 +62,7 @@ abbrev pub ends_loop : List Instr → ℕ → ℕ → Bool
 ends_loop code p zero = false
 ends_loop code p (suc start) = on_some (loop_at code start) (λ l. nat_eq l.exit (p + 1))
 
--- whether an instruction is no part of a loop, but should be
+-- whether an instruction is not part of a loop, but should be
 abbrev pub lacks_loop : List Instr → ℕ → Instr → Bool
 lacks_loop code p (LoopStart slot low high exit) = not (on_some (loop_at code p) (λ l. true))
 lacks_loop code p (LoopNext slot high to) = not (ends_loop code p to)
@@ -92,7 +92,7 @@ misses_slot c p (End state) = not (has_entry (slice_get c.entries state))
 misses_slot c p other = false
 
 -- ---- heights
--- a path comes to an instruction with fewer operands than it takes
+-- a path reaches an instruction with fewer operands than it takes
 pub record Underflows (c : CodeParts) (p : ℕ) : Type 0 where
   pub instr : Instr
   pub here : slice_get c.instrs p ≡ Some instr
@@ -117,7 +117,7 @@ pub record Differs (c : CodeParts) (p : ℕ) : Type 0 where
   pub differs : other ≢ after height instr
 
 -- ---- the first fault
--- the rules, in the order in which one place is looked at
+-- the rules, in the order in which one place is checked
 pub data Rule : Type 0 where
   BadJump : Rule
   BackJump : Rule

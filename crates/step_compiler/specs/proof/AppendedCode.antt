@@ -1,7 +1,7 @@
--- What it is for a part of the code to be laid out at the end of what is there.
+-- A part of the code is laid out at the end of the existing code.
 use Rattle.std.specs.Prelude.{◌≡◌, ℕ, List, ◌++◌, length}
 use Rattle.step_code.specs.declared.instr.Instr.{Instr}
 
--- what is laid out at the end of the code stands behind it
+-- the code that is laid out follows the existing code
 abbrev pub Adds : List Instr → List Instr → (ℕ → List Instr) → Type 0
 Adds old new laid = new ≡ old ++ laid (length old)

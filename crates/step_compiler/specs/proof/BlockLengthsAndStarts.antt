@@ -9,7 +9,7 @@ abbrev pub order_length : BehaviourParts → List ℕ → ℕ
 order_length b [] = 0
 order_length b (s ∷ order) = block_length b s + order_length b order
 
--- those of some transitions that leave a state
+-- the lengths of some transitions that leave a state
 abbrev pub leaving_among : ℕ → List Edge → List Edge
 leaving_among s es = filter (λ e. nat_eq e.source s) es
 

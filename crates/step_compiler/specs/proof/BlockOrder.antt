@@ -43,11 +43,11 @@ abbrev pub with_next : List ℕ → Option ℕ → List ℕ
 with_next order None = order
 with_next order (Some s) = order ++ s ∷ []
 
--- an order with the next state behind it, n times
+-- an order followed by the next state, n times
 abbrev pub ordered : ℕ → BehaviourParts → List ℕ → List ℕ
 ordered zero b order = order
 ordered (suc n) b order = ordered n b (with_next order (next_state b order))
 
--- the complete states first, and then the others, each behind all that jump to it
+-- the complete states first, and then the others, each after every state that jumps to it
 abbrev pub block_order : BehaviourParts → List ℕ
 block_order b = ordered (length b.states) b (complete_states b)

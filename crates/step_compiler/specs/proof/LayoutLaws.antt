@@ -9,7 +9,7 @@ use Rattle.step_compiler.specs.LaidOutCode.{IsBlockOrder, IsLaidOut, AreLaidOut}
 abbrev pub HasLayout : Type 0
 HasLayout = (b : BehaviourParts) → IsBehaviour b → (code : CodeParts) × IsLaidOut b code
 
--- its blocks stand in one order
+-- its blocks have one order
 abbrev pub OrderIsOne : Type 0
 OrderIsOne = (b : BehaviourParts) (order other : List ℕ) →
     IsBlockOrder b order → IsBlockOrder b other → order ≡ other

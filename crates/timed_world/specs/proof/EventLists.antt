@@ -27,7 +27,7 @@ abbrev pub ListEnds : WorldValue → List Event → WorldEnd → WorldValue → 
 ListEnds old events end.All new = Leads old events new
 ListEnds old events (end.At index why) new = EndsAt old events index why new
 
--- what is left if there is not enough memory: a first part of the events happened
+-- the result if memory runs out: a prefix of the events happened
 pub record IsCutShort (old : WorldValue) (events : List Event) (new : WorldValue) : Type 0 where
   pub count : ℕ
   pub few : count ≤ length events

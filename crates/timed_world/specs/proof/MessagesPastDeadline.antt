@@ -1,4 +1,4 @@
--- The fault of a passing of time behind which a message in flight is past its deadline.
+-- The fault of a passing of time after which a message in flight is past its deadline.
 use Rattle.std.specs.Prelude.{ℕ, if◌then◌else◌, Option, Some, None}
 use Rattle.pals_runs.specs.declared.events_and_faults.EventFault.{EventFault}
 use Rattle.bus_machine.specs.LinkEvents.{is_in_flight}

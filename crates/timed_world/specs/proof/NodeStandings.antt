@@ -1,4 +1,4 @@
--- The standing of a node in its rounds, by numbers: when these are in range, which events of the node are faults
+-- The progress of a node in its rounds, by numbers: when these are in range, which events of the node are faults
 -- then, and the last time that it allows.
 use Rattle.std.specs.Prelude.{◌≡◌, ℕ, ◌+◌, ◌-◌, ◌*◌, ◌<◌, ◌≤◌, max, nat_lt, nat_le, Bool, not, ◌&&◌, false}
 use Rattle.std.specs.Prelude.{if◌then◌else◌, Option, Some, None, is_some}

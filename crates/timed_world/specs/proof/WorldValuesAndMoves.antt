@@ -1,4 +1,4 @@
--- What contracts see of a world: a bus, the time, the readings, and since when things stand as they do.
+-- The model of a world: a bus, the time, the readings, and the times of the last changes.
 use Rattle.std.specs.Prelude.{◌≡◌, ℕ, ◌≤◌, false, List, [], map, Option, Some, None}
 use Rattle.pals_base.specs.declared.limits.TheConstants.{ROUNDS}
 use Rattle.pals_model.specs.declared.design.Component.{Component}
@@ -13,7 +13,7 @@ use Rattle.pals_bus.specs.proof.OpeningNodes.{opening_bus}
 use Rattle.run_laws.specs.Worlds.{World, world_run, zeros, bus_event, world_after}
 use Rattle.run_laws.specs.proof.WorldInvariant.{KeepsTime}
 
--- those of nodes in order, as in the definition of worlds
+-- the times of nodes in order, as in the definition of worlds
 pub record WorldValue : Type 0 where
   pub bus : BusValue
   pub time : ℕ
@@ -45,8 +45,8 @@ opening_value design codes env rounds = record {
   sent_at = map (λ (_ : Component). []) design.components;
 }
 
--- what every world keeps: its run is one of a design, its nodes do not meet, no stop stands, and its times are within
--- the bounds
+-- the invariant of worlds: its run belongs to a design, its nodes have clocks of their own, the run has no stop, and
+-- its times are within the bounds
 pub record KeepsWorld (v : WorldValue) : Type 0 where
   pub rules : IsRunOf v.bus.run
   pub few : v.bus.run.rounds ≤ ROUNDS

@@ -71,7 +71,7 @@ TwoLiarsText = text_with (liar 2 ∷ liar 1 ∷ []) ≡
     ++ line (codes "round 2") ++ line (codes "p.a#1 s x=106") ++ line (codes "p.a#2 s x=106")
     ++ line (codes "p.a#3 s x=106") ++ line (codes "p.b s x=106")
 
--- ---- one liar is such as the laws allow
+-- ---- one faulty replica meets the condition of the laws
 abbrev pub OneLiarIsFault : Type 0
 OneLiarIsFault = AreFaults two_counters (first_round (liar 2 ∷ []))
 

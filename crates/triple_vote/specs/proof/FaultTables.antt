@@ -23,7 +23,7 @@ abbrev pub with_fault : ℕ → List (Option ℕ) → VoteFault → ℕ → List
 with_fault links places f n =
     if is_placed links f then slice_set places (place f.link.0 f.replica f.target_replica) (Some n) else places
 
--- the fault of a number, none where there is no number
+-- the fault of a number; `None` without a number
 abbrev pub fault_at : List VoteFault → Option ℕ → Option VoteFault
 fault_at faults None = None
 fault_at faults (Some n) = slice_get faults n

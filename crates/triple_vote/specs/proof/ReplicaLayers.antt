@@ -1,4 +1,4 @@
--- A layer: one replica of each component that has one, with its room, its opening, and what it makes in a round.
+-- A layer: one replica of each component that has one, with its room, its opening, and its results of a round.
 use Rattle.std.specs.Prelude.{◌≡◌, ℕ, Bool, true, false, List, [], length, map, Option, Some, None, slice_get}
 use Rattle.std.specs.Prelude.{slice_index_or}
 use Rattle.pals_base.specs.declared.basic_types.PortValue.{PortValue}
@@ -24,7 +24,7 @@ use Rattle.triple_vote.specs.declared.replica_layer.Layer.{Layer}
 abbrev pub lengths : List (List PortValue) → List ℕ
 lengths tuples = map (λ (tuple : List PortValue). length tuple) tuples
 
--- frames alone, without what root out ports show
+-- only frames, without the values of root out ports
 abbrev pub frame_sizes : DesignParts → List PartSize
 frame_sizes design = map (λ (c : Component). part_size_of c []) design.components
 
@@ -38,7 +38,7 @@ pub record HasRoom (design : DesignParts) (layer : Layer) : Type 0 where
   pub sent_fit : lengths layer.sent ≡ message_sizes design
   pub shown_fit : lengths layer.shown ≡ tap_sizes design
 
--- ---- which components have such a replica, and what it begins with
+-- ---- which components have such a replica, and its initial state
 abbrev pub opening_part : Component → Part
 opening_part c = record { frame = initial c.behaviour; outs = [] }
 
@@ -51,7 +51,7 @@ pub record IsOpened (design : DesignParts) (there : List Bool) (layer : Layer) :
   pub frames : frames_of layer.parts ≡ (opening design).frames
   pub room : length there ≡ length design.components → HasRoom design layer
 
--- ---- what a component's steps leave, from these frames and from what was received
+-- ---- the results of a component's steps, from these frames and the received messages
 abbrev pub frame_made : DesignParts → List PortValue → List (List PortValue) → List Frame → ℕ → Component → Frame
 frame_made design values received_messages frames node c =
     frame_after c.behaviour (slice_index_or frames node no_frame) (inputs_of design values received_messages node c)
@@ -68,15 +68,15 @@ pub record IsRun (design : DesignParts) (values : List PortValue) (received_mess
   pub frame : slice_get (frames_of next) node ≡ Some (frame_made design values received_messages frames node c)
   pub rows : slice_get (map (λ (s : Stage). s.rows) stages) node ≡ Some (rows_made design values received_messages frames node c)
 
--- those of all components that are there
+-- the results of all existing components
 abbrev pub AreRun : DesignParts → List PortValue → List (List PortValue) → List Bool → List Frame → List Part
     → List Stage → Type 0
 AreRun design values received_messages there frames next stages =
     (node : ℕ) (c : Component) → slice_get design.components node ≡ Some c → has_replica there node ≡ true
     → IsRun design values received_messages frames next stages node c
 
--- ---- what is read off the stages
--- each link of a component that is there has its message
+-- ---- the results in the stages
+-- each link of an existing component has its message
 abbrev pub AreSent : DesignParts → List Bool → List Stage → List (List PortValue) → Type 0
 AreSent design there stages sent =
     (l : ℕ) (link : Link) → slice_get design.links l ≡ Some link → has_replica there link.source.0 ≡ true
@@ -93,7 +93,7 @@ AreWhole design there stages shown =
     → slice_get shown n ≡ Some (whole_from (slice_get stages tap.source.0) tap.out_port)
 
 -- ---- a round of a layer
--- where its replicas stand is as before
+-- the state of its replicas is unchanged
 pub record StaysPut (old new : Layer) : Type 0 where
   pub there : new.there ≡ old.there
   pub parts : new.parts ≡ old.parts

@@ -1,4 +1,4 @@
--- The three layers together, which stand for all replicas, and what is voted of them.
+-- The three layers together, which represent all replicas, and the votes on their results.
 use Rattle.std.specs.Prelude.{◌≡◌, ℕ, suc, ◌<◌, nat_lt, Bool, true, if◌then◌else◌, List, [], length, map, All, find}
 use Rattle.std.specs.Prelude.{Some, slice_get, slice_index_or}
 use Rattle.pals_base.specs.declared.basic_types.PortValue.{PortValue}
@@ -44,15 +44,15 @@ voted_of design replicated parts received_messages = record {
   received = for_receivers design replicated (λ l target. tuple_of received_messages target l);
 }
 
--- ---- what is voted
--- what a replica receives on a link from what those of its source made, whether it has three or one
+-- ---- the votes
+-- the message that a replica receives on a link from the replicas of its source, three or one
 abbrev pub received_of : Bool → List VoteFault → List (List (List PortValue)) → ℕ → ℕ → List PortValue
 received_of three faults sent l target =
     if three then vote_of (λ replica.
     fault_or (find (is_fault l (suc replica) (suc target)) faults) (tuple_of sent replica l))
     else tuple_of sent 0 l
 
--- those of all links whose target has this replica
+-- the messages of all links whose target has this replica
 abbrev pub AreReceived : DesignParts → List Bool → List VoteFault → List Layer → ℕ → List (List PortValue) → Type 0
 AreReceived design replicated faults layers target received_messages =
     (l : ℕ) (link : Link) → slice_get design.links l ≡ Some link
@@ -82,12 +82,12 @@ pub record AreThree (design : DesignParts) (layers : List Layer) : Type 0 where
   pub three : length layers ≡ 3
   pub rooms : All (HasRoom design) layers
 
--- where all replicas stand is as before
+-- the state of all replicas is unchanged
 pub record StayPut (old new : List Layer) : Type 0 where
   pub there : there_in new ≡ there_in old
   pub parts : parts_in new ≡ parts_in old
 
--- each layer is made from what its replicas received
+-- each layer is computed from the received messages of its replicas
 abbrev pub AreMade : DesignParts → List PortValue → List (List (List PortValue)) → List Layer → Type 0
 AreMade design values received_messages layers =
     (replica : ℕ) (layer : Layer) → slice_get layers replica ≡ Some layer
@@ -104,7 +104,7 @@ pub record AreSwapped (old new : List Layer) : Type 0 where
   pub parts : parts_in new ≡ next_in old
   pub rooms : (design : DesignParts) → AreThree design old → AreThree design new
 
--- ---- what each product with votes keeps
+-- ---- the invariant of each product with votes
 -- a layer has the replicas of its number
 abbrev pub HaveReplicas : DesignParts → List Bool → List (List Bool) → Type 0
 HaveReplicas design replicated there =

@@ -42,7 +42,7 @@ NameOneEach faults =
     (m n : ℕ) (f g : VoteFault) → Contains (faults m) f → Contains (faults n) g → f.source.0 ≡ g.source.0
     → f.replica ≡ g.replica
 
--- where it is so, no two replicas are at fault towards one reader in one round
+-- if so, no two replicas are at fault towards one reader in one round
 abbrev pub OneNamedIsOutvoted : Type 0
 OneNamedIsOutvoted =
     (design : DesignParts) (faults : ℕ → List VoteFault) → AreFaults design faults → NameOneEach faults
@@ -116,7 +116,7 @@ StandsAtVotes =
     (design : DesignParts) (env : Env) (replicated : List Bool) (faults : ℕ → List VoteFault) (rounds : ℕ)
     → StandsAt design env replicated faults rounds
 
--- and what each root out port showed in the last of them
+-- and the values of each root out port in the last of them
 abbrev pub ShowsVotes : Type 0
 ShowsVotes =
     (design : DesignParts) (env : Env) (replicated : List Bool) (faults : ℕ → List VoteFault) (round : ℕ)

@@ -15,8 +15,8 @@ use Rattle.pals_model.specs.PortKindsAndRates.{rate_of}
 use Rattle.pals_runs.specs.declared.replica_faults.VoteFault.{VoteFault}
 use Rattle.triple_vote.specs.VotedComposition.{VotedConfiguration, voted_opening, next_voted, voted_tap_by}
 
--- a design, which of its components have replicas, what stands after some rounds, and what the root out ports showed
--- in the last
+-- a design, which of its components have replicas, the configuration after some rounds, and the values of the root out
+-- ports in the last
 pub record VotedState : Type 0 where
   pub design : DesignParts
   pub replicated : List Bool

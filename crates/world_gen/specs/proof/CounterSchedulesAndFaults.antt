@@ -76,7 +76,7 @@ pub record FastFaults : Type 0 where
       ≡ Some (3, fault.TooSoon (subject.Node a) 20500000)
   pub long : refused fast_world (both 20000000 ∷ Start a ∷ both 23000001 ∷ [])
       ≡ Some (2, fault.PastDeadline (subject.Node a) 23000000)
-  -- two steps are too few to be sent; what is sent late, though before its next step is due
+  -- two steps are too few for a send; a late send, though before its next step is due
   pub few : refused fast_world (first_steps ++ Send a ∷ []) ≡ Some (6, fault.WrongPhase a)
   pub unsent : refused fast_world (third_steps ++ both 33000001 ∷ [])
       ≡ Some (18, fault.PastDeadline (subject.Node a) 33000000)

@@ -62,7 +62,7 @@ abbrev pub next_moment : List EventSeries → ℕ → Option ℕ
 next_moment all_series from =
     fold (λ moment series. lesser moment (option_map (time_of series) (next_of series from))) None all_series
 
--- ---- those of a design
+-- ---- the series of a design
 abbrev numbered_node : ℕ → NodeNo
 numbered_node node = record { 0 = node }
 
@@ -124,7 +124,7 @@ earlier_series design rounds = if nat_eq design.gamma.alpha_min 0 then [] else a
 abbrev pub present_series : DesignParts → ℕ → List EventSeries
 present_series design rounds = if nat_eq design.gamma.alpha_min 0 then all_finishes design rounds else []
 
--- all of them, in the order in which they go on at one moment
+-- all of them, in the order in which they occur at one moment
 abbrev pub timetable : DesignParts → ℕ → List EventSeries
 timetable design rounds =
     earlier_series design rounds

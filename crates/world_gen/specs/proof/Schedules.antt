@@ -1,5 +1,5 @@
--- Schedules: all clocks show the time, each step starts at its alarm and takes the least time, and each message goes
--- out as soon as it may and takes the least time.
+-- Schedules: all clocks show the time, each step starts at its alarm and takes the minimum time, and each message is
+-- sent as early as allowed and takes the minimum time.
 use Rattle.std.specs.Prelude.{◌≡◌, ◌≢◌, ℕ, suc, ◌+◌, ◌-◌, ◌*◌, ◌/◌, ◌%◌, ◌<◌, ◌≤◌, max, nat_eq, if◌then◌else◌, List, []}
 use Rattle.std.specs.Prelude.{◌∷◌, ◌++◌, length, replicate, flat_map, position, Option, Some, None}
 use Rattle.pals_base.specs.PeriodBoundAndReleases.{alarm}
@@ -29,7 +29,7 @@ send_time design node round =
 abbrev pub arrive_time : DesignParts → ℕ → ℕ → ℕ
 arrive_time design link round = send_time design (link_at design link).source.0 round + design.gamma.mu_min
 
--- ---- what comes at a moment
+-- ---- the events at a moment
 -- the number, below a count, of the first time that is this moment
 abbrev pub number_at_moment : (ℕ → ℕ) → ℕ → ℕ → Option ℕ
 number_at_moment time count moment = position (λ number. nat_eq (time number) moment) (upwards 0 count)
@@ -94,7 +94,7 @@ AreMoments design rounds from (moment ∷ later) =
     (from ≤ moment) × ((time : ℕ) → from ≤ time → time < moment → events_at design rounds time ≡ [])
     × (events_at design rounds moment ≢ []) × AreMoments design rounds (suc moment) later
 
--- one Pass to each of them, and what comes at it
+-- one Pass to each of them, and the events at it
 abbrev pub schedule_at : DesignParts → ℕ → List ℕ → List Event
 schedule_at design rounds moments =
     flat_map (λ moment. event.Pass moment (replicate (length design.components) moment)

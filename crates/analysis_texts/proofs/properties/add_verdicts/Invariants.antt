@@ -9,7 +9,7 @@ use Rattle.run_monitor.specs.FalseProperties.{formula_values}
 use Rattle.analysis_texts.specs.MonitoredFormulas.{formulas}
 use Rattle.analysis_texts.proofs.properties.add_verdicts.Given as goal
 
--- the lines so far, of any history over which the monitors said this
+-- the lines so far, of any history over which the monitors have these values
 abbrev pub invariant-loop-at : goal.invariant-loop-at
 invariant-loop-at l =
     (h : List (List Frame)) → said_by l.monitors ≡ formula_values (formulas l.properties) h l.round

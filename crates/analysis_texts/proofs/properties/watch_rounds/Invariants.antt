@@ -6,8 +6,8 @@ use Rattle.run_monitor.specs.FormulaSemantics.{frame_rows}
 use Rattle.analysis_texts.specs.MonitoredFormulas.{named, formulas}
 use Rattle.analysis_texts.proofs.properties.watch_rounds.Given as goal
 
--- the product stands at the round, the monitors have watched the rounds before it, the text has their rows, and there
--- is a value for each root in port
+-- the product is at the round, the monitors have watched the rounds before it, the text has their rows, and there is a
+-- value for each root in port
 abbrev pub invariant-loop-round : goal.invariant-loop-round
 invariant-loop-round l = record {
   design : l.product.design ≡ l.fn.product.design;

@@ -3,7 +3,7 @@ use Rattle.pals_model.specs.Composition.{comp}
 use Rattle.pals_model.specs.RoundTexts.{report}
 use Rattle.analysis_texts.proofs.sync.rows.Given as goal
 
--- the product stands at the round, the text has the rows before it, and there is a value for each root in port
+-- the product is at the round, the text has the rows before it, and there is a value for each root in port
 abbrev pub invariant-loop-round : goal.invariant-loop-round
 invariant-loop-round l = record {
   design : l.product.design ≡ l.fn.product.design;

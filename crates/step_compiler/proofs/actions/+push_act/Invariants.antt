@@ -3,7 +3,7 @@ use Rattle.pals_base.specs.proof.TreeViews.{actions_along, branches_along}
 use Rattle.step_compiler.specs.ExpressionAndActionInstructions.{code_acts, code_branches}
 use Rattle.step_compiler.proofs.actions.+push_act.Given as goal
 
--- the code so far, and that of the actions that are left
+-- the code so far, and the code of the remaining actions
 abbrev pub invariant-push_acts-loop-act : goal.invariant-push_acts-loop-act
 invariant-push_acts-loop-act l =
     l.code ++ code_acts (actions_along (drop l.act-index l.acts)) l.variables (length l.code)

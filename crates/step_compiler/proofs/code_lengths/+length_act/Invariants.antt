@@ -4,7 +4,7 @@ use Rattle.step_code.specs.CappedWeights.{capped}
 use Rattle.step_code.specs.CodeLengths.{length_acts, length_branches}
 use Rattle.step_compiler.proofs.code_lengths.+length_act.Given as goal
 
--- the length so far, and that of the actions that are left
+-- the length so far, and the length of the remaining actions
 abbrev pub invariant-acts_length-loop-act : goal.invariant-acts_length-loop-act
 invariant-acts_length-loop-act l =
     record {

@@ -4,7 +4,7 @@ use Rattle.step_code.specs.CappedWeights.{capped}
 use Rattle.step_code.specs.CodeLengths.{length_rest}
 use Rattle.step_compiler.proofs.code_lengths.+length_expr.Given as goal
 
--- the length so far, and that of the operands that are left
+-- the length so far, and the length of the remaining operands
 abbrev pub invariant-rest_length-loop-operand : goal.invariant-rest_length-loop-operand
 invariant-rest_length-loop-operand l =
     record {

@@ -4,7 +4,7 @@ use Rattle.sync_product.specs.proof.Rounds.{frames_of}
 use Rattle.triple_vote.proofs.LayerSteps.{RunTo}
 use Rattle.triple_vote.proofs.layer_rounds.run_all.Given as goal
 
--- the first components that are there have made their steps, and the sizes stay
+-- the first existing components have completed their steps, and the sizes stay
 abbrev pub invariant-loop-node : goal.invariant-loop-node
 invariant-loop-node l = record {
   run : RunTo l.round.design.now l.round.values.now l.round.messages.now l.there (frames_of l.parts) l.next

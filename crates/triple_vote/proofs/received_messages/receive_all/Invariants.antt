@@ -7,7 +7,7 @@ use Rattle.triple_vote.specs.proof.ThreeLayers.{there_in, sent_in, received_of}
 use Rattle.triple_vote.proofs.SelectiveListWrites.{Filled}
 use Rattle.triple_vote.proofs.received_messages.receive_all.Given as goal
 
--- what is received on the first links is written
+-- the messages of the first links are written
 abbrev pub invariant-loop-number : goal.invariant-loop-number
 invariant-loop-number l = record {
   sizes : lengths l.received_messages ≡ message_sizes l.design;

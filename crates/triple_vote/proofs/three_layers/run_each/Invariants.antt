@@ -4,7 +4,7 @@ use Rattle.triple_vote.specs.proof.ThreeLayers.{AreThree, StayPut}
 use Rattle.triple_vote.proofs.ThreeLayerUpdates.{MadeTo}
 use Rattle.triple_vote.proofs.three_layers.run_each.Given as goal
 
--- the first layers have made the round, and all stand where they stood
+-- the first layers have completed the round, and the state of every layer is unchanged
 abbrev pub invariant-loop-at : goal.invariant-loop-at
 invariant-loop-at l = record {
   made : MadeTo l.design l.values l.received_messages l.layers.items l.at;
