@@ -17,7 +17,7 @@ holding-more (suc at) [] inputs v rest e = cc
 holding-more (suc at) (w ∷ held) [] v rest e = ap (λ h. holding h []) e ∙ ap (λ h. v ∷ h) (sym (holding-none rest))
 holding-more (suc at) (w ∷ held) (i ∷ inputs) v rest e = holding-more at held inputs v rest e
 
--- a place written: what is held up to it, and of the places that are left
+-- an element written: the held inputs up to it, and of the remaining elements
 pub holding-set : (at : ℕ) (held : List ℤ) (inputs : List PortValue) (before v : ℤ) → at < length held
     → before ≡ get_or held at before → v ≡ held_of before (slice_index_or inputs at Absent)
     → take (at + 1) (slice_set held at v) ++ holding (drop (at + 1) (slice_set held at v)) (drop (at + 1) inputs)

@@ -1,4 +1,4 @@
--- How a step ends, by whether the frame was halted and what its reaction comes to.
+-- How a step ends, by whether the frame was halted and by the result of its reaction.
 use Rattle.std.proofs.Common.{◌≡◌, ℤ, List, refl, sym, ap, ◌∙◌}
 use Rattle.std.specs.Prelude.{true, false, map, Option, Some, None, Result, is_some}
 use Rattle.pals_base.specs.declared.basic_types.Trap.{Trap}

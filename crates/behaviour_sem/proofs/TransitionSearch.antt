@@ -18,8 +18,8 @@ use Rattle.behaviour_sem.specs.declared.transitions.StepState.{StepState}
 use Rattle.pals_base.specs.declared.behaviour.BehaviourParts.{BehaviourParts}
 use Rattle.behaviour_sem.proofs.StateIndependence.{acts-seen, opens-seen}
 
--- ---- stops
--- what stops a run stops all that goes on from it
+-- ---- traps
+-- a trap that ends a run ends every run that continues from it
 pub Left-stops : {A B : Type 0} (s : EarlyEnd) (first : Result A Trap) (go : A → Result B Trap) (reached : A)
     (reached' : B) → IsStepResult (Err s) reached first → IsStepResult (Err s) reached' (on_value first go)
 Left-stops (stop.Trapped trap) first go reached reached' left = ap (λ r. on_value r go) left

@@ -65,7 +65,7 @@ fn run(
     }
 }
 
-// Does the first branch whose guard is true, and tells whether there is one.
+// Runs the first branch whose guard is true, and returns whether there is one.
 #[cycle(run)]
 fn run_first(
     branches: &[Branch],
@@ -106,8 +106,8 @@ fn run_turns(
     Ok(())
 }
 
-// Does a body at one number of its loop, which stands behind the variables and then goes, also where
-// a stop ends the body.
+// Runs a body at one number of its loop, which follows the variables and is then removed, also if
+// a trap ends the body.
 #[cycle(run)]
 fn run_turn(
     number: i64,

@@ -1,4 +1,4 @@
-//! Why a step does not come to its end.
+//! Why a step does not reach its end.
 use pals_base::Trap;
 use std::alloc::{AllocError, AllocFailed};
 

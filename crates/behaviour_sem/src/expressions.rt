@@ -31,7 +31,7 @@ pub fn eval(expr: &Expr, vars: &[i64], inputs: StepInputs) -> Result<i64, Trap>
     }
 }
 
-// The later operands of a chain, from the value of what stands left of them.
+// The later operands of a chain, from the value of the operands to their left.
 #[cycle(eval)]
 fn eval_rest(rest: &[Operand], left: i64, vars: &[i64], inputs: StepInputs) -> Result<i64, Trap>
     ensures { result ≡ eval_rest (operands_along rest.now) (seen vars.now inputs.entry) (fresh inputs.entry) left }

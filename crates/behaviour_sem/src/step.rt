@@ -11,8 +11,8 @@ use pals_base::{Behaviour, Frame, ItemList, NoMemory, PortValue, TryClone};
 use std::alloc::{AllocError, Global};
 use std::mem::replace;
 
-/// One step, in memory of its own: the frame after it, and what its out ports have. `fire_into`
-/// says what a step does. The only error is that there is not enough memory.
+/// One step, in memory of its own: the frame after it, and the values of its out ports. See `fire_into`
+/// for the meaning of a step. The only error is that memory runs out.
 pub fn fire(
     alloc: Global,
     behaviour: &Behaviour,
@@ -34,13 +34,12 @@ pub fn fire(
     Ok((after, ItemList::from_vec(outs)))
 }
 
-/// One step, from one frame into another of the same shape: holds each present input, and then
-/// follows the dispatch transition of the frame's state and from each state that is not complete
-/// its first transition whose guard is true. What `to` and `outs` had before is gone. A trap leaves
-/// the state and the variables as they were, halts the frame, and leaves all outputs absent; a
-/// halted frame stays. Only the number of a loop can take memory, and only where the variables of
-/// `to` had no place for it in an earlier step; if there is not enough of it, `to` keeps its shape,
-/// so that the call can be made again.
+/// One step, from one frame into another of the same shape: stores each present input, and then
+/// follows the dispatch transition of the frame's state and, from each passing state, its first
+/// transition whose guard is true. The previous contents of `to` and `outs` are overwritten. A trap leaves
+/// the state and the variables unchanged, halts the frame, and makes all outputs absent; a halted frame
+/// stays. Only the number of a loop allocates, and only if the variables of `to` had no place for it in an
+/// earlier step; if memory runs out, `to` keeps its shape, so that the call can be repeated.
 pub fn fire_into(
     alloc: Global,
     behaviour: &Behaviour,
@@ -82,7 +81,7 @@ fn silence(outs: &mut [PortValue])
     outs.fill(PortValue::Absent);
 }
 
-// Holds each present input, and keeps what was held before of the others.
+// Stores each present input, and keeps the held value of the others.
 fn hold(held: &mut ItemList<i64>, inputs: &[PortValue])
     ensures after { held.new ≡ holding held.old inputs.now }
     ensures len { length held.new ≡ length held.old }
@@ -92,7 +91,7 @@ fn hold(held: &mut ItemList<i64>, inputs: &[PortValue])
     }
 }
 
-// The value of an in port where it is present, else the one held before.
+// The value of an in port if it is present, else the held value.
 fn newest(before: i64, inputs: &[PortValue], at: usize) -> i64
     ensures { result ≡ held_of before (slice_index_or inputs.now at PortValue.Absent) }
 {

@@ -12,7 +12,7 @@ use crate::expressions::{eval, holds};
 use crate::step_inputs::StepInputs;
 use pals_base::{Behaviour, Guard, PortValue, StateDecl, Transition, Trap};
 
-/// Where a step under way stands: the state that it reached, and the variables.
+/// The state of a running step: the state of the behaviour that it reached, and the variables.
 #[derive(Drop)]
 pub struct StepState {
     pub state: u32,
@@ -33,7 +33,7 @@ fn opens(guard: &Guard, vars: &[i64], inputs: StepInputs) -> Result<bool, Trap>
     }
 }
 
-// Whether a transition leaves a state and its guard lets it go.
+// Whether a transition leaves a state and its guard is true.
 fn goes(transition: &Transition, state: u32, vars: &[i64], inputs: StepInputs) -> Result<bool, Trap>
     ensures { result ≡ goes state (seen vars.now inputs.entry) (fresh inputs.entry) transition.now }
 {

@@ -20,10 +20,10 @@ const B: NodeNo = NodeNo(1);
 // The link into the second.
 const TO_B: LinkNo = LinkNo(1);
 
-// The tail of the plane, which makes four steps a round.
+// The tail of the plane, which runs four steps a round.
 const TAIL: NodeNo = NodeNo(3);
 
-// A call of a bus, and what it gives.
+// A call of a bus, and its expected result.
 #[derive(Clone, Copy)]
 enum BusRow {
     /// A round of one step: the reading of its alarm, and the one of its release.
@@ -43,7 +43,7 @@ enum BusRow {
     Close,
 }
 
-// A bus does what rows say, and gives what they say.
+// The calls of a table on a bus have the results of the table.
 fn assert_rows(rt: &impl Abort, bus: &mut Bus, rows: &[BusRow]) {
     for (index, row) in rows.iter().enumerate() {
         assert!(rt; holds(bus, *row), "row {index}");
@@ -86,7 +86,7 @@ fn steps(bus: &mut Bus, node: NodeNo, number: u32, at: Nanos) -> bool {
     }
 }
 
-// Rows of a bus of a design that makes two rounds, and what it tells behind them.
+// A table of calls on a bus of a design that runs two rounds, and the bus's observers after them.
 fn assert_run(
     rt: &impl Abort,
     alloc: Global,
@@ -214,20 +214,20 @@ fn nodes_meet(rt: HostRuntime) -> Result<(), Fail> {
     assert_run(&rt, rt.alloc(), TWO_COUNTERS, true, &MEETING, MEETING_TOLD)
 }
 
-// Whether a fresh bus is of the run of the bus, before its first event.
+// Whether a fresh bus belongs to the run of the bus, before its first event.
 fn is_fresh(alloc: Global, bus: &Bus) -> Result<bool, NoMemory> {
     let fresh = bus.fresh(alloc)?;
     let unmoved = !fresh.closed() && fresh.journal().is_empty() && count(&fresh, A) == Some(0);
     Ok(unmoved && bus.same_run(&fresh))
 }
 
-// Whether a bus that makes one round is of the run of the bus.
+// Whether a bus that runs one round belongs to the run of the bus.
 fn is_of_one_round(rt: &impl Abort, alloc: Global, bus: &Bus) -> Result<bool, Fail> {
     let shorter = bus_of(rt, alloc, TWO_COUNTERS, 1, true)?;
     Ok(bus.same_run(&shorter))
 }
 
-// Whether a bus tells one of its run from one of another.
+// Whether a bus distinguishes a bus of its run from a bus of another.
 fn tells_its_run(rt: &impl Abort, alloc: Global, bus: &Bus) -> Result<bool, Fail> {
     Ok(is_fresh(alloc, bus)? && !is_of_one_round(rt, alloc, bus)?)
 }

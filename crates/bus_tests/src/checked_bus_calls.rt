@@ -67,8 +67,7 @@ fn has_link(bus: &Bus, link: LinkNo) -> bool
     (link.0 as usize) < bus.design().links().len()
 }
 
-// Whether a node of a bus may go on at a reading: where the nodes meet, only at the one that they go
-// on at.
+// Whether a node of a bus may act at a reading: in virtual time, only at the smallest target.
 fn goes_at(bus: &Bus, node: NodeNo, reading: Nanos) -> bool
     requires { node.0 < length bus.now.run.design.components }
     ensures { IsTrue result → bus.now.meeting ≡ true → GoesAt bus.now node.0 (Some reading) }
@@ -101,7 +100,7 @@ pub fn step(bus: &mut Bus, node: NodeNo, reading: Nanos) -> Option<Job> {
     bus.step(node, Some(reading)).ok()
 }
 
-/// How a step finishes with what was handed in, if it does.
+/// How a step finishes with the submitted job, if it does.
 pub fn finish(bus: &mut Bus, node: NodeNo, done: Done) -> Option<Finished> {
     if !has_node(bus, node) {
         return None;
@@ -127,7 +126,7 @@ pub fn repeat(bus: &mut Bus, link: LinkNo, round: u32) -> bool {
     has_link(bus, link) && bus.repeat_message(link, round).is_ok()
 }
 
-/// How all that is due to a node arrives.
+/// How every message that is due to a node arrives.
 pub fn take_due(bus: &mut Bus, node: NodeNo, reading: Nanos) -> Option<Result<(), DueEnd>> {
     if !has_node(bus, node) {
         return None;
@@ -135,7 +134,7 @@ pub fn take_due(bus: &mut Bus, node: NodeNo, reading: Nanos) -> Option<Result<()
     Some(bus.take_due(node, reading))
 }
 
-/// Whether a node may go on where the nodes meet, if it has a next action.
+/// Whether a node may act in virtual time, if it has a next action.
 pub fn meet(bus: &Bus, node: NodeNo) -> Option<Meet> {
     if !has_node(bus, node) || !bus.meeting() || bus.next(node).is_none() {
         return None;
@@ -175,7 +174,7 @@ pub fn leaves(bus: &Bus, node: NodeNo, round: u32, vars: &[i64]) -> bool {
     }
 }
 
-/// Whether the lines of what has happened on a bus are these.
+/// Whether the journal of a bus has these lines.
 pub fn tells(alloc: Global, bus: &Bus, wanted: &str) -> Result<bool, NoMemory> {
     let mut lines = Vec::new(alloc);
     add_journal(&mut lines, bus)?;

@@ -1,4 +1,4 @@
-//! Work of a node that is handed in rounds later.
+//! Work of a node that is submitted rounds later.
 use crate::checked_bus_calls::{bus_of, finish, finish_here, leaves, send, start, take_due, tells};
 use case_files::example_designs::TWO_COUNTERS;
 use pals_base::{Nanos, NoMemory, NodeNo};
@@ -12,7 +12,7 @@ const A: NodeNo = NodeNo(0);
 
 const B: NodeNo = NodeNo(1);
 
-// Whether a node starts a round, whose work is not handed in.
+// Whether a node starts a round, whose work is not submitted.
 fn begins(bus: &mut Bus, node: NodeNo, at: Nanos) -> bool {
     start(bus, node, at).is_some()
 }
@@ -28,7 +28,7 @@ fn make_rest(bus: &mut Bus) -> bool {
         && take_due(bus, A, 18_000_000) == Some(Ok(()))
 }
 
-// How the second round of the first counter finishes, for which the work of its first is handed in.
+// How the second round of the first counter finishes if the work of its first round is submitted.
 fn finish_with_earlier_work(bus: &mut Bus) -> Option<Finished> {
     let earlier = start(bus, A, 9_000_000)?.run();
     if !make_rest(bus) || !begins(bus, A, 18_000_000) {
@@ -37,7 +37,7 @@ fn finish_with_earlier_work(bus: &mut Bus) -> Option<Finished> {
     finish(bus, A, earlier)
 }
 
-// How the second round of the first counter finishes, for which its own work is handed in.
+// How the second round of the first counter finishes if its own work is submitted.
 fn finish_with_own_work(bus: &mut Bus) -> Option<Finished> {
     if !begins(bus, A, 9_000_000) || !make_rest(bus) {
         return None;
@@ -46,7 +46,7 @@ fn finish_with_own_work(bus: &mut Bus) -> Option<Finished> {
     finish(bus, A, own)
 }
 
-// What both tell, and leave.
+// The results of both, and their states.
 const TOLD: &str = "start p.a 0 9000000\n\
 finish p.a 0\n\
 send p.a 0 10000000\n\
@@ -59,7 +59,7 @@ finish p.a 1\n";
 
 const LEFT: [i64; 1] = [3];
 
-// Whether a bus stands as it does when the first counter has finished its second round.
+// Whether a bus has the state after the second round of the first counter.
 fn is_finished(alloc: Global, bus: &Bus) -> Result<bool, NoMemory> {
     Ok(leaves(bus, A, 1, &LEFT) && tells(alloc, bus, TOLD)?)
 }

@@ -1,5 +1,4 @@
-//! Tests of nodes and the bus: worked rows, and each call that takes memory, once where there is
-//! enough.
+//! Tests of nodes and the bus: worked rows, and each call that allocates, once with enough memory.
 #![tactic(auto)]
 
 #[cfg(test)]

@@ -49,7 +49,7 @@ fn opening_node(
     node_of(alloc, plan, rounds)
 }
 
-// A call at a reading, and what it gives.
+// A call at a reading, and its expected result.
 #[derive(Clone, Copy)]
 enum NodeRow {
     /// A start that gives a job, which is run and used.
@@ -61,11 +61,11 @@ enum NodeRow {
     NoStart(Nanos, StartEnd),
     NoStep(Nanos, StepEnd),
     NoSend(Nanos, SendEnd),
-    /// How many rounds the node has started, what it does, and which reading it waits for.
+    /// How many rounds the node has started, its phase, and the reading that it waits for.
     Stands(u32, Phase, Option<Nanos>),
 }
 
-// A node does what rows say, and gives what they say.
+// The calls of a table on a node have the results of the table.
 fn assert_rows(rt: &impl Abort, node: &mut Node, rows: &[NodeRow]) -> Result<(), Fail> {
     for row in rows {
         assert_row(rt, node, *row)?;
@@ -167,7 +167,7 @@ const MISSED_START: [NodeRow; 4] = [
     NodeRow::Stands(1, Phase::Waiting, Some(18_000_000)),
 ];
 
-// A fresh node, of the run of a node, does what rows say.
+// The calls of a table on a fresh node, of the run of a node, have the results of the table.
 fn assert_fresh_rows(
     rt: &impl Abort,
     alloc: Global,

@@ -16,7 +16,7 @@ length_of design node = code_length (component_at design node).behaviour
 abbrev pub AreShort : DesignParts → Type 0
 AreShort design = (node : ℕ) → node < length design.components → length_of design node ≤ INSTRUCTIONS
 
--- the code of this component is too long, and those of all before it are not
+-- the code of this component is too long, and the code of no earlier component is
 pub record IsFirstTooLong (design : DesignParts) (node size : ℕ) : Type 0 where
   pub within : node < length design.components
   pub size_is : size ≡ capped (length_of design node)

@@ -46,7 +46,7 @@ pub fn compile_all(alloc: Global, design: &Design) -> Result<ItemList<Code>, Cod
     for component in design.components() {
         match compile(alloc, &component.behaviour) {
             Ok(code) => {
-                // Each code keeps that it is no longer than a code may be.
+                // Each code has the invariant that it is within the limit.
                 let _verified = code.parts();
                 codes.push(code)?;
             }

@@ -1,5 +1,5 @@
--- For the law that extremes bound their group: where the present numbers of a group stand, and the least and the
--- greatest of them.
+-- For the law that extremes bound their group: the positions of the present numbers of a group, and their minimum and
+-- maximum.
 use Rattle.std.proofs.Common.{◌≡◌, ap, sym, subst, refl, zero, suc, ◌⊎◌, inl, inr, ℤ, ◌≤ℤ◌, List, [], ◌∷◌, arith}
 use Rattle.std.specs.Prelude.{All, Contains}
 use Rattle.std.proofs.lemmas.Int.{fold-int_max_bounds, fold-int_max_reached, fold-int_min_bounds, fold-int_min_reached}
@@ -11,7 +11,7 @@ use Rattle.pals_base.specs.declared.allowed_adaptors.Adaptor.TheVariants.{Min, M
 use Rattle.pals_base.specs.Adaptors.{present, joined, of_present, least_of, greatest_of}
 use Rattle.input_adaptors.specs.proof.PlacesAndGroupValues.{IsLeast, IsGreatest}
 
--- ---- a number is among the present ones exactly where a port has it
+-- ---- a number is among the present ones if and only if a port has it
 pub Contains-from_present : (ports : List PortValue) (v : ℤ) → Contains (present ports) v → Contains ports (Present v)
 Contains-from_present [] v among = absurd (omega (arith, among.1))
 Contains-from_present (Absent ∷ ports) v among =
@@ -28,7 +28,7 @@ Contains-present (Present w ∷ ports) v (zero, below, read) = let e : w ≡ v =
 Contains-present (Present w ∷ ports) v (suc k, below, read) =
     Contains-cons w v (present ports) (Contains-present ports v (k, omega arith, read))
 
--- ---- the least and the greatest of numbers
+-- ---- the minimum and the maximum of numbers
 Contains-reached : (w v : ℤ) (ws : List ℤ) → (v ≡ w) ⊎ Contains ws v → Contains (w ∷ ws) v
 Contains-reached w v ws (inl e) = subst (λ x. Contains (x ∷ ws) v) e (Contains-head v ws)
 Contains-reached w v ws (inr among) = Contains-cons w v ws among

@@ -1,5 +1,4 @@
--- For the law that averages lie within their group: a mean is no less than the least of its numbers and no more than
--- the greatest.
+-- For the law that averages are within their group: a mean is between the minimum and the maximum of its numbers.
 use Rattle.std.proofs.Common.{◌≡◌, sym, subst, refl, ℕ, suc, ◌+◌, ℤ, pos, negsuc, ◌+ℤ◌, ◌*ℤ◌, ◌≤ℤ◌, List, [], ◌∷◌}
 use Rattle.std.proofs.Common.{length, fold, arith}
 use Rattle.std.specs.Prelude.{All, Contains}

@@ -1,5 +1,4 @@
--- For the law that numbers come from the source: each present number that an adaptor gives stands in the source's
--- tuple.
+-- For the law that numbers come from the source: each present number that an adaptor gives is in the source's tuple.
 use Rattle.std.proofs.Common.{◌≡◌, ◌≢◌, ◌∙◌, ap, sym, subst, refl, ℕ, zero, suc, ◌-◌, ◌/◌, inl, inr, ℤ, List, [], ◌∷◌}
 use Rattle.std.proofs.Common.{length, take, drop, map, Option, Some, None}
 use Rattle.std.specs.Prelude.{flat_map, slice_index_or, slice_set, replicate, All, Contains}
@@ -16,7 +15,7 @@ use Rattle.pals_base.specs.Adaptors.{adapt, groups, joined, spread, present, of_
 use Rattle.input_adaptors.proofs.Extremes.{Contains-from_present, IsLeast-joined, IsGreatest-joined}
 use Rattle.input_adaptors.proofs.TupleLengthsAndGroups.{adapt-faster, adapt-slower}
 
--- the number of the port, if it has one, is among those of the tuple
+-- the number of the port, if it has one, is among the numbers of the tuple
 abbrev IsFrom : List PortValue → PortValue → Type 0
 IsFrom tuple port = (v : ℤ) → port ≡ Present v → Contains tuple (Present v)
 

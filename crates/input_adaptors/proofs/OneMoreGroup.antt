@@ -1,4 +1,4 @@
--- For `join_all`: a list of ports is cut into groups, and what is given after one more group.
+-- For `join_all`: a list of ports is cut into groups, and the result after one more group.
 use Rattle.std.proofs.Common.{◌≡◌, ◌∙◌, ap, sym, ℕ, suc, ◌+◌, ◌-◌, ◌<◌, min, List, [], ◌∷◌, ◌++◌, length, take, drop}
 use Rattle.std.proofs.Common.{map, arith, append_assoc}
 use Rattle.std.proofs.lemmas.List.{take_min, drop_min}
@@ -11,7 +11,7 @@ groups_more count i m rest below =
     let one_more : count - i ≡ suc (count - (i + 1)) = omega arith in
     ap (λ n. groups n m rest) one_more
 
--- one group on: what is done, and what the groups that are left give
+-- one more group: the result so far, and the results of the remaining groups
 pub join_step : (f : List PortValue → PortValue) (all done rest group later : List PortValue)
     (count i m n : ℕ) → i < count
     → n ≡ min m (length rest) → group ≡ take n rest → later ≡ drop n rest

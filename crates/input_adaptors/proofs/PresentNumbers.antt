@@ -1,4 +1,4 @@
--- For the functions of `group_value`: the present numbers of a list of ports; their least, greatest, latest and sum.
+-- For the functions of `group_value`: the present numbers of a list of ports; their minimum, maximum, latest and sum.
 use Rattle.std.proofs.Common.{◌≡◌, ◌∙◌, ap, sym, refl, ℕ, ◌+◌, ◌<◌, ◌≤◌, ◌*◌, ◌^◌, ◌-◌, ℤ, pos, neg_ℤ, ◌+ℤ◌, ◌≤ℤ◌, List}
 use Rattle.std.proofs.Common.{[], ◌∷◌, ◌++◌, length, take, get_or, fold, Option, Some, None, arith}
 use Rattle.std.specs.List.{reduce, filter_map, last_or}
@@ -71,8 +71,8 @@ present-append [] ys = refl
 present-append (Absent ∷ xs) ys = present-append xs ys
 present-append (Present v ∷ xs) ys = ap (λ vs. v ∷ vs) (present-append xs ys)
 
--- the sum and the count of the present numbers of the first i ports; the sum lies between `count` times the least and
--- `count` times the greatest number
+-- the sum and the count of the present numbers of the first i ports; the sum is between `count` times the minimum and
+-- `count` times the maximum
 pub record IsSummed (ports : List PortValue) (i : ℕ) (sum : ℤ) (count : ℕ) : Type 0 where
   pub total : sum ≡ fold ◌+ℤ◌ (pos 0) (present (take i ports))
   pub counted : count ≡ length (present (take i ports))

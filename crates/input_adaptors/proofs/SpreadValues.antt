@@ -1,5 +1,4 @@
--- For `spread_place` and the law that values stand in their places: at which places of the target the values of a
--- slower source stand.
+-- For `spread_place` and the law of spread values: the places of the target that hold the values of a slower source.
 use Rattle.std.proofs.Common.{◌≡◌, ◌≢◌, ◌∙◌, ap, sym, refl, ℕ, zero, suc, ◌+◌, ◌-◌, ◌*◌, ◌/◌, ◌%◌, ◌<◌, ◌≤◌, subst}
 use Rattle.std.proofs.Common.{List, [], ◌∷◌, length, Some, arith}
 use Rattle.std.specs.Prelude.{IsTrue, Bool, true, false, ◌&&◌, if◌then◌else◌, nat_le, nat_lt, flat_map, slice_get}

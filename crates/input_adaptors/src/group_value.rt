@@ -56,7 +56,7 @@ fn latest(group: &[PortValue]) -> Option<i64>
     group.iter().filter_map(number).last()
 }
 
-// The greatest present number.
+// The maximum present number.
 fn greatest(group: &[PortValue]) -> Option<i64>
     ensures { result ≡ reduce int_max (present group.now) }
 {
@@ -85,8 +85,7 @@ fn average(group: &[PortValue]) -> PortValue
     quotient(sum, count)
 }
 
-// A sum of `count` 64-bit numbers divided by their count, towards zero: absent where there are
-// none.
+// A sum of `count` 64-bit numbers divided by their count, towards zero; absent if `count` is 0.
 fn quotient(sum: i128, count: usize) -> PortValue
     requires low { neg_ℤ (pos (2 ^ 63 * count)) ≤ℤ sum }
     requires high { sum ≤ℤ pos ((2 ^ 63 - 1) * count) }

@@ -27,7 +27,7 @@ pub fn groups_are_equal()
         length tuple ≡ count * m → flat_map (λ group. group) (groups count m tuple) ≡ tuple }
 {}
 
-/// To a higher rate, a value stands in the places that its adaptor names, and the others are absent.
+/// To a higher rate, a value is in the places that its adaptor names, and the others are absent.
 pub fn values_stand_in_their_places()
     ensures there { (adaptor : Adaptor) (p q i j : ℕ) (tuple : List PortValue) → p < q
         → IsTrue (is_allowed (Some adaptor) p q) →
@@ -66,13 +66,13 @@ pub fn latest_is_last()
     ensures { (group : List PortValue) (v : ℤ) → joined Latest group ≡ Present v → IsLatest group v }
 {}
 
-/// `Min` gives the least present number of a group, and `Max` the greatest.
+/// `Min` gives the minimum present number of a group, and `Max` the maximum.
 pub fn extremes_bound_their_group()
     ensures least { (group : List PortValue) (v : ℤ) → joined Min group ≡ Present v → IsLeast group v }
     ensures greatest { (group : List PortValue) (v : ℤ) → joined Max group ≡ Present v → IsGreatest group v }
 {}
 
-/// Each average lies between the least and the greatest present number of its group.
+/// Each average is between the minimum and the maximum present number of its group.
 pub fn averages_lie_within_their_group()
     ensures above { (p q k : ℕ) (tuple : List PortValue) (v : ℤ) → q ≤ p →
         slice_get (adapt (Some Average) p q tuple) k ≡ Some (Present v) → IsAboveSome (group_at p q k tuple) v }

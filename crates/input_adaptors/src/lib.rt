@@ -36,7 +36,7 @@ pub fn adapt(
     }
 }
 
-/// Place `step`, from 0, of what `adapt` gives. It takes no memory, so that a step can read its
+/// Place `step`, from 0, of the result of `adapt`. Does not allocate, so that a step can read its
 /// inputs in the tuples themselves.
 pub fn adapted_place(
     adaptor: Option<Adaptor>,

@@ -1,4 +1,4 @@
--- The law that buses keep kinds: the values in the states of the bus are those of the composition.
+-- The law that buses preserve types: the values in the states of the bus are values of the composition.
 use Rattle.std.proofs.Common.{◌≡◌, ◌∙◌, ℕ, zero, suc, List, [], length, map, take, slice_get, All, Option, Some, None}
 use Rattle.std.proofs.Common.{sym, ap, subst}
 use Rattle.std.specs.Prelude.{slice_index_or}

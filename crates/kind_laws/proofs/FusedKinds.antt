@@ -1,4 +1,4 @@
--- The law that fused rounds keep kinds, by the ranks of steps: what a step reads was left by steps of lower rank.
+-- The law that fused rounds preserve types, by the ranks of steps: the inputs of a step are outputs of lower rank.
 use Rattle.std.proofs.Common.{◌≡◌, ◌∙◌, ℕ, zero, suc, ◌+◌, ◌*◌, ◌/◌, ◌%◌, ◌<◌, ◌≤◌, Bool, true, false, if◌then◌else◌}
 use Rattle.std.proofs.Common.{List, [], length, map, take, slice_get, All, Option, Some, None, refl, sym, ap, subst}
 use Rattle.std.proofs.Common.{arith}
@@ -58,7 +58,7 @@ module _ (design : DesignParts) (pairs : List Pair) (env : Env) (ins : Inputs) (
       → PortsFit c.behaviour.ins (slice_index_or (inputs_to ins node) step [])
 
   module _ (m : ℕ) (below_fit : FitBelow m) where
-    -- ---- what is left
+    -- ---- the outputs
     left_in : (node port step : ℕ) (o : Option Component) → slice_get design.components node ≡ o
         → rank design pairs node step < m
         → PortFits (out_kind o port)

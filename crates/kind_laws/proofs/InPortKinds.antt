@@ -44,7 +44,7 @@ module _ (design : DesignParts) (rules : IsDesign design) (node p : ℕ) (c : Co
       ap₂ (λ t q. in_kind (slice_get design.components t) q) to_node to_port ∙ ap (λ o. in_kind o p) is_c
       ∙ ap kind_of is_port
 
-  -- the link that it reads is of its kind, and so is the adaptor
+  -- the link that it reads has its type, and so does the adaptor
   pub record IsRead (number : ℕ) : Type 0 where
     pub link : Link
     pub link_is : slice_get design.links number ≡ Some link
@@ -88,7 +88,7 @@ module _ (design : DesignParts) (rules : IsDesign design) (node p : ℕ) (c : Co
         (adapt_fits port.kind f.adaptor 1 c.rate (value ∷ []) suits
         (All-cons (PortFits port.kind) value [] fits (All-nil (PortFits port.kind))))
 
-    -- what it reads, where these are the link and the feed into it
+    -- its input, if these are the link and the feed into it
     pub reading_fits : (link feed : Option ℕ) → position (link_goes_to node p) design.links ≡ link
         → position (feed_goes_to node p) design.feeds ≡ feed
         → TupleFits port.kind (brought_tuple design (values_at env round) messages c.rate

@@ -74,7 +74,7 @@ record Keeps (design : DesignParts) (replicated : List Bool) (v : VotedConfigura
   received : (number : ℕ) (link : Link) → slice_get design.links number ≡ Some link
       → All (TupleFits (link_kind design link)) (slice_index_or v.received number [])
 
--- the lists of replicas, and of what they receive
+-- the lists of replicas, and of their received messages
 frames_at : (design : DesignParts) (replicated : List Bool) (f : ℕ → ℕ → Frame) (node : ℕ)
     → node < length design.components
     → slice_index_or (map (λ n. map (f n) (upwards 0 (copies_of replicated n)))

@@ -1,5 +1,5 @@
-//! The crates as a library: the design of a bundle is checked, its composition goes round by round with inputs of this
-//! program, and two of its nodes make rounds on a bus, with their components' step code.
+//! The crates as a library: checks the design of a bundle, runs its composition round by round with inputs of this
+//! program, and runs rounds of two of its nodes on a bus, with their components' step code.
 #![tactic(auto)]
 
 ghost use Rattle.std.specs.Prelude.{◌≡◌, ◌∷◌, [], OnOk, IsTrue, None};
@@ -24,7 +24,7 @@ use std::io::{Read, Result, Write};
 use std::sync::Arc;
 use sync_product::Product;
 
-// What is told are the rows of some rounds of the composition, and of those that nodes on a bus have made.
+// Prints the rows of some rounds of the composition, and of the rounds that nodes on a bus have completed.
 fn main(rt: HostRuntime) -> Result<()> {
     let alloc = rt.alloc();
     let mut bundle = Vec::new(alloc);
@@ -76,7 +76,7 @@ fn run_nodes(alloc: Global, mut bus: Bus, text: &mut Vec<u8>) -> Result<()> {
     Ok(add_finished_rows(alloc, text, &bus)?)
 }
 
-// Whether a node of rate 1 makes a round without clocks. Whatever happens, the bus agrees with the composition.
+// Whether a node of rate 1 completes a round without clocks. Whatever happens, the bus agrees with the composition.
 fn goes_round(bus: &mut Bus, node: NodeNo) -> bool
     ensures { Agrees bus.new.run bus.new.state }
 {

@@ -1,7 +1,7 @@
-//! Releases: a node holds what it made in a round until its clock is past the round's alarm by the
+//! Releases: a node holds the messages of a round until its clock is past the round's alarm by the
 //! component's release offset, so that no message reaches a target that has not started the round.
-//! The offset is that of the bound: the backoff, or more where the last step that is sent starts
-//! later. All times are nanoseconds. No call takes memory.
+//! The offset is the backoff of the bound, or more if the last step that is sent starts
+//! later. All times are nanoseconds. No call allocates.
 #![tactic(auto)]
 
 pub mod laws;

@@ -31,7 +31,7 @@ fn main(rt: HostRuntime) -> ExitCode {
     ExitCode::from(status)
 }
 
-// The words after the program's name. Where one is not UTF-8 there are none, which is no form.
+// The arguments after the program's name. If one is not UTF-8 the list is empty, which is invalid.
 fn command_words(rt: &(impl Env + AllocGlobal)) -> Result<Vec<Text>, NoMemory> {
     let mut words = Vec::new(rt.alloc());
     match env::args(rt) {

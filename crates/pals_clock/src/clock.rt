@@ -22,8 +22,8 @@ pub enum Clocks {
     Lists(ItemList<ListClock>),
 }
 
-/// A clock that is a list of readings, which don't fall and are at most `READING`. Contracts see the whole list and
-/// what is left of it: the last pick, if there is one, and the later readings.
+/// A clock that is a list of readings, which don't fall and are at most `READING`. Its model is the whole list and
+/// the rest of it: the last pick, if there is one, and the later readings.
 #[derive(Drop)]
 pub struct ListClock {
     readings: ItemList<Nanos>,
@@ -43,7 +43,7 @@ impl Model for ListClock {
 }
 
 impl ListClock {
-    /// A clock of these readings, in nanoseconds, without a pick. It takes no memory.
+    /// A clock of these readings, in nanoseconds, without a pick. Does not allocate.
     pub fn new(readings: ItemList<Nanos>) -> ListClock
         requires order { IsNonDecreasing readings }
         requires range { AreReadings readings }
@@ -55,8 +55,8 @@ impl ListClock {
         }
     }
 
-    /// All readings of the clock's list, in nanoseconds. They don't fall, none is above `READING`, and what is left
-    /// is an end of them.
+    /// All readings of the clock's list, in nanoseconds. They don't fall, none is above `READING`, and the rest
+    /// is a suffix of them.
     pub fn readings(&self) -> &[Nanos]
         ensures value { result.now ≡ self.now.readings }
         ensures order { IsNonDecreasing self.now.readings }
@@ -66,10 +66,10 @@ impl ListClock {
         self.readings.as_slice()
     }
 
-    /// Picks a reading for a target: the last pick where it is at least the target, else the first
-    /// later reading that is. The clock then stands at its answer. Refused exactly where no reading
-    /// that is left is at least the target; the clock then stands where it stood, so it refuses this
-    /// target and every greater one from then on.
+    /// Picks a reading for a target: the last pick if it is at least the target, else the first later
+    /// reading that is. The clock is then at this reading. Fails if and only if no reading of the rest is
+    /// at least the target; the clock is then unchanged, so it fails for this target and every greater one
+    /// from then on.
     pub fn wait_for(&mut self, target: Nanos) -> Result<Nanos, ClockEnd>
         ensures pick { IfOk result (λ reading. slice_get self.new.left 0 ≡ Some reading) }
         ensures range { IfOk result (λ reading. reading ≤ READING) }
@@ -92,7 +92,7 @@ impl ListClock {
         Ok(ListClock::new(readings))
     }
 
-    /// Whether two clocks have equal lists, wherever they stand.
+    /// Whether two clocks have equal lists, whatever their picks.
     pub fn same_list(&self, other: &ListClock) -> bool
         ensures { IsTrue result ↔ (self.now.readings ≡ other.now.readings) }
     {
@@ -100,8 +100,7 @@ impl ListClock {
     }
 }
 
-// How many readings stand before the first that is at least the target, or none where all are below
-// it.
+// The number of readings before the first that is at least the target; `None` if all are below it.
 fn passed_over(readings: &[Nanos], target: Nanos) -> Option<usize>
     ensures { MatchOption result (All (λ reading. reading < target) readings.now)
         (λ n. (n < length readings.now) × (target ≤ slice_index readings.now n)

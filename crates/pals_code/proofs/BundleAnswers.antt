@@ -1,4 +1,4 @@
--- What is answered to a bundle: to one that has no design, and to a design with its codes or with one that is too long.
+-- The answer to a bundle: without a design, with a design and its codes, or with a code that is too long.
 use Rattle.std.proofs.Common.{◌≡◌, inl, inr, ℕ, List, ◌++◌, Result, Ok, Err, IfOk, OnOk, sym, ap, ◌∙◌, subst}
 use Rattle.pals_base.specs.declared.basic_types.NodeNo.{NodeNo}
 use Rattle.pals_model.specs.declared.design.DesignParts.{DesignParts}

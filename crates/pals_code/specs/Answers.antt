@@ -1,4 +1,4 @@
--- What the program answers: a status and a text, to its words and to what its source had.
+-- The program's output: a status and a text, for its arguments and the bytes of its source.
 use Rattle.std.specs.Prelude.{◌≡◌, ◌≤◌, ℕ, nat_eq, Bool, true, not, if◌then◌else◌, List, [], ◌∷◌, length, Option, Some}
 use Rattle.std.specs.Prelude.{None, ◌⊎◌}
 use Rattle.pals_base.specs.declared.limits.TheConstants.{BUNDLE_BYTES}
@@ -12,7 +12,7 @@ abbrev pub is_plain : List ℕ → Bool
 is_plain [] = true
 is_plain (c ∷ cs) = not (nat_eq c 45)
 
--- The root that the words name: they are one word, and it is no flag.
+-- The root that the arguments name: there is one argument, and it is not a flag.
 abbrev pub root_of : List (List ℕ) → Option (List ℕ)
 root_of (word ∷ []) = if is_plain word then Some word else None
 root_of _ = None

@@ -14,9 +14,8 @@ use Rattle.code_listing.specs.Listings.{listing}
 use Rattle.code_listing.specs.NumberRanges.{AllFit}
 use Rattle.pals_code.specs.declared.status.TheConstants.{DONE, TEXT_REFUSED, DESIGN_REFUSED, CODE_TOO_LONG}
 
--- The bundle means a design, no code of it is too long, and the text is the listing of the design and of the codes
--- that are laid out for its behaviours. Each behaviour has one such code. The numbers of both are those of their
--- types.
+-- The bundle means a design, no code of it is too long, and the text is the listing of the design and of the compiled
+-- codes of its behaviours. Each behaviour has one such code. The numbers of both are within the ranges of their types.
 pub record IsListed (root bundle : List ℕ) (status : ℕ) (text : List ℕ) : Type 0 where
   pub status_is : status ≡ DONE
   pub design : DesignParts

@@ -1,4 +1,4 @@
-//! Answers: what is written, and with which status.
+//! Answers: the output text and the status.
 ghost use Rattle.std.specs.Prelude.{◌≡◌, IfOk, OnErr};
 ghost use Rattle.bundle_designs.specs.declared.refusal.Refusal.{Refusal};
 ghost use Rattle.pals_code.specs.proof.StatusAndText.{status_of, text_of, SaysWhy};
@@ -19,7 +19,7 @@ pub enum Answer {
     Usage,
     /// Why the bundle's design text is refused.
     TextRefused(Vec<u8>),
-    /// Why the design is refused: the first fault of its package, or all that is wrong with it.
+    /// Why the design is rejected: the first fault of its package, or all its violations.
     DesignRefused(Vec<u8>),
     /// Which component's step code is too long.
     CodeTooLong(Vec<u8>),
@@ -30,7 +30,7 @@ pub enum Answer {
 }
 
 impl Answer {
-    /// The answer to a bundle that has no design. There is none if there was not enough memory.
+    /// The answer to a bundle that has no design; `None` if memory ran out.
     pub fn refused(refusal: Refusal) -> Result<Answer, NoMemory>
         ensures answer { IfOk result (SaysWhy refusal) }
         ensures no_memory { OnErr result (refusal ≡ Refusal.Memory) }

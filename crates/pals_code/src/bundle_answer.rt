@@ -18,8 +18,8 @@ use pals_report::add_overlong_code;
 use std::alloc::{AllocError, Global};
 use step_code::Code;
 
-/// The answer to a bundle: the listing of the step code of its design below the root. What stands
-/// behind the divider is not looked at.
+/// The answer to a bundle: the listing of the step code of its design below the root. The text after the
+/// divider is ignored.
 pub fn answer_bundle(alloc: Global, bundle: &[u8], root: &Text) -> Result<Answer, NoMemory>
     ensures { IfOk result (λ answer. IsListingAnswer root.now bundle.now (status_of answer) (text_of answer)) }
 {

@@ -31,7 +31,7 @@ pub record EffectFits (b : BehaviourParts) (e : Effect) : Type 0 where
   pub vars : VarsFit b e.vars
   pub outs : PortsFit b.outs e.outs
 
--- ---- what is written
+-- ---- the written values
 suits_var : (o : Option VarDecl) (d : VarDecl) (kinds : Kinds) (v : ℤ) → o ≡ Some d → suits_variable o kinds ≡ true
     → MayBe kinds v → Fits d.kind v
 suits_var o d kinds v is suits may = allowed_fits d.kind kinds v (sym (ap (λ p. suits_variable p kinds) is) ∙ suits) may

@@ -1,4 +1,4 @@
--- For the laws of kinds: what holds of all elements of lists that are changed, cut or joined, and of the values of
+-- For the laws of types: properties of all elements of lists that are changed, cut or joined, and of the values of
 -- results.
 use Rattle.std.proofs.Common.{◌≡◌, ℕ, zero, suc, Bool, true, false, cond, List, [], ◌∷◌, map, All, Some, refl, ap}
 use Rattle.std.specs.Prelude.{Result, Ok, Err, IfOk, slice_index_or, slice_set, flat_map, find}

@@ -147,7 +147,7 @@ depends_on_past design env other (suc round) same =
     ∙ ap (next design (values_at other round))
     (depends_on_past design env other round (λ k below. same k (omega arith)))
 
--- ---- a component alone
+-- ---- a component by itself
 no_link_from : (links : List Link) (node port k : ℕ) → All (λ link. link.target.0 ≢ node) links
     → position_from (link_goes_to node port) k links ≡ None
 no_link_from [] node port k apart = refl

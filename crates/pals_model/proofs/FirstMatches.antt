@@ -8,7 +8,7 @@ use Rattle.std.proofs.lemmas.List.Elements.{All-head, All-tail}
 use Rattle.std.proofs.lemmas.Option.{get_or_from_slice_get, slice_get_within}
 use Rattle.list_lemmas.proofs.ElementPositions.{position_from-at}
 
--- what holds of all, at one element
+-- a property of all, at one element
 pub at_element : {X : Type 0} (P : X → Type 0) (xs : List X) (n : ℕ) (x : X) → All P xs → slice_get xs n ≡ Some x → P x
 at_element P xs n x all is_x = subst P (get_or_from_slice_get xs n x x is_x) (all n x (slice_get_within xs n x is_x))
 

@@ -42,7 +42,7 @@ found_node_has_path design node path found =
     (sym ((bytes_eq-Decides path at.0.path).0 at.2))
 
 -- ---- in ports
--- the name of an in port, among those of a behaviour's values
+-- the name of an in port, among the names of a behaviour's values
 name_at : (b : BehaviourParts) (port : ℕ) (p : PortDecl) → slice_get b.ins port ≡ Some p
     → slice_get (value_names b) port ≡ Some p.name
 name_at b port p is =

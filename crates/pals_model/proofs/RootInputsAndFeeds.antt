@@ -1,4 +1,4 @@
--- Which root in ports a design has: the names of its feeds, each once and in order, of the kind of what each feeds.
+-- The root in ports of a design: the names of its feeds, each once and in order, of the type of the fed port.
 use Rattle.std.proofs.Common.{◌≡◌, ℕ, zero, suc, ◌+◌, ◌<◌, ◌≤◌, Bool, true, false, not, ◌||◌, cond, List, [], ◌∷◌, ◌++◌}
 use Rattle.std.proofs.Common.{length, get_or, slice_get, slice_index_or, Some, None, All, AllPairs, if◌then◌else◌, inl}
 use Rattle.std.proofs.Common.{inr, refl, sym, ap, ◌∙◌, subst, arith, append_assoc, ne_of_lt}
@@ -40,7 +40,7 @@ new_or_not : (P : List (List ℕ) → Type 0) (b : Bool) (xs ys : List (List ℕ
 new_or_not P true xs ys old new = old refl
 new_or_not P false xs ys old new = new refl
 
--- no new name stands among those before
+-- no new name is among the earlier ones
 new_names-new : (before names : List (List ℕ)) → All (λ name. is_in name before ≡ false) (new_names before names)
 new_names-new before [] = All-nil (λ name. is_in name before ≡ false)
 new_names-new before (name ∷ names) =

@@ -1,4 +1,4 @@
--- Why the laws of what in ports read hold.
+-- Proofs of the laws of the inputs of in ports.
 use Rattle.std.proofs.Common.{◌≡◌, ◌≢◌, inl, inr, ℕ, ◌+◌, ◌<◌, true, false, ◌&&◌, nat_eq, length, slice_get, Option}
 use Rattle.std.proofs.Common.{Some, None, All, refl, sym, ap, ap₂, ◌∙◌, get_or, arith, ne_of_lt}
 use Rattle.std.specs.Prelude.{position}
@@ -29,7 +29,7 @@ goes_elsewhere node port n p apart =
 goes_there : (node port : ℕ) → (nat_eq node node && nat_eq port port) ≡ true
 goes_there node port = ap₂ (λ a b. a && b) (eq-eqb node node refl) (eq-eqb port port refl)
 
--- ---- where it reads from
+-- ---- its source
 pub link_is_source : LinkIsSource
 link_is_source design number link rules is =
     ap (λ l. from_link l (from_feed design (position (feed_goes_to link.target.0 link.in_port) design.feeds)))

@@ -29,7 +29,7 @@ all_pass p (x ∷ xs) passes =
     let parts = and_parts (p x) (list_all p xs) passes in
     All-cons (λ y. p y ≡ true) x xs parts.0 (all_pass p xs parts.1)
 
--- a word has no byte that is none of a word
+-- every byte of a word is a byte of words
 pub word_without : (byte : ℕ) (word : List ℕ) → is_word_byte byte ≡ false → is_word word ≡ true → IsWithout byte word
 word_without byte word none is =
     let bytes = and_parts (nat_le (length word) NAME_BYTES && is_led_by_letter word) (list_all is_word_byte word) is in
@@ -103,7 +103,7 @@ has_separator : (byte : ℕ) (xs ys : List ℕ) → IsWithout byte (xs ++ byte �
 has_separator byte [] ys without = All-head (λ b. b ≢ byte) byte ys without refl
 has_separator byte (x ∷ xs) ys without = has_separator byte xs ys (All-tail (λ b. b ≢ byte) x (xs ++ byte ∷ ys) without)
 
--- where no separator stands behind it, a text splits at its last one in one way
+-- if no separator follows it, a text splits uniquely at its last separator
 pub splits_at_last : (byte : ℕ) (xs ys us vs : List ℕ) → IsWithout byte ys → IsWithout byte vs
     → xs ++ byte ∷ ys ≡ us ++ byte ∷ vs → (xs ≡ us) × (ys ≡ vs)
 splits_at_last byte [] ys [] vs left right same = (refl, cc)

@@ -18,7 +18,7 @@ use Rattle.pals_model.specs.declared.port_sources.PortSource.TheVariants as sour
 use Rattle.pals_model.specs.PortKindsAndRates.{rate_of}
 
 -- ---- the environment
--- the names that do not stand among those before, each once
+-- the names that are not among the earlier ones, each once
 abbrev pub new_names : List (List ℕ) → List (List ℕ) → List (List ℕ)
 new_names before [] = []
 new_names before (name ∷ names) =
@@ -32,7 +32,7 @@ feed_names design = map (λ (input_vectors : Feed). input_vectors.name) design.f
 abbrev pub root_inputs : DesignParts → List (List ℕ)
 root_inputs design = new_names [] (feed_names design)
 
--- the place of a name among names, 0 where it is none of them
+-- the index of a name among names, 0 if it is not one of them
 abbrev pub place_of : List ℕ → List (List ℕ) → ℕ
 place_of name names = unwrap_or (position (bytes_eq name) names) 0
 
@@ -69,11 +69,11 @@ source_of design node port =
 abbrev pub sources_of : DesignParts → ℕ → Component → List PortSource
 sources_of design node c = map (λ port. source_of design node port) (upwards 0 (length c.behaviour.ins))
 
--- those of all components
+-- the vectors of all components
 abbrev pub all_sources : DesignParts → List (List PortSource)
 all_sources design = map (λ numbered. sources_of design numbered.0 numbered.1) (enumerate_from 0 design.components)
 
--- ---- what it brings
+-- ---- the values of a source
 -- a root in port is read as a source of rate 1
 abbrev pub read_feed : PortValue → ℕ → Option Feed → List PortValue
 read_feed value rate None = replicate rate Absent

@@ -1,4 +1,4 @@
--- The multirate synchronous composition: all components make their steps of a round at once, and the messages of
+-- The multirate synchronous composition: all components run their steps of a round simultaneously, and the messages of
 -- a round are read in the next one. It has no clock, no buffer, no thread and no code.
 use Rattle.std.specs.Prelude.{ℕ, suc, zero, nat_eq, List, [], ◌∷◌, map, filter, replicate, Option, Some, None}
 use Rattle.std.specs.Prelude.{slice_get, slice_index_or, length, take}
@@ -75,7 +75,7 @@ comp design env (suc round) = next design (values_at env round) (comp design env
 abbrev pub steps_of_round : DesignParts → Env → ℕ → List Stepped
 steps_of_round design env round = all_steps design (values_at env round) (comp design env round)
 
--- ---- what is seen of it
+-- ---- its observers
 abbrev pub no_frame : Frame
 no_frame = record { state = 0; vars = []; held = []; halt = None }
 

@@ -81,7 +81,7 @@ LinkPrecedes a b = port_place a.target.0 a.in_port < port_place b.target.0 b.in_
 abbrev pub FeedPrecedes : Feed → Feed → Type 0
 FeedPrecedes a b = port_place a.target.0 a.in_port < port_place b.target.0 b.in_port
 
--- feeds of one root in port are of one type
+-- feeds of one root in port have one type
 pub record AgreeInKind (design : DesignParts) (a b : Feed) : Type 0 where
   pub kinds : a.name ≡ b.name → feed_kind design a ≡ feed_kind design b
 

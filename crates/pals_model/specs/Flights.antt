@@ -11,6 +11,6 @@ is_of round copy = nat_eq copy.round round
 abbrev pub oldest : ℕ → List FlightCopy → Option FlightCopy
 oldest round copies = find (is_of round) copies
 
--- the others in their order, or all copies where none is of this round
+-- the others in their order, or all copies if none belongs to this round
 abbrev pub without_oldest : ℕ → List FlightCopy → List FlightCopy
 without_oldest round copies = before_first (is_of round) copies ++ after_first (is_of round) copies

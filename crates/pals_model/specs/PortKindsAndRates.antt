@@ -16,7 +16,7 @@ abbrev pub outs_in : Option Component → ℕ
 outs_in None = 0
 outs_in (Some c) = length c.behaviour.outs
 
--- the type of a port, that of numbers where there is none
+-- the type of a port; the type of numbers if it does not exist
 abbrev pub kind_of : Option PortDecl → Kind
 kind_of None = Integer
 kind_of (Some port) = port.kind

@@ -61,7 +61,7 @@ state_text b frame None = state_name (slice_get b.states frame.state)
 state_text b frame (Some Overflow) = codes "halted(overflow)"
 state_text b frame (Some ZeroDivisor) = codes "halted(zero-divisor)"
 
--- a variable's name and value, behind a space
+-- a variable's name and value, after a space
 abbrev pub variable_text : VarDecl → ℤ → List ℕ
 variable_text var value = codes " " ++ var.name ++ codes "=" ++ value_text var.kind value
 
@@ -77,7 +77,7 @@ component_line name b frame = name ++ codes " " ++ state_text b frame frame.halt
 abbrev pub tap_line : Kind → Tap → List PortValue → List ℕ
 tap_line kind tap tuple = codes "out " ++ tap.name ++ codes " " ++ tuple_text kind tuple
 
--- how many of the first n taps are of the node: the place of a tap among those of its source
+-- how many of the first n taps belong to the node: the position of a tap among the taps of its source
 abbrev pub taps_before : List Tap → ℕ → ℕ → ℕ
 taps_before taps n node = length (filter (λ tap. nat_eq tap.source.0 node) (take n taps))
 

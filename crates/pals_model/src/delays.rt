@@ -5,8 +5,8 @@ ghost use Rattle.pals_model.specs.Delays.{delay_in, delay_of};
 use pals_base::{ItemList, LinkNo, Nanos, NoMemory, Same, TryClone};
 use std::alloc::Global;
 
-/// How long the messages of each link take, in nanoseconds: a list of one or more delays per link.
-/// The message of round m takes element m, and those of later rounds take the last.
+/// The delays of the messages of each link, in nanoseconds: a list of one or more delays per link.
+/// The message of round m takes element m, and the messages of later rounds take the last.
 #[derive(Drop)]
 pub struct Delays {
     pub lists: ItemList<ItemList<Nanos>>,

@@ -4,8 +4,8 @@ ghost use Rattle.std.specs.Prelude.{◌≡◌};
 use pals_base::{Adaptor, Behaviour, Gamma, ItemList, Nanos, NodeNo, Text};
 use std::marker::Model;
 
-/// A thread of the flattened design: its path from the root, how many steps it makes in a round,
-/// and what it does.
+/// A thread of the flattened design: its path from the root, the number of its steps in a round,
+/// and its behaviour.
 pub struct Component {
     pub path: Text,
     pub rate: u32,
@@ -50,9 +50,9 @@ pub struct Tap {
     pub out_port: u32,
 }
 
-/// The parts of a design. The period and the bounds are in nanoseconds. Components stand in
+/// The parts of a design. The period and the bounds are in nanoseconds. Components are in
 /// depth-first order of declaration, links and feeds in order of target and in port, taps in order
-/// of the root out ports; `ignored` are the names of properties that mean nothing here.
+/// of the root out ports; `ignored` are the names of properties without a meaning here.
 pub struct DesignParts {
     pub period: Nanos,
     pub gamma: Gamma,
@@ -63,7 +63,7 @@ pub struct DesignParts {
     pub ignored: ItemList<Text>,
 }
 
-// By hand, so that letting it go is one call in the crates above, and is proved once.
+// By hand, so that dropping it is one call in the crates above, and is proved once.
 impl Drop for DesignParts {
     fn drop(self) {
         let DesignParts {
@@ -108,7 +108,7 @@ impl Model for Design {
 impl Design {
     ghost use Rattle.pals_model.specs.DesignRules.{IsDesign};
 
-    /// The design of these parts. It takes no memory.
+    /// The design of these parts. Does not allocate.
     pub fn new(parts: DesignParts) -> Design
         requires { IsDesign parts }
         ensures { result ≡ parts }

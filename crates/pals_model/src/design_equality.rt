@@ -1,4 +1,4 @@
-//! Equality of designs and of their parts, wherever they lie in memory. It takes no memory.
+//! Equality of designs and of their parts, by value. Does not allocate.
 
 use crate::design::{Component, Design, DesignParts, Feed, Link, Tap};
 use pals_base::Same;

@@ -14,7 +14,7 @@ pub struct Env {
 }
 
 impl Env {
-    /// Writes the values of a round over those of another, one per root in port. It takes no memory.
+    /// Writes the values of a round over the values of another, one per root in port. Does not allocate.
     pub fn write_values(&self, round: u32, values: &mut [PortValue])
         requires { length values.old ≡ length self.now.lists }
         ensures { values.new ≡ values_at self.now round }

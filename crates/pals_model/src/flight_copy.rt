@@ -1,9 +1,9 @@
 //! Messages that are under way on a link.
 use pals_base::{Nanos, Tuple};
 
-/// A copy of a message that is under way on a link: the round that it was sent in, the reading of
-/// the target's clock from which on it is due, in nanoseconds, if it was sent at a reading, and what
-/// it brings.
+/// A copy of a message in flight on a link: the round that it was sent in, the reading of the target's
+/// clock from which on it is due, in nanoseconds, if it was sent at a reading, and its tuple of
+/// values.
 #[derive(Drop)]
 pub struct FlightCopy {
     pub round: u32,

@@ -1,5 +1,5 @@
-//! Laws of the composition. The functions do nothing: their contracts hold at every design and
-//! environment, and say what the composition means without its definition.
+//! Laws of the composition. The functions have empty bodies: their contracts hold for every design and
+//! environment, and characterize the composition without its definition.
 ghost use Rattle.pals_model.specs.proof.CompositionLaws.{OneFrameEach, OneMessageEach, StateBegins, LinksBeginAbsent};
 ghost use Rattle.pals_model.specs.proof.CompositionLaws.{StateGoesOn, MessageFromSource, PartFromSteps, RunsAlone};
 ghost use Rattle.pals_model.specs.proof.CompositionLaws.{DependsOnPast};
@@ -33,28 +33,28 @@ pub fn beginning()
     ensures messages { LinksBeginAbsent }
 {}
 
-/// In each round a component's frame goes on by its own steps.
+/// In each round a component's frame advances by its own steps.
 pub fn state_goes_on()
     ensures { StateGoesOn }
 {}
 
-/// The message of a link is what its source's own steps of that round gave on its out port, as far
+/// The message of a link is the outputs of its source's own steps of that round on its out port, as far
 /// as they end in time to be sent.
 pub fn message_from_source()
     ensures { MessageFromSource }
 {}
 
-/// A component's part of a round is what its own steps leave.
+/// A component's part of a round is the result of its own steps.
 pub fn part_from_steps()
     ensures { PartFromSteps }
 {}
 
-/// A component that no link goes to runs alone on what the root in ports bring.
+/// A component without a link into it runs by itself on the values of the root in ports.
 pub fn runs_alone()
     ensures { RunsAlone }
 {}
 
-/// What stands after some rounds depends on these rounds of the environment alone.
+/// The configuration after some rounds depends only on these rounds of the environment.
 pub fn depends_on_past()
     ensures { DependsOnPast }
 {}

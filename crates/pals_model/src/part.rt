@@ -17,8 +17,8 @@ impl Drop for Part {
 }
 
 impl Part {
-    /// Writes over all of the part with the contents of another. Their frames have as many variables
-    /// and held inputs, and they have as many tuples, of the same lengths. It takes no memory.
+    /// Overwrites the part with the contents of another. Their frames have as many variables
+    /// and held inputs, and they have as many tuples, of the same lengths. Does not allocate.
     pub fn copy_from(&mut self, other: &Part)
         requires vars { length self.old.frame.vars ≡ length other.now.frame.vars }
         requires held { length self.old.frame.held ≡ length other.now.frame.held }

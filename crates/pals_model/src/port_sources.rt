@@ -1,4 +1,4 @@
-//! Where each in port reads from, found once for a design in time that is in line with its feeds,
+//! The source of each in port, found once for a design in time that is linear in its feeds,
 //! links and ports.
 ghost use Rattle.std.specs.Prelude.{◌≡◌, IfOk, [], map};
 ghost use Rattle.pals_model.specs.ComponentInputs.{new_names, root_inputs, all_sources, place_of};
@@ -9,7 +9,7 @@ use indexmap::IndexSet;
 use pals_base::{ItemList, NoMemory, NodeNo, Text, TryClone};
 use std::alloc::Global;
 
-/// Where an in port reads from: a link by its number; a feed by its number, with the place of its
+/// The source of an in port: a link by its number; a feed by its number, with the index of its
 /// root in port among all; or nothing.
 #[derive(Clone, Copy)]
 pub enum PortSource {
@@ -29,7 +29,7 @@ fn root_names(alloc: Global, feeds: &[Feed]) -> Result<IndexSet<Text>, NoMemory>
     Ok(names)
 }
 
-// The place of a name among others, 0 where it is none of them.
+// The index of a name among others, 0 if it is not one of them.
 fn place_of(names: &IndexSet<Text>, name: &Text) -> usize
     ensures { result ≡ place_of name.now names.now.keys }
 {
@@ -95,7 +95,7 @@ fn add_links(table: &mut ItemList<ItemList<PortSource>>, design: &Design)
     }
 }
 
-/// Where the in ports of all components read from, by component and port.
+/// The sources of the in ports of all components, by component and port.
 pub fn all_sources(
     alloc: Global,
     design: &Design,

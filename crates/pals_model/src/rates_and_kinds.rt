@@ -1,4 +1,4 @@
-//! What the parts of a design say of its components and ports, by their numbers.
+//! Rates and types of a design's components and ports, by their numbers.
 ghost use Rattle.std.specs.Prelude.{◌≡◌, slice_get, option_copied};
 ghost use Rattle.pals_model.specs.PortKindsAndRates.{rate_of, kind_of, in_kind, out_kind};
 ghost use Rattle.pals_model.specs.DesignRules.{greatest_rate};
@@ -7,14 +7,14 @@ use crate::design::{Component, DesignParts};
 use pals_base::{Kind, NodeNo, PortDecl};
 
 impl DesignParts {
-    /// The component of a number, or none past the end.
+    /// The component of a number; `None` past the end.
     pub fn component(&self, node: NodeNo) -> Option<&Component>
         ensures { option_copied result ≡ slice_get self.now.components node.0 }
     {
         self.components.get(node.0 as usize)
     }
 
-    /// The rate of a component, 1 where there is none.
+    /// The rate of a component, 1 if it does not exist.
     pub fn rate(&self, node: NodeNo) -> u32
         ensures { result ≡ rate_of self.now node.0 }
     {
@@ -24,7 +24,7 @@ impl DesignParts {
         }
     }
 
-    /// The type of an in port, that of numbers where there is no such port.
+    /// The type of an in port; the type of numbers if there is no such port.
     pub fn in_kind(&self, node: NodeNo, port: u32) -> Kind
         ensures { result ≡ in_kind (slice_get self.now.components node.0) port }
     {
@@ -34,7 +34,7 @@ impl DesignParts {
         }
     }
 
-    /// The type of an out port, that of numbers where there is no such port.
+    /// The type of an out port; the type of numbers if there is no such port.
     pub fn out_kind(&self, node: NodeNo, port: u32) -> Kind
         ensures { result ≡ out_kind (slice_get self.now.components node.0) port }
     {
@@ -45,7 +45,7 @@ impl DesignParts {
     }
 }
 
-/// The greatest rate of some components, 1 where there are none.
+/// The maximum rate of some components, 1 if there are none.
 pub fn greatest_rate(components: &[Component]) -> u32
     ensures { result ≡ greatest_rate components.now }
 {

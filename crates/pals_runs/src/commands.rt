@@ -12,7 +12,7 @@ pub enum Command {
     Sync { root: Text },
     /// What a list of events leaves in a world. A loose world has no time.
     World { root: Text, loose: bool },
-    /// The rounds of a run on threads, with its journal where a trace is wanted.
+    /// The rounds of a run on threads, with its journal if a trace is requested.
     Run { root: Text, trace: bool },
     /// The verdict on the trace of a run.
     Audit { root: Text },

@@ -4,7 +4,7 @@ use pals_base::{ItemList, LinkNo, Nanos, NoMemory, NodeNo};
 /// An event of a world. Times and readings are in nanoseconds.
 #[derive(Drop)]
 pub enum Event {
-    /// Time goes on, to this time and to this reading of each component's clock.
+    /// Time passes, to this time and to this reading of each component's clock.
     Pass {
         time: Nanos,
         readings: ItemList<Nanos>,
@@ -15,7 +15,7 @@ pub enum Event {
     Step(NodeNo),
     /// A node finishes the step that is under way.
     Finish(NodeNo),
-    /// A node sends what it has to send of its round.
+    /// A node sends the messages of its round.
     Send(NodeNo),
     /// A link's message of this round arrives.
     Arrive(LinkNo, u32),
@@ -73,7 +73,7 @@ pub enum EventFault {
         alarm: Nanos,
         reading: Nanos,
     },
-    /// A step executed, or a message was under way, less than the bounds say; it may end at the
+    /// A step executed, or a message was in flight, for less than the bounds allow; it may end at the
     /// earliest at this time.
     TooSoon {
         subject: EventSubject,

@@ -1,4 +1,4 @@
-//! Forms: the parts of properties, over what has been since the first round.
+//! Subformulas of properties, over the rounds since the first.
 use pals_base::NodeNo;
 
 /// How a variable is compared with a number.
@@ -15,7 +15,7 @@ pub enum Compare {
 /// A formula over the frames after each round. Contracts see it as a plain tree (`formula_of`).
 #[derive(Drop)]
 pub enum Form {
-    /// A variable of a component stands so to a number. False is 0, and true is 1.
+    /// A comparison of a variable of a component with a number. False is 0, and true is 1.
     Var {
         node: NodeNo,
         variable: u32,

@@ -20,8 +20,8 @@ pub enum Cause {
 }
 
 /// Why a run stopped: a round was to start without a link's message of the round before, or a
-/// message came too early. The round is the message's; the reading is that of the event, in
-/// nanoseconds, where it has one.
+/// message arrived too early. The round is the message's; the reading is the event's, in
+/// nanoseconds, if it has one.
 #[derive(Clone, Copy, PartialEq)]
 pub enum Stop {
     Missed {

@@ -4,7 +4,7 @@ use crate::program_answer::ProgramAnswer;
 use std::alloc::Global;
 use std::io;
 
-/// The lines so far, and the one that may still grow: its first and its last number, and what it says.
+/// The lines so far, and the one that may still grow: its first and its last number, and its text.
 #[derive(Drop)]
 pub struct AnswerRanges {
     text: String,
@@ -66,7 +66,7 @@ fn said(alloc: Global, asked: &ProgramAnswer) -> io::Result<String> {
     Ok(says)
 }
 
-// A word of an answer, or what stands for a place.
+// A word of an answer, or the sign of a position.
 fn shown(word: &str, end: (u64, u64)) -> &str {
     match place(word) {
         Some(place) if place == end => "END",

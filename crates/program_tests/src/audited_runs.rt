@@ -1,5 +1,5 @@
-//! Runs in threads whose journals hang on the schedule: what they show under each, and what an audit answers to what
-//! they wrote.
+//! Runs in threads whose journals depend on the schedule: their output under each, and the answer of an audit to
+//! it.
 use crate::program_answer::{Transfer, ask};
 use case_files::{asked, text_of};
 use std::alloc::Global;
@@ -7,7 +7,7 @@ use std::io;
 use std::sync::Wait;
 use std::thread::Threads;
 
-// The first words of the lines of a journal that hang on the schedule.
+// The first words of the lines of a journal that depend on the schedule.
 const STEPS: [&str; 5] = ["arrive", "start", "step", "finish", "send"];
 
 /// The status of a run with its rows and its stop, and then what `audit` answers to its whole text as a trace.

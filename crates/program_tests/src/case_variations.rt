@@ -1,19 +1,19 @@
-//! Series of cases: one case that is asked again and again, with its bundle cut, with a call that fails, or with an
-//! event left out, each in turn. A line `each WHAT` in a case says which, and the answer is one line for those
-//! numbers, one after the other, at which status and first line are the same:
+//! Series of cases: one case that is repeated, with its bundle cut, with a call that fails, or with an event omitted,
+//! each in turn. A line `each WHAT` in a case states which, and the answer is one line for consecutive numbers with the
+//! same status and first line:
 //!
-//! - `each cut`: the first bytes of the bundle, from none to all. A line `behind TEXT` puts TEXT behind each, on a line of
-//!   its own.
+//! - `each cut`: the first bytes of the bundle, from none to all. A line `behind TEXT` appends TEXT to each, on a line
+//!   of its own.
 //! - `each read SIZE`: the source gives SIZE bytes a call, and one call fails: the first, the second, up to the end.
 //! - `each write`: the sink takes 8 bytes a call, and one call fails.
-//! - `each event`: the bundle's events stand in the case, each on a line `event EVENT`, and one is left out: the first,
+//! - `each event`: the bundle's events are in the case, each on a line `event EVENT`, and one is omitted: the first,
 //!   the second, and at last none.
-//! - `each trace`: no series, but a run, whose rows and stop are shown, and what `audit` answers to all that it wrote.
+//! - `each trace`: one run, with its rows and stop, and the answer of `audit` to its whole output.
 //! - `each starter`: a run of four nodes, with threads for all of them, for all but one, and for none.
-//! - `each slow`: no series, but a run in which the first job of node 1 is slow.
+//! - `each slow`: one run in which the first job of node 1 is slow.
 //!
-//! In the answer `END` is the place where the bundle ends, `_` is another place, and `..` stands for the first bytes
-//! of the answer, 8 for each write that did not fail.
+//! In the answer `END` is the position of the end of the bundle, `_` is another position, and `..` stands for the first
+//! bytes of the answer, 8 for each write that did not fail.
 use crate::answer_ranges::AnswerRanges;
 use crate::audited_runs::run_and_audit;
 use crate::program_answer::{ProgramAnswer, Transfer, ask};
@@ -28,7 +28,7 @@ use std::thread::Threads;
 // No series has more numbers than this.
 const MOST: u64 = 10_000;
 
-// How many bytes a source gives at once, where a series does not say it.
+// How many bytes a source gives at once, if a series does not specify it.
 const PIECE: usize = 4096;
 
 /// The answers to a series.
@@ -143,7 +143,7 @@ fn writes<R: Threads + Wait + Sync>(
     ranges.text()
 }
 
-// Whether what was written before a call are the first bytes of the whole answer, 8 a call.
+// Whether the bytes written before a call are the first bytes of the whole answer, 8 a call.
 fn is_first_part(asked: &ProgramAnswer, whole: &ProgramAnswer, call: u64) -> bool {
     let bytes = call.saturating_sub(1).saturating_mul(8);
     asked.text.len() as u64 == bytes && whole.text.starts_with(asked.text.as_slice())
@@ -175,7 +175,7 @@ fn count_events(case: &str) -> usize {
     count
 }
 
-// Adds the answer where the event of this number is left out, if there is one.
+// Appends the answer if the event of this number is omitted, if there is one.
 fn add_without<R: Threads + Wait + Sync>(
     threads: &R,
     rt: &HostRuntime,

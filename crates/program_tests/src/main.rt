@@ -1,4 +1,4 @@
-//! What the whole program answers to words and bytes, over sources and sinks in memory that fail where they are told.
+//! The program's answers to arguments and bytes, over sources and sinks in memory that fail at planned calls.
 #![tactic(auto)]
 
 mod answer_ranges;

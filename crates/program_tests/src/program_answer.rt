@@ -8,7 +8,7 @@ use std::io;
 use std::sync::Wait;
 use std::thread::Threads;
 
-/// An answer: its status, what was written, and where the bundle ends, by line and column.
+/// An answer: its status, its text, and the position of the end of the bundle, by line and column.
 #[derive(Drop)]
 pub struct ProgramAnswer {
     pub status: u8,
@@ -26,7 +26,7 @@ impl ProgramAnswer {
 }
 
 /// How a bundle is read and an answer is written: the source gives `size` bytes a call, and the calls of
-/// these numbers fail, from 1; 0 is none.
+/// these numbers fail, from 1; 0 means that no call fails.
 #[derive(Clone, Copy)]
 pub struct Transfer {
     pub size: usize,
@@ -115,7 +115,7 @@ fn calls(alloc: Global, number: u64) -> Result<Vec<u64>, NoMemory> {
     Ok(calls)
 }
 
-// The place behind the last byte: its line and its column, from 1.
+// The position after the last byte: its line and its column, from 1.
 fn end_of(bytes: &[u8]) -> (u64, u64) {
     let (mut line, mut column) = (1_u64, 1_u64);
     for byte in bytes {

@@ -19,7 +19,7 @@ const REFUSALS: [(&str, &[NodeNo]); 5] = [
     ("all nodes", &[NodeNo(0), NodeNo(1), NodeNo(2), NodeNo(3)]),
 ];
 
-/// The answers of a run, a line for each starter: whether its status and text are those of `sync` for the same bundle.
+/// The answers of a run, a line for each starter: whether its status and text are `sync`'s for the same bundle.
 pub fn answer_starters<R: Threads + Wait + Sync>(
     threads: &R,
     rt: &HostRuntime,

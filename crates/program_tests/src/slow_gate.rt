@@ -3,7 +3,7 @@ use node_threads::Gate;
 use pals_base::NodeNo;
 use std::sync::atomic::{AtomicU64, Ordering};
 
-// The number of turns for which the slow job is held: long enough for the other nodes to do all that they can do.
+// The number of turns for which the slow job is held: long enough for the other nodes to do everything possible.
 const TURNS: u64 = 20_000_000;
 
 /// Holds the first job of one node.

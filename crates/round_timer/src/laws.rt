@@ -9,7 +9,7 @@ pub fn alarms_are_one_period_apart()
     ensures next { (t round : ℕ) → alarm t (round + 1) ≡ alarm t round + t }
 {}
 
-/// Where `k` steps share a round, each is due before the next round is.
+/// If `k` steps share a round, each is due before the next round is.
 pub fn steps_lie_within_their_round()
     ensures { (t k round step : ℕ) → 0 < t → step < k → alarm t round + step * step_period t k < alarm t (round + 1) }
 {}

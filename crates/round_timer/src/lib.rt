@@ -1,5 +1,5 @@
-//! Alarms: at which readings of a node's clock its rounds and their steps are due. All times are
-//! nanoseconds. No call takes memory.
+//! Alarms: the readings of a node's clock at which its rounds and their steps are due. All times are
+//! nanoseconds. No call allocates.
 #![tactic(auto)]
 
 pub mod laws;

@@ -1,4 +1,4 @@
--- What is told of a bus that has come to its end holds of the bus's run.
+-- The report on a bus that has reached its end holds for the bus's run.
 use Rattle.std.proofs.Common.{◌≡◌, ◌≢◌, ◌∙◌, inl, inr, ℕ, ◌<◌, ◌≤◌, Bool, List, [], length, ◌++◌, Option, Some, None}
 use Rattle.std.proofs.Common.{slice_get, refl, ap, subst, arith, if◌then◌else◌}
 use Rattle.pals_base.specs.declared.limits.TheConstants.{ROUNDS}
@@ -28,7 +28,7 @@ use Rattle.run_texts.specs.proof.NodeEnds.{IsComeEnd}
 use Rattle.run_texts.specs.proof.RunReports.{journal_lines, TellsEnd}
 use Rattle.run_texts.proofs.RunTexts.{outcome, completed, stopped}
 
--- ---- what the ends say
+-- ---- the meaning of the ends
 ends_at : (b : BusValue) (later : Clocks) (node goal : ℕ) → EndsAtOn b later node goal
     → EndsAt b.run later b.state node goal
 ends_at b Meet node goal ends = ends

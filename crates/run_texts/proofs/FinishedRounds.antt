@@ -1,4 +1,4 @@
--- Where all nodes are done, all rounds are finished by all.
+-- If all nodes are done, all rounds are finished by all.
 use Rattle.std.proofs.Common.{◌≡◌, ◌∙◌, ℕ, zero, suc, ◌<◌, min, List, [], ◌∷◌, length, fold, Some, slice_get, refl, sym}
 use Rattle.std.proofs.Common.{ap, subst, arith}
 use Rattle.std.proofs.lemmas.Option.{get_or_from_slice_get, slice_get_within, slice_get-get_or}

@@ -1,4 +1,4 @@
--- The first node whose clock ended, as the end of one more node is looked at.
+-- The first node whose clock ended, as the end of one more node is checked.
 use Rattle.std.proofs.Common.{◌≡◌, inl, inr, ℕ, ◌+◌, ◌<◌, List, Option, Some, None, slice_get, refl, ap, ◌∙◌, arith}
 use Rattle.std.proofs.lemmas.Bool.{cases_eq}
 use Rattle.std.specs.Option.{option_or}

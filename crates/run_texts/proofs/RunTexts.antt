@@ -1,4 +1,4 @@
--- What is told of a run that has come to its end: its texts are those of the run, and its trace is sound.
+-- The report on a run that has reached its end: its texts are the texts of the run, and its trace is sound.
 use Rattle.std.proofs.Common.{◌≡◌, ◌≢◌, ◌∙◌, inl, inr, ◌⊎◌, ℕ, ◌≤◌, Bool, List, [], map, All, ◌++◌, Option, Some, None}
 use Rattle.std.proofs.Common.{sym, ap, subst, if◌then◌else◌}
 use Rattle.pals_base.specs.declared.limits.TheConstants.{ROUNDS, READING}
@@ -80,7 +80,7 @@ module _ (run : Run) (clocks later : Clocks) (journal : List JournalEntry) (s : 
             sound_of text None (inr all) going whole ∙ ap (λ n. Sound n None) every;
       }
 
-  -- a stop stands
+  -- the run has stopped
   pub stopped : (why : Stop) (text : List ℕ) → s.stop ≡ Some why
       → text ≡ report run.design run.env (finished_by_all run s) ++ journal_text run journal
       → IsStoppedRun run clocks text

@@ -1,4 +1,4 @@
--- What is told of a run of nodes that keep to their clocks, once it has come to its end.
+-- The report on a run of nodes that respect their clocks, once it has reached its end.
 use Rattle.std.specs.Prelude.{◌≡◌, ℕ, ◌<◌, Bool, true, if◌then◌else◌, List, [], ◌++◌, map, Some, None}
 use Rattle.pals_clock.specs.declared.clock.Clocks.{Clocks}
 use Rattle.pals_clock.specs.declared.clock.Clocks.TheVariants.{Meet, Lists}
@@ -36,8 +36,7 @@ abbrev pub journal_text : Run → List JournalEntry → List ℕ
 journal_text run journal = text_of (map (entry_line run.design) journal)
 
 -- ---- all nodes are done
--- the rows of all rounds, which are those of the composition, and in a trace the journal; an audit finds such a trace
--- sound
+-- the rows of all rounds, which are the composition's, and in a trace the journal; an audit finds such a trace sound
 pub record IsCompletedRun (run : Run) (clocks : Clocks) (trace : Bool) (text : List ℕ) : Type 0 where
   pub outcome : RunOutcome run clocks
   pub done : AllDone run outcome.state
@@ -45,7 +44,7 @@ pub record IsCompletedRun (run : Run) (clocks : Clocks) (trace : Bool) (text : L
   pub text_is : text ≡ report run.design run.env run.rounds ++ (if trace then journal_text run outcome.journal else [])
   pub sound : trace ≡ true → verdict run (lines_of text) ≡ Sound run.rounds None
 
--- ---- a stop stands
+-- ---- the run has stopped
 -- the rows of the rounds that all nodes have finished, and the journal; an audit finds it sound, with that stop
 pub record IsStoppedRun (run : Run) (clocks : Clocks) (text : List ℕ) : Type 0 where
   pub outcome : RunOutcome run clocks

@@ -8,8 +8,8 @@ use node_threads::NodeEnd;
 use pals_base::{Nanos, NoMemory, NodeNo};
 use std::alloc::AllocError;
 
-/// The first node whose list has ended, with the target that it was asked for, in nanoseconds; none where
-/// all nodes are done. It is refused where a node found no memory.
+/// The first node whose list has ended, with the requested target, in nanoseconds; `None` if all nodes are
+/// done. Fails if a node ran out of memory.
 pub fn first_ended(ends: &[NodeEnd]) -> Result<Option<(NodeNo, Nanos)>, NoMemory>
     requires few { length ends.now ≤ COMPONENTS }
     requires going { (node : ℕ) → slice_get ends.now node ≡ Some end.Stopped → ⊥ }

@@ -19,10 +19,10 @@ use pals_report::add_clock_end_line;
 use run_laws::laws::clauses_are_kept;
 use std::alloc::Global;
 
-/// What is told of a run.
+/// The report on a run.
 #[derive(Drop)]
 pub enum RunReport {
-    /// All nodes are done: the rows of all rounds, and behind them the journal where a trace is wanted.
+    /// All nodes are done: the rows of all rounds, followed by the journal if a trace is requested.
     Completed(Vec<u8>),
     /// A missed or an early input stopped the nodes: the rows of the rounds that all nodes have finished,
     /// and the journal, which ends with the stop.
@@ -31,9 +31,9 @@ pub enum RunReport {
     ClockEnded(Vec<u8>),
 }
 
-/// Tells what came of a run: the rows of the rounds that all nodes have finished, with the journal at a stop or where
-/// a trace is wanted; or, where clocks ended before the nodes were done, the line of the first of them. Refused where
-/// there is not enough memory, or where a node of the run found none.
+/// Reports the outcome of a run: the rows of the rounds that all nodes have finished, with the journal at a stop or if
+/// a trace is requested; or, if clocks ended before the nodes were done, the line of the first of them. Fails if memory
+/// runs out, or if a node of the run ran out of memory.
 pub fn tell_run(alloc: Global, end: &RunEnd, trace: bool) -> Result<RunReport, NoMemory>
     ensures { IfOk result (λ told. (bus : BusValue) (clocks : Clocks) → IsOutcome bus clocks end.now.bus end.now.ends
         → AreReadings clocks → TellsRun bus.run clocks trace told) }
@@ -51,7 +51,7 @@ pub fn tell_run(alloc: Global, end: &RunEnd, trace: bool) -> Result<RunReport, N
     }
 }
 
-// The rows of the rounds that all nodes have finished, and where a trace is wanted the journal.
+// The rows of the rounds that all nodes have finished, and the journal if a trace is requested.
 fn traced_text(alloc: Global, bus: &Bus, trace: bool) -> Result<Vec<u8>, NoMemory>
     ensures { IfOk result (λ text. text.items ≡ text_of (common_lines bus.now)
         ++ (if trace then journal_lines bus.now else [])) }

@@ -26,7 +26,7 @@ use Rattle.analysis_fields.proofs.ProcessorValidity.{node_within}
 use Rattle.plant_fuse.specs.FusedComposition.{IsPair, AreApart, ArePairs}
 use Rattle.plant_fuse.proofs.FusiblePairs.{pair_by}
 
--- ---- a list in which one element alone passes a test
+-- ---- a list in which only one element passes a test
 abbrev bit : Bool → ℕ
 bit b = cond b 1 0
 
@@ -77,7 +77,7 @@ names_itself p = first (nat_eq p.plant.0 p.plant.0) _ _ (eq-eqb p.plant.0 p.plan
     first true b c is = refl
     first false b c is = absurd (true≢false (sym is))
 
--- a pair whose components no other entry names stands apart from each later one
+-- a pair whose components no other entry names is apart from each later one
 differ : (x y : ℕ) → nat_eq x y ≡ false → y ≢ x
 differ x y not_same same = true≢false (sym (eq-eqb x y (sym same)) ∙ not_same)
 
@@ -122,7 +122,7 @@ alone_apart pairs i j d less below alone =
         omega (arith, two, alone)
 
 -- ---- one entry
--- what it names, where all entries name these
+-- the components that it names, if all entries name these
 record IsRead (design : DesignParts) (all : List NamedPair) (p : Pair) : Type 0 where
   fits : IsPair design p
   alone : count_by (shares p) all ≡ 1

@@ -1,4 +1,4 @@
--- The events of a scenario are no more than a list may have, and those of a loose world are events of that world.
+-- The events of a scenario are within the limit of a list, and the events of a loose world are events of that world.
 use Rattle.std.proofs.Common.{◌≡◌, ℕ, ◌<◌, ◌≤◌, ◌+◌, true, List, [], ◌∷◌, ◌++◌, length, codes, decimal, Ok, All, refl}
 use Rattle.std.proofs.Common.{ap, subst, arith, length-append}
 use Rattle.std.specs.Prelude.{nat_le, option_and_then}

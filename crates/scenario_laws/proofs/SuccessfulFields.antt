@@ -1,4 +1,4 @@
--- Where a scenario was read, each of its fields was read with success: for the laws of what such a scenario keeps.
+-- If a scenario was read, each of its fields was read successfully: for the laws of such a scenario.
 use Rattle.std.proofs.Common.{◌≡◌, inl, inr, ℕ, Bool, true, false, List, [], ◌∷◌, length, codes, Option, Some, None}
 use Rattle.std.proofs.Common.{Result, Ok, Err, replicate, refl, subst}
 use Rattle.std.specs.Prelude.{find, not}
@@ -33,7 +33,7 @@ use Rattle.scenario_json.specs.declared.scenario.Scenario.{Scenario}
 use Rattle.scenario_json.specs.Scenarios.{field, only_known, is_field, needs_events, needs_trace, needs_properties}
 use Rattle.scenario_json.specs.Scenarios.{needs_processors, rounds_in, fields_in, scen, Means}
 
--- what a reader keeps that goes on with other fields
+-- the invariant of a reader that continues with other fields
 goes_on : {A : Type 0} (m : Result A ScenarioFault) (go : A → Result Scenario ScenarioFault) (s : Scenario) (P : Type 0)
     → ((a : A) → go a ≡ Ok s → P) → (m >>= go) ≡ Ok s → P
 goes_on (Ok a) go s P next e = next a e
@@ -57,7 +57,7 @@ known : {A : Type 0} (unknown : Option (List ℕ × Data)) (next : Result A Scen
 known None next a e = e
 known (Some entry) next a e = absurd (cc)
 
--- ---- what is read from each field on, the last one first
+-- ---- the result of reading from each field on, the last one first
 abbrev made : ℕ → List (List PortValue) → List Event → Clocks → List (List ℕ) → List (List ℕ) → List PropertyValue
     → List NodeNo → List RoundFault → List Pair → List Processor → Scenario
 made n i v c l t p r f pl pr = record {
@@ -149,7 +149,7 @@ module _ (d : Data) (design : DesignParts) (command : Command) where
   abbrev from_rounds : Result Scenario ScenarioFault
   from_rounds = rounds_in design d >>= λ n. from_inputs n
 
-  -- what was read of these fields is the scenario's
+  -- the result of reading these fields is the scenario's
   pub record AreRead (s : Scenario) : Type 0 where
     pub events : events_read ≡ Ok s.events
     pub trace : trace_read ≡ Ok s.trace

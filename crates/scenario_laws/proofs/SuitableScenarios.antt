@@ -1,4 +1,4 @@
--- A scenario that was read suits its design: its events and trace are short, its events are those of its world, and
+-- A scenario that was read suits its design: its events and trace are short, its events are events of its world, and
 -- its pairs can be fused.
 use Rattle.std.proofs.Common.{ℕ, ◌≤◌, true, false, List, [], length, codes, Ok, refl, sym, arith}
 use Rattle.std.proofs.lemmas.Bool.{false≢true}

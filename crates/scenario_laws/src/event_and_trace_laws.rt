@@ -2,8 +2,8 @@
 ghost use Rattle.scenario_laws.specs.proof.EventAndTraceLimits.{EventsAreFew, TracesAreFew};
 ghost use Rattle.scenario_laws.specs.proof.LooseEvents.{EventsAreLoose};
 
-/// Each event of a scenario of a loose world names a node or a link of the design and is no passing of
-/// time, and there are no more of them than a list may have.
+/// Each event of a scenario of a loose world names a node or a link of the design and is not a passing of
+/// time, and their number is within the limit of a list.
 pub fn events_are_loose()
     ensures { EventsAreLoose }
 {}

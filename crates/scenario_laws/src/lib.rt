@@ -1,5 +1,5 @@
-//! Laws of scenarios: bytes mean one for a design and a command, or have a first fault; and what the fields of a
-//! scenario keep that was read, whatever they say.
+//! Laws of scenarios: bytes mean one scenario for a design and a command, or have a first fault; and the invariants
+//! of the fields of a scenario that was read.
 #![tactic(auto)]
 
 pub mod event_and_trace_laws;

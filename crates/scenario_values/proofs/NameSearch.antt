@@ -1,4 +1,4 @@
--- Looking a name up in a list of names: what is found, and that the tables of names find the same.
+-- Name look-up in a list of names: its result, and that the tables of names have the same result.
 use Rattle.std.proofs.Common.{◌≡◌, ℕ, suc, ◌<◌, ◌+◌, Bool, true, false, cond, List, [], ◌∷◌, length, map, drop, get_or}
 use Rattle.std.proofs.Common.{Some, None, slice_get, refl, sym, ap, ◌∙◌, arith, bytes_eq, string_bytes, String, Global}
 use Rattle.std.proofs.Common.{BTreeMap}
@@ -18,7 +18,7 @@ use Rattle.std.specs.Cmp.{both_ways}
 use Rattle.pals_model.proofs.FirstMatches.{found_at}
 use Rattle.scenario_values.specs.proof.NameTables.{Numbers}
 
--- what is found stands in the list
+-- a found name is in the list
 pub within : {X : Type 0} (test : X → Bool) (xs : List X) (n : ℕ) → position test xs ≡ Some n → n < length xs
 within test xs n found = let at = found_at test xs n found in slice_get_within xs n at.0 at.1
 
@@ -74,7 +74,7 @@ bytes_eq_turned xs ys =
     both_ways (bytes_eq xs ys) (bytes_eq ys xs) (λ e. (bytes_eq-Decides ys xs).1 (sym ((bytes_eq-Decides xs ys).0 e)))
     (λ e. (bytes_eq-Decides xs ys).1 (sym ((bytes_eq-Decides ys xs).0 e)))
 
--- one more name in a table, before those that are in it
+-- one more name in a table, before the names that are in it
 pub table_turn : (table new : BTreeMap (String Global) ℕ) (names : List (String Global)) (n m : ℕ)
     (name : String Global) → m ≡ n → n < length names → name ≡ get_or names n name
     → Numbers table (n + 1) (map string_bytes (drop (n + 1) names))

@@ -1,4 +1,4 @@
--- Where reading ended with a value, each of its steps succeeded: what that says of tests, ranges and list elements.
+-- If reading ended with a value, each of its steps succeeded: the consequence for tests, ranges and list elements.
 use Rattle.std.proofs.Common.{◌≡◌, ℕ, ◌≤◌, ℤ, pos, negsuc, Bool, true, false, ◌&&◌, List, [], ◌∷◌, Option, Some, None}
 use Rattle.std.proofs.Common.{Result, Ok, Err, refl, subst, arith}
 use Rattle.std.specs.Prelude.{nat_le}
@@ -29,7 +29,7 @@ pub ok_only_if : {A : Type 0} (test : Bool) (fault : ScenarioFault) (next : Resu
 ok_only_if true fault next a e = (refl, e)
 ok_only_if false fault next a e = absurd (cc)
 
--- what each step keeps, the whole keeps
+-- an invariant of each step is an invariant of the whole
 pub through_keeps : {A S : Type 0} (P : S → Type 0) (step : S → A → Result S ScenarioFault)
     → ((s : S) (x : A) (t : S) → P s → step s x ≡ Ok t → P t) → (s : S) (xs : List A) (t : S) → P s
     → through step s xs ≡ Ok t → P t

@@ -1,4 +1,4 @@
--- How a fault names the place where it stands: the field, and a name or an index inside it.
+-- How a fault names its position: the field, and a name or an index inside it.
 use Rattle.std.specs.Prelude.{ℕ, codes, decimal, List, ◌++◌}
 use Rattle.scenario_values.specs.declared.placed_faults.Place.{Place}
 use Rattle.scenario_values.specs.declared.placed_faults.Place.TheVariants.{Field, Name, Index, NameIndex}

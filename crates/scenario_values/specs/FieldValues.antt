@@ -34,12 +34,12 @@ elements place d = given (WrongKind place) (option_map values_in (as_array d))
 unfoldable pub entries : List ℕ → Data → Result (List (List ℕ × Data)) ScenarioFault
 entries place d = given (WrongKind place) (option_map entries_in (as_object d))
 
--- a list of no more elements than it may have, which is looked at before any element
+-- a list within its limit of elements; the limit is checked before any element
 unfoldable pub short_list : List ℕ → ℕ → Data → Result (List Data) ScenarioFault
 short_list place most d = elements place d >>= λ ds. only_if (nat_le (length ds) most) (OutOfRange place) (Ok ds)
 
 -- ---- numbers
--- a whole number; one that is kept as a float is none
+-- a whole number; a number that is stored as a float is not one
 abbrev pub integer_of : Data → Option ℤ
 integer_of d = option_and_then as_integer (as_number d)
 

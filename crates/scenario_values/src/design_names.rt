@@ -151,7 +151,7 @@ impl<'a> DesignNames<'a> {
         self.design
     }
 
-    /// The path of a component, empty where there is none.
+    /// The path of a component, empty if it does not exist.
     pub fn path(&self, node: usize) -> &str
         ensures { result.now ≡ node_word self.now node }
     {

@@ -8,19 +8,19 @@ use thiserror::Error;
 /// `/` between each two, as `inputs/goal/2`.
 #[derive(Drop, Error)]
 pub enum ScenarioFault {
-    /// The bytes are no JSON.
+    /// The bytes are not JSON.
     #[error("NotJson")]
     NotJson,
-    /// A field that the command needs is missing, or a component stands on no processor.
+    /// A field that the command needs is missing, or a component is on no processor.
     #[error("Field")]
     Field { name: Text },
-    /// Another kind of value stands there than the field asks for.
+    /// The value has another type than the field requires.
     #[error("WrongKind")]
     WrongKind { name: Text },
     /// No field, or nothing of the design, has this name.
     #[error("Unknown")]
     Unknown { name: Text },
-    /// A number or a count is out of its range, or stands at a place where it may not.
+    /// A number or a count is out of its range, or is at a position where it may not be.
     #[error("OutOfRange")]
     OutOfRange { name: Text },
     /// The run would leave `cells` values, which is more than 1,000,000.

@@ -12,7 +12,7 @@ use pals_base::{Kind, PortValue, Text};
 use serde_json::{Map, Value};
 use std::alloc::Global;
 
-// A whole number. One that is kept as a float is none.
+// A whole number. A number that is stored as a float is not one.
 fn integer(value: &Value) -> Option<i128>
     ensures { result ≡ integer_of (view value.now) }
 {
@@ -121,7 +121,7 @@ pub fn short_list<'v>(
     Ok(list)
 }
 
-/// The members of an object, which stand in byte order of their names.
+/// The members of an object, in byte order of their names.
 #[tactic(auto, using(crate::proofs::JsonLists::entries_seen), unfolding(crate::specs::FieldValues::entries))]
 pub fn entries<'v>(
     alloc: Global,

@@ -1,5 +1,5 @@
-//! JSON values as the fields of scenarios ask for them: numbers in their ranges, texts, lists, objects and
-//! values of ports. And the faults of scenarios, each with the name of the place where it stands.
+//! JSON values as the fields of scenarios require them: numbers in their ranges, texts, lists, objects and
+//! values of ports. And the faults of scenarios, each with the name of its position.
 #![tactic(auto)]
 
 mod design_names;

@@ -1,4 +1,4 @@
-//! Places in a scenario, and the faults that are told at them.
+//! Positions in a scenario, and the faults that are reported at them.
 ghost use Rattle.std.specs.Prelude.{◌≡◌, ◌≢◌, IfOk};
 ghost use Rattle.scenario_values.specs.FaultPlaces.{place_text};
 

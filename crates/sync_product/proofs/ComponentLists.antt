@@ -6,7 +6,7 @@ use Rattle.std.proofs.lemmas.List.{length-map, get_or-map}
 use Rattle.std.proofs.lemmas.Option.{slice_get_within, slice_get_read, get_or_from_slice_get}
 use Rattle.list_lemmas.proofs.ListOperations.{length-map_enumerate_from}
 
--- ---- what is read
+-- ---- the read elements
 -- an element of a list that is another one
 pub entry_at : {Y : Type 0} (table wanted : List Y) (k : ℕ) (y w : Y) → table ≡ wanted → slice_get wanted k ≡ Some w
     → y ≡ slice_index_or table k y → y ≡ w
@@ -24,7 +24,7 @@ pub count_of_sized : {X S : Type 0} (size : X → S) (xs : List X) (wanted : Lis
     → length xs ≡ length wanted
 count_of_sized size xs wanted same = sym (length-map xs size) ∙ ap length same
 
--- ---- what is written
+-- ---- the written elements
 pub slice_get-set_same : {X : Type 0} (xs : List X) (i : ℕ) (y : X) → i < length xs → slice_get (set xs i y) i ≡ Some y
 slice_get-set_same [] i y within = absurd (omega arith)
 slice_get-set_same (x ∷ xs) zero y within = refl

@@ -1,4 +1,4 @@
--- The sizes of each component's frame, part and stage in a product are those that its steps need.
+-- The sizes of each component's frame, part and stage in a product are the sizes that its steps need.
 use Rattle.std.proofs.Common.{◌≡◌, ◌∙◌, ℕ, List, length, map, slice_index_or, sym, ap}
 use Rattle.std.proofs.lemmas.List.{length-map}
 use Rattle.list_lemmas.proofs.ListOperations.{length-map_enumerate_from}

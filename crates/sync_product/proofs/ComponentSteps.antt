@@ -1,4 +1,4 @@
--- What the components have left in a round grows by one when the next component makes its steps.
+-- The parts of the components in a round grow by one when the next component completes its steps.
 use Rattle.std.proofs.Common.{◌≡◌, ◌∙◌, ℕ, ◌+◌, ◌<◌, inl, inr, List, length, map, set, slice_get, slice_index_or, Some}
 use Rattle.std.proofs.Common.{sym, ap, ap₂, arith}
 use Rattle.std.proofs.lemmas.Bool.{cases_lt}
@@ -55,7 +55,7 @@ stepped_more round frames next stages node item part' stage' within within' is p
           }
     ]
 
--- what the steps of a component leave, from what its stage is given
+-- the results of a component's steps, from the inputs of its stage
 pub rows_by : (round : RoundInputs) (parts : List Part) (node : ℕ) (item : Component) (part : Part)
     (sources : List PortSource) (rows : List (List PortValue))
     → node < length parts → part ≡ slice_index_or parts node part → sources ≡ sources_of round.design.now node item

@@ -1,4 +1,4 @@
--- A product keeps its design, stands at the composition after each round, and has the round's parts.
+-- A product keeps its design, agrees with the composition after each round, and has the round's parts.
 use Rattle.std.proofs.Common.{◌≡◌, ◌∙◌, ℕ, zero, suc, List, [], ◌∷◌, length, map, refl, ap, ap₂}
 use Rattle.pals_base.specs.UpwardNumbers.{upwards}
 use Rattle.pals_model.specs.declared.design.DesignParts.{DesignParts}

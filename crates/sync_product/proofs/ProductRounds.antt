@@ -1,4 +1,4 @@
--- Where a product stands after a round.
+-- The state of a product after a round.
 use Rattle.std.proofs.Common.{◌≡◌, ◌∙◌, ℕ, ◌<◌, inl, inr, Bool, true, false, cond, nat_eq, List, [], ◌∷◌, length, map}
 use Rattle.std.proofs.Common.{All, slice_get, slice_index_or, Some, refl, sym, ap, ap₂, arith}
 use Rattle.std.specs.Prelude.{filter}

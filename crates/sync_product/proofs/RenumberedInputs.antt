@@ -1,4 +1,4 @@
--- In a renumbered design, each in port brings what it brings in the first one.
+-- In a renumbered design, each in port has the same input as in the first one.
 use Rattle.std.proofs.Common.{◌≡◌, ◌⊎◌, ◌∙◌, inl, inr, ℕ, ◌<◌, ◌&&◌, true, false, nat_eq, List, [], ◌∷◌, length, Some}
 use Rattle.std.proofs.Common.{All, slice_get, slice_index_or, sym, ap, ap₂, subst}
 use Rattle.std.proofs.lemmas.Bool.{eqb-true, and_parts}

@@ -1,4 +1,4 @@
-//! The steps that one component makes in a round.
+//! The steps that one component runs in a round.
 ghost use Rattle.std.specs.Prelude.{◌≡◌, ◌<◌, [], IfOk, OnOk, length, map, vec_len, slice_index_or, slice_set};
 ghost use Rattle.pals_base.specs.SingleStep.{fire};
 ghost use Rattle.pals_base.specs.StepSequences.{frame_after, outputs};
@@ -17,7 +17,7 @@ use pals_model::{Component, Part};
 use std::alloc::Global;
 use std::mem::swap;
 
-/// The room in which one component makes its steps: where its loops take memory from, the inputs and
+/// The room in which one component runs its steps: the allocator of its loops, the inputs and
 /// outputs of a step, the frame before it, the outputs of each step of the round, and how many of the
 /// steps are sent.
 pub struct Stage {
@@ -115,7 +115,7 @@ impl Stage {
         Ok(())
     }
 
-    /// Makes one step from the inputs that stand ready, and keeps its outputs in the row of its number.
+    /// Runs one step from the prepared inputs, and stores its outputs in the row of its number.
     pub fn make_step(
         &mut self,
         behaviour: &Behaviour,

@@ -16,9 +16,9 @@ use std::marker::Model;
 use std::mem::swap;
 use std::sync::Arc;
 
-/// The composition of a design after some rounds: its configuration, and what each component left
-/// in the last round. Contracts see these beside the design. It has its memory twice: a round is
-/// made in the other half, and becomes what stands at its end.
+/// The composition of a design after some rounds: its configuration, and the part of each component
+/// in the last round. Its model also has the design. It has its memory twice: a round is computed in
+/// the other half, which then becomes the current one.
 pub struct Product {
     design: Arc<Design>,
     wiring: Wiring,
@@ -29,7 +29,7 @@ pub struct Product {
     next_messages: ItemList<Tuple>,
 }
 
-// By hand, so that a product let go is one call, which the crates above cite.
+// By hand, so that dropping a product is one call, which the crates above cite.
 impl Drop for Product {
     fn drop(self) {
         let Product {
@@ -89,11 +89,11 @@ impl Product {
         })
     }
 
-    /// Goes one round further. The values are those of the root in ports in this round, in the
-    /// order of the design's feeds, each name where it comes first; a value that is missing at the
-    /// end is absent, and those past the last port mean nothing. A port for truth values takes any
-    /// number: 0 is false, and each other number is true. If there is not enough memory, nothing
-    /// changes. After the first two rounds it takes memory only where a loop runs that did not run
+    /// Advances by one round. The values are the values of the root in ports in this round, in the
+    /// order of the design's feeds, each name at its first occurrence; a missing value at the end is
+    /// absent, and values past the last port are ignored. A port for truth values takes any
+    /// number: 0 is false, and each other number is true. If memory runs out, nothing
+    /// changes. After the first two rounds it allocates only if a loop runs that did not run
     /// before.
     pub fn advance(&mut self, values: &[PortValue]) -> Result<(), NoMemory>
         ensures ok { OnOk result (self.new ≡ advanced self.old values.now) }

@@ -32,7 +32,7 @@ pub fn messages_are_renumbered()
         → msg b env_b m round ≡ msg a env_a l round }
 {}
 
-/// Where the taps show the same ports too, each component leaves the same part of each round: its
+/// If the taps show the same ports too, each component has the same part of each round: its
 /// state, and the whole tuple of each of its taps.
 pub fn parts_are_renumbered()
     ensures { (to : ℕ → ℕ) (a b : DesignParts) (env_a env_b : Env) → IsDesign a → IsDesign b → IsRenumbered to a b

@@ -10,8 +10,8 @@ use crate::wiring::Wiring;
 use pals_base::{ItemList, NoMemory};
 use pals_model::Part;
 
-/// Makes the steps of all components, from their frames in the parts of the round before. At Ok the
-/// new parts and the rows of the stages are those of the steps; the sizes stay in every case.
+/// Runs the steps of all components, from their frames in the parts of the round before. At Ok the
+/// new parts and the rows of the stages are the results of the steps; the sizes stay in every case.
 pub fn run_all(
     round: RoundInputs,
     wiring: &Wiring,

@@ -1,4 +1,4 @@
-//! What the in ports of a component read, step by step. The calls take no memory.
+//! The inputs of the in ports of a component, step by step. The calls do not allocate.
 ghost use Rattle.std.specs.Prelude.{◌≡◌, ◌<◌, [], length, map, slice_index_or};
 ghost use Rattle.pals_base.specs.declared.basic_types.PortValue.TheVariants.{Absent};
 ghost use Rattle.pals_base.specs.Tuples.{column};
@@ -55,7 +55,7 @@ pub fn value_brought(round: RoundInputs, rate: u32, source: PortSource, step: us
     }
 }
 
-// The places of a message, none where there is no such message.
+// The places of a message; empty if there is no such message.
 fn message_at(messages: &[Tuple], number: usize) -> &[PortValue]
     ensures { result.now ≡ slice_index_or messages.now number [] }
 {

@@ -1,5 +1,5 @@
-//! The tuple of one port, taken as a column from the rows of steps and cut to those that count. The
-//! calls take no memory.
+//! The tuple of one port, taken as a column from the rows of steps and cut to the places that count. The
+//! calls do not allocate.
 ghost use Rattle.std.specs.Prelude.{◌≡◌, length};
 ghost use Rattle.pals_base.specs.Tuples.{column, cut};
 ghost use Rattle.sync_product.specs.proof.Rounds.{value_if_before};
@@ -17,7 +17,7 @@ pub fn write_port_tuple(to: &mut Tuple, rows: &[Tuple], port: usize, count: usiz
     }
 }
 
-// A place of a row where it counts, else an absent one.
+// A place of a row if it counts, else an absent one.
 fn value_if_before(row: &[PortValue], port: usize, counts: bool) -> PortValue
     ensures { result ≡ value_if_before counts port row.now }
 {

@@ -1,4 +1,4 @@
-//! Where the ports of components lead, found once for a design.
+//! The connections of the ports of components, found once for a design.
 ghost use Rattle.std.specs.Prelude.{◌<◌, IfOk, length};
 
 use crate::taps::all_taps;
@@ -15,7 +15,7 @@ pub struct WiredComponent<'a> {
     pub taps: &'a [u32],
 }
 
-/// Where the in ports of each component of a design read from, and which of its out ports root out
+/// The sources of the in ports of each component of a design, and which of its out ports root out
 /// ports show.
 pub struct Wiring {
     pub sources: ItemList<ItemList<PortSource>>,

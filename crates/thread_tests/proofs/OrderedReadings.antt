@@ -1,4 +1,4 @@
--- Lists of readings that tests make are in order and within the greatest reading.
+-- Lists of readings in tests are in order and within the maximum reading.
 use Rattle.std.proofs.Common.{ℕ, ◌+◌, ◌*◌, ◌-◌, ◌≤◌, List, [], ◌∷◌, ◌++◌, length, All, arith}
 use Rattle.std.specs.List.Sorted.{IsNonDecreasing}
 use Rattle.std.proofs.lemmas.List.Elements.{All-push}

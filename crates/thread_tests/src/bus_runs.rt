@@ -1,4 +1,4 @@
-//! A bus before its first event, its run in threads, and what comes out of it.
+//! A bus before its first event, its run in threads, and the resulting bus.
 ghost use Rattle.std.specs.Prelude.{IsTrue, IfOk, length};
 ghost use Rattle.pals_model.specs.Delays.{AreDelays};
 ghost use Rattle.node_threads.specs.proof.SharedCourses.{AreClocksOf};
@@ -47,7 +47,7 @@ pub fn bus_of(rt: &impl Abort, alloc: Global, text: &str, meeting: bool) -> Resu
     Ok(Bus::new(alloc, design, codes, env, 3, delays, meeting)?)
 }
 
-// Whether the clocks are those of a bus.
+// Whether the clocks are the clocks of a bus.
 fn are_of(clocks: &Clocks, bus: &Bus) -> bool
     ensures { IsTrue result → AreClocksOf bus.now clocks.now }
 {
@@ -91,7 +91,7 @@ fn end_line(alloc: Global, end: NodeEnd) -> Result<String, NoMemory> {
     })
 }
 
-/// Whether a run of a bus from its opening tells this.
+/// Whether a run of a bus from its opening has this outcome.
 pub fn tells<R: Threads + Wait + Sync, W: Starter, G: Gate + Sync>(
     host: Host<'_, R, W, G>,
     alloc: Global,

@@ -4,7 +4,7 @@ use pals_base::NodeNo;
 use std::sync::atomic::{AtomicU64, Ordering};
 use std::thread;
 
-/// Yields 0 to 7 times before and after each job, as a counter from a seed tells.
+/// Yields 0 to 7 times before and after each job, as a counter from a seed determines.
 #[derive(Drop)]
 pub struct Yields {
     state: AtomicU64,

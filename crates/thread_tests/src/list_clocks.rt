@@ -52,7 +52,7 @@ fn steady(alloc: Global) -> Result<ItemList<Nanos>, NoMemory>
     Ok(readings)
 }
 
-// Whether a run of two counters with these clocks tells this.
+// Whether a run of two counters with these clocks has this outcome.
 fn tells_by<R: Threads + Wait + Sync + Abort>(
     rt: &R,
     alloc: Global,

@@ -15,7 +15,7 @@ use Rattle.run_laws.specs.proof.WorldInvariant.{IsOnce, one_if, copies, waits, t
 use Rattle.run_laws.proofs.WorldLinkTiming.{one_true, one_of_true}
 use Rattle.trace_laws.specs.proof.PutOffArrivals.{flying, rounds_of}
 
--- ---- where they begin and end
+-- ---- the first and last round in flight
 -- the source has sent each round before the last one that the target has started
 pub started_are_sent : (count : ℕ) (slot : Option (List PortValue)) (sent : ℕ) (flight : List FlightCopy)
     → ((round : ℕ) → IsOnce count slot sent flight round) → count - 1 ≤ sent

@@ -1,11 +1,11 @@
--- When a message that a world's node sends is due to a trace: behind every start of its own round, and by the alarm of the
--- next one.
+-- When a message of a world's node is due in a trace: after every start of its own round, and by the alarm of the next
+-- one.
 use Rattle.std.proofs.Common.{◌≡◌, ℕ, ◌+◌, ◌-◌, ◌*◌, ◌<◌, ◌≤◌, arith}
 use Rattle.pals_base.specs.PeriodBoundAndReleases.{alarm}
 use Rattle.std.specs.Prelude.{max}
 use Rattle.run_laws.proofs.TimeArithmetic.{Fits}
 
--- `a` is the alarm of the round, `at` the moment of the send, and `reading` what its node's clock shows then
+-- `a` is the alarm of the round, `at` the time of the send, and `reading` the reading of its node's clock then
 pub due_between : (eps alpha mu_min mu_max t k p s o : ℕ) → Fits eps alpha mu_min mu_max t k p s o
     → (a at reading delay : ℕ) → a + o ≤ reading → reading < at + eps
     → at < a + eps + max (2 * eps - mu_min) ((s - 1) * p + alpha) → mu_min ≤ delay → delay ≤ mu_max

@@ -1,4 +1,4 @@
--- The last readings that a journal shows, entry by entry, are at most those of the clocks.
+-- The last readings that a journal shows, entry by entry, are at most the readings of the clocks.
 use Rattle.std.proofs.Common.{◌≡◌, ℕ, ◌≤◌, nat_eq, Bool, true, false, cond, List, [], ◌∷◌, ◌++◌, Option}
 use Rattle.std.proofs.Common.{Some, None, refl, ap, arith}
 use Rattle.std.specs.Option.{unwrap_or}
@@ -19,7 +19,7 @@ shown_by readings node before t true is most shows =
     let same : readings t.node ≡ readings node = ap readings (eqb-true t.node node is) in omega (arith, same, shows)
 shown_by readings node before t false is most shows = most
 
--- an entry shows the reading of its node's clock, or none
+-- an entry shows the reading of its node's clock, or `None`
 abbrev pub ShowsClock : (ℕ → ℕ) → Option Timed → Type 0
 ShowsClock readings None = Unit {0}
 ShowsClock readings (Some t) = unwrap_or t.reading 0 ≡ readings t.node

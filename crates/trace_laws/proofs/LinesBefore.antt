@@ -1,5 +1,5 @@
--- The lines before a wrong one: they are those of the entries of a history, and the verdict on the others is that of an
--- audit which has come as far.
+-- The lines before a wrong line are the lines of the entries of a history, and the verdict on the others is the verdict
+-- of an audit that has read the entries.
 use Rattle.std.proofs.Common.{◌≡◌, ℕ, zero, suc, ◌+◌, ◌≤◌, List, [], ◌∷◌, ◌++◌, length, map, take, drop, All}
 use Rattle.std.proofs.Common.{Option, Some, None, refl, sym, ap, ap₂, ◌∙◌, subst, arith}
 use Rattle.std.proofs.lemmas.List.{append-nil, append_assoc}
@@ -65,7 +65,7 @@ just_here index i None otherwise why most later wrong =
 just_here index i (Some r) otherwise why most later wrong = let same : r ≡ why = cc in ap Some same
 
 -- ---- the lines before
--- the first lines, of which there are this many, are those of entries that lead to an audit
+-- this many first lines are the lines of entries that lead to an audit
 pub record HasBefore (run : Run) (rows index : ℕ) (front : List JournalEntry) (lines : List (List ℕ)) (k : ℕ)
     (why : TraceRule) : Type 0 where
   pub told : List JournalEntry

@@ -1,4 +1,4 @@
--- The links into a node: they are those whose target it is, each once.
+-- The links into a node: the links whose target it is, each once.
 use Rattle.std.proofs.Common.{◌≡◌, ◌≢◌, ℕ, zero, suc, ◌+◌, nat_eq, Bool, true, false, cond, List, [], ◌∷◌, map, filter}
 use Rattle.std.proofs.Common.{slice_get, Some, refl, sym, ap, ◌∙◌, subst, arith}
 use Rattle.std.specs.List.{AllByRecursion as Every, Contains, enumerate_from}
@@ -13,7 +13,7 @@ into_from node from ls =
     map (λ (numbered : ℕ × Link). numbered.0)
     (filter (λ (numbered : ℕ × Link). nat_eq numbered.1.target.0 node) (enumerate_from from ls))
 
--- ---- what holds of each link to the node holds of each of them
+-- ---- a property of each link to the node is a property of each of them
 every_by : (P : ℕ → Type 0) (from : ℕ) (rest : List (ℕ × Link)) (l : Link) (b : Bool) → (b ≡ true → P from)
     → Every P (map (λ (numbered : ℕ × Link). numbered.0) rest)
     → Every P (map (λ (numbered : ℕ × Link). numbered.0) (cond b ((from, l) ∷ rest) rest))

@@ -55,7 +55,7 @@ listed_none : (o : Option JournalEntry) → is_some o ≡ false → listed o ≡
 listed_none None unowed = refl
 listed_none (Some e) unowed = absurd (true≢false unowed)
 
--- so the lines before it are all those of a history
+-- so all lines before it are the lines of a history
 pub has_before : (run : Run) (rows : ℕ) (lines : List (List ℕ)) (index : ℕ) (why : TraceRule) → IsDesign run.design
     → IsOfEvents why → IsInJournal run rows lines index why → index < length lines
     → HasLines run (take (index - report_size lines) (journal_lines lines))

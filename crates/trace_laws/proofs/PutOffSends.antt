@@ -49,7 +49,7 @@ use Rattle.trace_laws.proofs.PutOffSteps.{count_in_range, reading_in_range}
 use Rattle.pals_runs.specs.declared.events_and_faults.Event.TheVariants as event
 use Rattle.pals_runs.specs.declared.journal.JournalEntry.TheVariants as entry
 
--- a message in a slot is of a round that its target has started
+-- a message in a slot belongs to a round that its target has started
 pub slot_counts : (run : Run) (number count : ℕ) (slot : Option (List PortValue)) → SlotAgrees run number count slot
     → is_some slot ≡ true → 1 ≤ count
 slot_counts run number count None agrees full = absurd (false≢true full)

@@ -1,4 +1,4 @@
--- A step and a finish: one node changes, and keeps its count, its slots and what it has sent.
+-- A step and a finish: one node changes, and its count, its slots and its sent rounds stay.
 use Rattle.std.proofs.Common.{◌≡◌, ◌≢◌, ℕ, ◌-◌, ◌<◌, ◌≤◌, true, List, [], ◌∷◌, ◌++◌, length, map, Some}
 use Rattle.std.proofs.Common.{None, refl, sym, ap, ap₂, ◌∙◌, subst, arith}
 use Rattle.std.specs.Prelude.{is_some, slice_index_or, Bool, if◌then◌else◌}

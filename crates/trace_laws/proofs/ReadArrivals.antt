@@ -50,7 +50,7 @@ use Rattle.trace_laws.proofs.CopyRounds.{IsFirst, first_copy}
 use Rattle.trace_laws.proofs.JournalReadings.{one_more_at_most}
 use Rattle.pals_runs.specs.declared.journal.JournalEntry.TheVariants as entry
 
--- ---- what is there before
+-- ---- the state before
 -- a node that is to start its next round at a reading by which the message of each of its links is due
 pub record IsToRead (run : Run) (w : World) (t : BusState) (node round : ℕ) : Type 0 where
   pub rules : IsRunOf run

@@ -1,4 +1,4 @@
--- The run of a world has messages that take the least time of the network.
+-- The run of a world has messages that take the minimum delay of the network.
 use Rattle.std.proofs.Common.{◌≡◌, ℕ, zero, suc, ◌-◌, ◌<◌, List, [], ◌∷◌, length, map, refl, ap, ◌∙◌, arith}
 use Rattle.std.specs.Prelude.{min, slice_index_or}
 use Rattle.pals_model.specs.declared.design.Link.{Link}

@@ -112,7 +112,7 @@ line_rule run a (Some e) r is =
     (waits run a.bus e) (tells_stop run a.bus e (event_of run.design e)) x (early_rule run a.bus e) broke)
     is
 
--- ---- so no line is left at a rule of the end
+-- ---- so no line remains at a rule of the end
 none_left : (run : Run) (rows i : ℕ) (a : Audit) (lines : List (List ℕ)) (why : TraceRule) → is_of_lines why ≡ false
     → journal_verdict run rows i a lines ≡ Wrong i why → (lines ≡ []) × (end_broken run rows a ≡ Some why)
 none_left run rows i a [] why end wrong =
@@ -180,7 +180,7 @@ has_all run rows lines index why rules end at =
       ends = left.1;
     }
 
--- a trace of which no line is left ends at the index
+-- a trace without a further line ends at the index
 pub at_end : (run : Run) (rows : ℕ) (lines : List (List ℕ)) (index : ℕ) (why : TraceRule) → IsDesign run.design
     → is_of_lines why ≡ false → report_size lines ≤ length lines → IsInJournal run rows lines index why → index ≡ length lines
 at_end run rows lines index why rules end few at =

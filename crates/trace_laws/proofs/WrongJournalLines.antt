@@ -1,4 +1,4 @@
--- A wrong line of the journal: the lines before it begin those of a history, and with it they begin none.
+-- A wrong line of the journal: the lines before it begin a history's lines, and with it they begin none.
 use Rattle.std.proofs.Common.{◌≡◌, ℕ, zero, suc, ◌+◌, ◌-◌, ◌<◌, ◌≤◌, List, [], ◌∷◌, ◌++◌, length, map, take}
 use Rattle.std.proofs.Common.{Some, None, refl, sym, ap, subst, ◌∙◌, arith}
 use Rattle.std.proofs.lemmas.List.{length-drop}

@@ -1,4 +1,4 @@
--- What a list of timed events leaves as a trace: what its nodes do, each arrival put off to the start that reads it.
+-- The trace of a list of timed events: the events of its nodes, each arrival postponed to the start that reads it.
 use Rattle.std.specs.Prelude.{◌≡◌, ℕ, zero, suc, ◌≤◌, ◌<◌, List, [], ◌∷◌, ◌++◌, map, length, Option, Some, None}
 use Rattle.pals_base.specs.declared.basic_types.NodeNo.{NodeNo}
 use Rattle.pals_model.specs.declared.design.DesignParts.{DesignParts}

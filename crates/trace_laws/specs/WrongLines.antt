@@ -1,5 +1,5 @@
--- What a wrong line of a trace means: nodes that keep to alarms, releases and due times leave the lines before it, and
--- no such nodes leave the lines up to it.
+-- The meaning of a wrong line of a trace: nodes that respect alarms, releases and due times can produce the lines
+-- before it, and no such nodes can produce the lines up to it.
 use Rattle.std.specs.Prelude.{◌≡◌, ◌≢◌, ℕ, suc, ◌-◌, ◌*◌, ◌<◌, List, ◌++◌, length, map, take, drop, All, Option}
 use Rattle.pals_runs.specs.declared.journal.JournalEntry.{JournalEntry}
 use Rattle.pals_runs.specs.declared.journal.Stop.{Stop}

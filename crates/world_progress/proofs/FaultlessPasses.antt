@@ -1,4 +1,4 @@
--- A Pass has no fault if each clock goes on near the time and no last allowed time is passed.
+-- A Pass has no fault if each clock advances near the time and no last allowed time is passed.
 use Rattle.std.proofs.Common.{◌≡◌, ℕ, zero, suc, ◌+◌, ◌-◌, ◌<◌, ◌≤◌, List, [], ◌∷◌, length, map, slice_get, Option}
 use Rattle.std.proofs.Common.{Some, None, refl, ap, subst, arith}
 use Rattle.std.specs.Prelude.{nat_lt, nat_le}

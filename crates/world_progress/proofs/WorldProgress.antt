@@ -1,4 +1,4 @@
--- A world within the bounds goes on: if no last allowed time has come, a nanosecond can pass.
+-- A world within the bounds can continue: if no last allowed time is reached, a nanosecond can pass.
 use Rattle.std.proofs.Common.{◌≡◌, ◌⊎◌, inl, inr, ℕ, zero, suc, ◌<◌, ◌≤◌, true, List, [], ◌∷◌, length, map, slice_get}
 use Rattle.std.proofs.Common.{Option, Some, None, refl, sym, ap, ◌∙◌, subst, arith}
 use Rattle.std.specs.Prelude.{max, Bool, is_some, if◌then◌else◌, find}
@@ -24,7 +24,7 @@ use Rattle.world_progress.specs.proof.WorldProgress.{CanGoOn, time_passes}
 use Rattle.world_progress.proofs.DueEvents.{HasCome, node_event, message_event}
 use Rattle.world_progress.proofs.FaultlessPasses.{GoOnNear, pass_can_occur}
 
--- ---- what has come, or not
+-- ---- whether a last allowed time is reached
 come_or_not : (time : ℕ) (o : Option ℕ) → HasCome time o ⊎ KeepsDeadline (suc time) o
 come_or_not time None = inr tt
 come_or_not time (Some last) = elim (cases_lt time last) [
@@ -32,7 +32,7 @@ come_or_not time (Some last) = elim (cases_lt time last) [
   | inr come ↦ inl (record { last = last; is = refl; come = come })
 ]
 
--- each copy in flight is of a round that is in flight
+-- each copy in flight belongs to a round that is in flight
 abbrev found_by : ℕ → FlightCopy → List FlightCopy → Bool → Bool
 found_by round x xs is = is_some (if is then Some x else find (is_of round) xs)
 

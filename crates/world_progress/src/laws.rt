@@ -1,4 +1,4 @@
-//! The law of worlds that go on. It is the contract of a function that does nothing.
+//! The law of progress of worlds. It is the contract of a function with an empty body.
 ghost use Rattle.std.specs.Prelude.{List};
 ghost use Rattle.pals_runs.specs.declared.events_and_faults.Event.{Event};
 ghost use Rattle.bus_machine.specs.RunParameters.{Run};

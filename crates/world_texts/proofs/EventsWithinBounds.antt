@@ -1,4 +1,4 @@
--- Each next event of a list that is within the bounds has no fault but want of memory.
+-- Each next event of a list that is within the bounds has no fault, unless memory runs out.
 use Rattle.std.proofs.Common.{◌≡◌, ◌∙◌, ◌⊎◌, inl, inr, ℕ, zero, suc, ◌+◌, ◌<◌, List, [], ◌∷◌, length, take, Some, None}
 use Rattle.std.proofs.Common.{sym, ap, ap₂, subst, arith}
 use Rattle.std.specs.Prelude.{slice_index_or}
@@ -43,7 +43,7 @@ leads_next old mid new events index d below leads fine moves =
     subst (λ (es : List Event). Leads old es new) (sym (take_more events index d below))
     (leads_more old mid new (take index events) e leads fine moves)
 
--- without a fault only memory can be what is missing
+-- without a fault the event can fail only if memory runs out
 pub only_memory : (run : Run) (w : World) (e : Event) (why : EventFault) → fault_of run w e ≡ None
     → (why ≡ fault.Memory) ⊎ (fault_of run w e ≡ Some why)
     → why ≡ fault.Memory

@@ -1,5 +1,4 @@
--- What is told of timed events, event by event, and that in the end it is the text of their world, or their first
--- fault.
+-- The report on timed events, event by event, and that in the end it is the text of their world, or their first fault.
 use Rattle.std.proofs.Common.{◌≡◌, ◌∙◌, inl, inr, ℕ, ◌+◌, ◌<◌, ◌≤◌, Bool, true, false, List, [], ◌++◌, length, take, Some}
 use Rattle.std.proofs.Common.{None, refl, sym, ap, subst, append-nil}
 use Rattle.std.specs.Prelude.{slice_index_or, if◌then◌else◌}
@@ -57,7 +56,7 @@ undergoes old (event.Drop link round) new moves =
 undergoes old (event.Repeat link round) new moves =
     inr (record { what = Repeat link round; is_what = refl; happens = moves.bus })
 
--- it names what is there
+-- it names an existing node or link
 named_by : (run : Run) (e : Event) → is_named run e ≡ true → IsNamedIn run.design e
 named_by run (event.Pass time readings) is = tt
 named_by run (event.Start node) is = ltb-true _ _ is

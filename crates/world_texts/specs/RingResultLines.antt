@@ -30,7 +30,7 @@ ring_text n rounds = text_of (ring_line n rounds ∷ [])
 abbrev pub number_in : Part → ℤ
 number_in part = slice_index_or part.frame.vars 0 (pos 0)
 
--- a bus is of this ring and these rounds, and each node has done all of them
+-- a bus belongs to this ring and these rounds, and each node has done all of them
 pub record IsDoneRing (n rounds : ℕ) (bus : BusValue) : Type 0 where
   pub run : bus.run ≡ world_run (ring n) no_env rounds
   pub done : (node : ℕ) → node < n → (node_at bus.state node).phase ≡ Done

@@ -1,4 +1,4 @@
--- What is told of a list of timed events.
+-- The report on a list of timed events.
 use Rattle.std.specs.Prelude.{◌≡◌, ℕ, List, take, Some, slice_get}
 use Rattle.pals_runs.specs.declared.events_and_faults.Event.{Event}
 use Rattle.pals_runs.specs.declared.events_and_faults.EventFault.{EventFault}

@@ -21,8 +21,8 @@ use step_code::Code;
 use timed_world::World;
 use world_gen::{ring, schedule};
 
-/// Lets a ring of components go through its schedule for a number of rounds, and tells how many
-/// messages they sent, and the sum of the numbers that they come to.
+/// Runs a ring of components through its schedule for a number of rounds, and returns how many
+/// messages they sent, and the sum of their final numbers.
 pub fn tell_ring(alloc: Global, nodes: u32, rounds: u32) -> Result<Vec<u8>, NoMemory>
     requires some { 2 ≤ nodes }
     requires few { nodes ≤ COMPONENTS }

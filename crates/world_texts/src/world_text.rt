@@ -18,7 +18,7 @@ use std::sync::Arc;
 use step_code::Code;
 use timed_world::{World, WorldEnd};
 
-/// What is told of a list of events.
+/// The report on a list of events.
 #[derive(Drop)]
 pub enum WorldReport {
     /// All events are within the bounds, and this is the text of their world.
@@ -96,7 +96,7 @@ fn tell_events(
     Ok(WorldEnd::All)
 }
 
-// The rows of the rounds that some node has finished, and behind them the lines of what was sent.
+// The rows of the rounds that some node has finished, followed by the lines of the sent messages.
 fn finished(alloc: Global, world: &World, sent: &[u8]) -> Result<Vec<u8>, NoMemory>
     ensures { IfOk result (λ text. text.items ≡ text_of (finished_lines world.now.bus) ++ sent.now) }
 {

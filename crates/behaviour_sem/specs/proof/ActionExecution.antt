@@ -1,4 +1,4 @@
--- Claims that running actions takes variables and outputs from what they were to what is meant.
+-- Claims that running actions changes variables and outputs as the definition of actions specifies.
 use Rattle.std.specs.Prelude.{ℤ, List, [], ◌∷◌, ◌++◌, length, Bool, Result}
 use Rattle.std.specs.declared.alloc.Global.{Global}
 use Rattle.std.specs.declared.vec.Vec.{Vec}
@@ -36,7 +36,7 @@ RunsFirst result branches inputs before after =
     → IsBranchResult result (effect_of after) (effect_of before) otherwise
     (act_first branches (seen before.0.items inputs) (fresh inputs) before.1 otherwise)
 
--- one turn of a loop: its number stands behind the variables
+-- one turn of a loop: its number follows the variables
 abbrev pub turn : ℤ → Actions → Frame → List Bool → List PortValue → Result Effect Trap
 turn number body frame fresh' outs =
     without_loop (length frame.vars) (acts body (with_vars frame (frame.vars ++ number ∷ [])) fresh' outs)

@@ -1,4 +1,4 @@
--- The frames in which expressions and actions are evaluated, made of variables and held inputs alone; and which in
+-- The frames in which expressions and actions are evaluated, made only of variables and held inputs; and which in
 -- ports have a value.
 use Rattle.std.specs.Prelude.{ℤ, Bool, List, map, None}
 use Rattle.pals_base.specs.declared.frames.Frame.{Frame}

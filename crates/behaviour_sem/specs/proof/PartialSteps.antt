@@ -11,11 +11,11 @@ use Rattle.behaviour_sem.specs.declared.transitions.StepState.{StepState}
 use Rattle.behaviour_sem.specs.proof.PartialStepResults.{IsStepResult}
 use Rattle.behaviour_sem.specs.proof.EvaluationFrames.{fresh}
 
--- where a step stands, and the outputs so far
+-- the state of a running step, and the outputs so far
 abbrev pub StateAndOutputs : Type 0
 StateAndOutputs = StepState × List PortValue
 
--- where a step stands, as a frame that no trap halted, and its outputs
+-- the state of a running step, as a frame without a trap, and its outputs
 abbrev pub fired : StateAndOutputs → StepInputs → Fired
 fired at inputs =
     record {

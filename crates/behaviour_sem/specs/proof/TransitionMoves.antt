@@ -6,7 +6,7 @@ use Rattle.pals_base.specs.SingleStep.{Fired, opens, first_open, along, is_dispa
 use Rattle.pals_base.specs.ExpressionValues.{on_value}
 use Rattle.pals_base.specs.ExpressionAndActionTrees.{Edge}
 
--- whether it leaves this state and its trigger lets it go
+-- whether it leaves this state and its trigger is enabled
 abbrev pub goes : ℕ → Frame → List Bool → Edge → Result Bool Trap
 goes state frame fresh e = if nat_eq e.source state then opens e.trigger frame fresh else Ok false
 

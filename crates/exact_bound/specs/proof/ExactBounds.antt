@@ -32,7 +32,7 @@ pub record ArrivesBetween (g : Gamma) (t : ℕ) (s : Sender) : Type 0 where
       → IsSentBy g t s round finished sent sent_reading → IsCarried g sent arrived
       → IsStarted g t (round + 1) start reading → arrived < start
 
--- clocks have some skew, and the fastest message is no slower than the slowest
+-- clocks have some skew, and the fastest message is at most as slow as the slowest
 pub record IsPlatform (g : Gamma) : Type 0 where
   pub skew : 1 ≤ g.eps
   pub network : g.mu_min ≤ g.mu_max
@@ -66,7 +66,7 @@ abbrev pub StepsHaveTimeExactly : Type 0
 StepsHaveTimeExactly = (g : Gamma) (t k : ℕ) → IsPlatform g → 1 ≤ k → HasTime g (step_period t k) ↔ (k * g.alpha_max ≤ t)
 
 -- ---- how close the bound is
--- at the greatest rate k both messages and steps have time
+-- at the maximum rate k both messages and steps have time
 pub record IsEnough (g : Gamma) (t k : ℕ) : Type 0 where
   pub messages : ArrivesBetween g t (sender g t k)
   pub steps : HasTime g (step_period t k)

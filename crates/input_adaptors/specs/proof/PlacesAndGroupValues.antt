@@ -1,4 +1,4 @@
--- The words of the laws: which places a value takes, of which group a place is made, and its least, greatest and
+-- The terms of the laws: which places a value takes, which group gives a place, and the group's minimum, maximum and
 -- latest number.
 use Rattle.std.specs.Prelude.{◌≡◌, ◌≢◌, ℕ, ◌+◌, ◌*◌, ◌/◌, ◌<◌, ℤ, ◌≤ℤ◌, List, take, drop, Some, slice_get, Contains}
 use Rattle.pals_base.specs.declared.allowed_adaptors.Adaptor.{Adaptor}
@@ -10,7 +10,7 @@ use Rattle.pals_base.specs.declared.basic_types.PortValue.TheVariants.{Present}
 abbrev pub group_at : ℕ → ℕ → ℕ → List PortValue → List PortValue
 group_at p q k tuple = take (p / q) (drop (k * (p / q)) tuple)
 
--- a spread value stands in place j, from 0, of its m places
+-- a spread value is in place j, from 0, of its m places
 abbrev pub TakesPlace : Adaptor → ℕ → ℕ → Type 0
 TakesPlace Repeat m j = Unit {0}
 TakesPlace First m j = j ≡ 0

@@ -13,7 +13,7 @@ abbrev pub port_of : Option ℤ → PortValue
 port_of None = Absent
 port_of (Some v) = Present v
 
--- a sum divided by a count, towards zero, absent where nothing is counted
+-- a sum divided by a count, towards zero; absent if the count is 0
 abbrev pub mean_of : ℤ → ℕ → PortValue
 mean_of sum zero = Absent
 mean_of sum (suc n) = Present (int_div sum (pos (suc n)))

@@ -21,7 +21,7 @@ pub record BusFits (run : Run) (s : BusState) : Type 0 where
   -- the inputs of its job that is out
   pub jobs : (node : ℕ) (c : Component) (job : StepWork) → slice_get run.design.components node ≡ Some c
       → job_out (plan_of run.design node) (node_at s node) ≡ Some job → PortsFit c.behaviour.ins job.inputs
-  -- what each round that it finished left
+  -- the part of each round that it finished
   pub parts : (node : ℕ) (c : Component) → slice_get run.design.components node ≡ Some c
       → All (PartFits run.design node c) (node_at s node).parts
   -- the message in the slot of a link's in port

@@ -25,7 +25,7 @@ pub record VotedFits (design : DesignParts) (voted : VotedConfiguration) : Type 
   -- the frame of each replica of a component
   pub frames : (node : ℕ) (c : Component) → slice_get design.components node ≡ Some c
       → All (FrameFits c.behaviour) (slice_index_or voted.frames node [])
-  -- what each replica of a link's target received on it
+  -- the message that each replica of a link's target received on it
   pub received : (number : ℕ) (link : Link) → slice_get design.links number ≡ Some link
       → All (TupleFits (link_kind design link)) (slice_index_or voted.received number [])
 
@@ -36,7 +36,7 @@ VotesFit =
     → IsDesign design → EnvFits design env → FaultsFit design faults
     → VotedFits design (voted_composition design env replicated faults rounds)
 
--- so does what each root out port shows
+-- so do the values of each root out port
 abbrev pub ShownFit : Type 0
 ShownFit =
     (design : DesignParts) (env : Env) (replicated : List Bool) (faults : ℕ → List VoteFault) (tap : Tap) (round : ℕ)

@@ -31,7 +31,7 @@ text_of TooLong = too_long_line
 abbrev pub Says : ℕ → List ℕ → Answer → Type 0
 Says status text answer = (status_of answer ≡ status) × (text_of answer ≡ text)
 
--- it says why a bundle has no design; no answer says that there was not enough memory
+-- it reports why a bundle has no design; no answer reports that memory ran out
 abbrev pub SaysWhy : Refusal → Answer → Type 0
 SaysWhy (Text text) answer = Says TEXT_REFUSED text.items answer
 SaysWhy (Design text) answer = Says DESIGN_REFUSED text.items answer

@@ -20,7 +20,7 @@ use Rattle.pals_model.specs.declared.environment.Env.{Env}
 use Rattle.pals_model.specs.ComponentInputs.{values_at, input_vectors}
 use Rattle.pals_model.specs.Composition.{comp, state, msg, part, taps_of}
 
--- the steps that one component makes in a round, from its own frame and its own feed
+-- the steps that one component runs in a round, from its own frame and its own feed
 abbrev pub own_steps : DesignParts → Env → ℕ → ℕ → Component → Stepped
 own_steps design env node round c =
     steps c.behaviour (state design env node round) (input_vectors design env (comp design env round).messages node round)
@@ -45,13 +45,13 @@ LinksBeginAbsent =
     (design : DesignParts) (env : Env)
     → All (λ message. All (λ port. port ≡ Absent) message) (comp design env 0).messages
 
--- a component's frame goes on by its own steps
+-- a component's frame advances by its own steps
 abbrev pub StateGoesOn : Type 0
 StateGoesOn = (design : DesignParts) (env : Env) (node round : ℕ) (c : Component) →
     slice_get design.components node ≡ Some c
     → state design env node (suc round) ≡ (own_steps design env node round c).frame
 
--- a message is what its source's own steps gave, as far as they end in time to be sent
+-- a message is the outputs of its source's own steps, as far as they end in time to be sent
 abbrev pub MessageFromSource : Type 0
 MessageFromSource = (design : DesignParts) (env : Env) (number round : ℕ) (link : Link) (c : Component) →
     slice_get design.links number ≡ Some link → slice_get design.components link.source.0 ≡ Some c →
@@ -69,7 +69,7 @@ PartFromSteps =
           map (λ tap. slice_index_or (own_steps design env node round c).tuples tap.out_port []) (taps_of design node);
     }
 
--- a component that no link goes to runs alone: its frame is one fold of its steps over all that the root in ports bring
+-- a component without a link into it runs by itself: its frame is one fold of its steps over the root in ports' values
 abbrev pub RunsAlone : Type 0
 RunsAlone = (design : DesignParts) (env : Env) (node rounds : ℕ) (c : Component) →
     slice_get design.components node ≡ Some c → All (λ link. link.target.0 ≢ node) design.links →
@@ -77,7 +77,7 @@ RunsAlone = (design : DesignParts) (env : Env) (node rounds : ℕ) (c : Componen
     ≡ frame_after c.behaviour (initial c.behaviour)
     (flat_map (λ round. input_vectors design env [] node round) (upwards 0 rounds))
 
--- what stands after some rounds depends on these rounds of the environment alone
+-- the configuration after some rounds depends only on these rounds of the environment
 abbrev pub DependsOnPast : Type 0
 DependsOnPast = (design : DesignParts) (env other : Env) (rounds : ℕ) →
     ((round : ℕ) → round < rounds → values_at env round ≡ values_at other round)

@@ -7,8 +7,8 @@ pub fn steps_keep_kinds()
     ensures { FiringFits }
 {}
 
-/// In a design, where the values of the root in ports fit their kinds, those of each frame, each message
-/// and each part of the composition do, after any number of rounds.
+/// In a design, if the values of the root in ports have their types, so do the values of each frame, each
+/// message and each part of the composition, after any number of rounds.
 pub fn rounds_keep_kinds()
     ensures states { StatesFit }
     ensures messages { MessagesFit }

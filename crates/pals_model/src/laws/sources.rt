@@ -1,4 +1,4 @@
-//! Laws of what in ports read.
+//! Laws of the inputs of in ports.
 ghost use Rattle.pals_model.specs.proof.CompositionLaws.Sources.{LinkIsSource, FeedIsSource, NothingIsSource};
 ghost use Rattle.pals_model.specs.proof.CompositionLaws.Sources.{LinkBringsMessage, FeedBringsValue};
 ghost use Rattle.pals_model.specs.proof.CompositionLaws.Sources.{NothingBringsAbsent};

@@ -1,4 +1,4 @@
--- Which components stand in a formula.
+-- Which components a formula names.
 use Rattle.std.specs.Prelude.{ℕ, nat_eq, Bool, false, ◌||◌}
 use Rattle.pals_runs.specs.Formula.{Formula, Var, Halted, Not, And, Or, Previous, Once, Historically, Since}
 

@@ -8,8 +8,7 @@ use Rattle.node_threads.specs.declared.node_end.NodeEnd.TheVariants.{Finished, C
 abbrev pub IsComeEnd : NodeEnd → Type 0
 IsComeEnd e = (e ≡ Finished) ⊎ ((goal : ℕ) × (e ≡ ClockEnded goal))
 
--- the first of some ends that is the end of a list, with the target that it was asked for; none where all nodes are
--- done
+-- the first of some ends that is the end of a list, with the requested target; `None` if all nodes are done
 abbrev pub IsFirst : List NodeEnd → ℕ → Option (NodeNo × ℕ) → Type 0
 IsFirst ends many None = (node : ℕ) → node < many → slice_get ends node ≡ Some Finished
 IsFirst ends many (Some named) =

@@ -6,7 +6,7 @@ use Rattle.scenario_json.specs.declared.scenario.Scenario.{Scenario}
 use Rattle.scenario_json.specs.Scenarios.{Means}
 use Rattle.plant_fuse.specs.FusedComposition.{ArePairs}
 
--- both of a pair are there, at one rate, the plant is linked to its controller alone, and no component stands in two
+-- both components of a pair exist, at one rate, the plant is linked only to its controller, and no component is in two
 -- pairs
 abbrev pub PairsCanBeFused : Type 0
 PairsCanBeFused =

@@ -1,4 +1,4 @@
--- The claims that a product keeps its design, stands at the composition after each round, and has the round's parts.
+-- The claims that a product keeps its design, agrees with the composition after each round, and has the round's parts.
 use Rattle.std.specs.Prelude.{◌≡◌, ℕ, suc, map, length}
 use Rattle.pals_base.specs.UpwardNumbers.{upwards}
 use Rattle.pals_model.specs.declared.design.DesignParts.{DesignParts}
@@ -16,7 +16,7 @@ StandsAtComposition =
     (design : DesignParts) (env : Env) (rounds : ℕ)
     → (state_after design env rounds).configuration ≡ comp design env rounds
 
--- after a round its parts are those of that round
+-- after a round its parts are the parts of that round
 abbrev pub HasPartsOfRound : Type 0
 HasPartsOfRound = (design : DesignParts) (env : Env) (round : ℕ) →
     (state_after design env (suc round)).parts

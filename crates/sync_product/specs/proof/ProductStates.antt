@@ -20,7 +20,7 @@ use Rattle.pals_model.specs.ComponentInputs.{values_at}
 use Rattle.pals_model.specs.Composition.{Configuration, part_of, opening, next, all_steps}
 use Rattle.sync_product.specs.proof.ComponentWiring.{tap_ports}
 
--- a design, its configuration after some rounds, and what its components left in the last of them
+-- a design, its configuration after some rounds, and the parts of its components in the last of them
 pub record ProductState : Type 0 where
   pub design : DesignParts
   pub configuration : Configuration

@@ -26,7 +26,7 @@ abbrev pub renumbered_tap : (ℕ → ℕ) → Tap → Tap
 renumbered_tap to tap = record tap { source = renumbered to tap.source }
 
 -- the components of one design have other numbers in the other: component n of the one is component `to n` of the
--- other, and the links and the feeds of the other are those of the one, in whatever order
+-- other, and the links and the feeds of the other are the links and feeds of the one, in whatever order
 pub record IsRenumbered (to : ℕ → ℕ) (a b : DesignParts) : Type 0 where
   pub period : b.period ≡ a.period
   pub gamma : b.gamma ≡ a.gamma
@@ -38,7 +38,7 @@ pub record IsRenumbered (to : ℕ → ℕ) (a b : DesignParts) : Type 0 where
   pub feeds : (feed : Feed) → Contains b.feeds feed ↔ Contains (map (renumbered_feed to) a.feeds) feed
 
 -- ---- inputs
--- the values of the root in port of a name, round by round; none where the environment has no list for it
+-- the values of the root in port of a name, round by round; `None` if the environment has no list for it
 abbrev pub values_of : DesignParts → Env → List ℕ → List PortValue
 values_of design env name = slice_index_or env.lists (place_of name (root_inputs design)) []
 

@@ -15,7 +15,7 @@ use Rattle.sync_product.specs.declared.round_inputs.RoundInputs.{RoundInputs}
 use Rattle.sync_product.specs.declared.component_stage.Stage.{Stage}
 use Rattle.sync_product.specs.proof.ComponentWiring.{tap_ports}
 
--- a place of a row where it counts, else an absent one
+-- a place of a row if it counts, else an absent one
 abbrev pub value_if_before : Bool → ℕ → List PortValue → PortValue
 value_if_before counts port row = if counts then slice_index_or row port Absent else Absent
 

@@ -1,5 +1,5 @@
--- The bus of a history beside that of a world, where each arrival is put off to the start that reads it: the nodes are
--- the world's with empty slots, and what is in the world's slots is in flight.
+-- The bus of a history in relation to the bus of a world, with each arrival postponed to the start that reads it: the
+-- nodes are the world's with empty slots, and the messages in the world's slots are in flight.
 use Rattle.std.specs.Prelude.{◌≡◌, ℕ, ◌+◌, ◌-◌, ◌*◌, ◌≤◌, List, map, All, drop, Option, Some, None}
 use Rattle.pals_base.specs.declared.basic_types.PortValue.{PortValue}
 use Rattle.pals_base.specs.PeriodBoundAndReleases.{alarm}
@@ -42,8 +42,8 @@ flying (Some tuple) flight = drop 1 flight
 abbrev pub rounds_of : List FlightCopy → List ℕ
 rounds_of flight = map (λ (copy : FlightCopy). copy.round) flight
 
--- the copies of a link: those of the rounds that its source has sent, from the last round that its target has started
--- on
+-- the copies of a link: the copies of the rounds that its source has sent, from the last round that its target has
+-- started on
 pub record LinkIsPutOff (run : Run) (w t : BusState) (number target port : ℕ) : Type 0 where
   pub rounds : rounds_of (flight_at t number)
       ≡ upwards ((node_at w target).count - 1) (rounds_sent_on run w number - ((node_at w target).count - 1))

@@ -1,4 +1,4 @@
--- How a world goes on within the bounds.
+-- How a world continues within the bounds.
 use Rattle.std.specs.Prelude.{◌≡◌, ◌≢◌, ℕ, suc, List, None}
 use Rattle.pals_runs.specs.declared.events_and_faults.Event.{Event}
 use Rattle.bus_machine.specs.RunParameters.{Run}

@@ -1,4 +1,4 @@
--- The telling of a list of timed events, event by event.
+-- The report on a list of timed events, event by event.
 use Rattle.std.specs.Prelude.{◌≡◌, ℕ, false, List, ◌++◌}
 use Rattle.pals_model.specs.RoundTexts.{text_of}
 use Rattle.pals_runs.specs.declared.events_and_faults.Event.{Event}
@@ -26,7 +26,7 @@ pub record IsOpening (v : WorldValue) : Type 0 where
   pub world : world_of v ≡ opening_world v.bus.run
   pub run : v.bus.run ≡ world_run v.bus.run.design v.bus.run.env v.bus.run.rounds
 
--- events lead from one world to another, and the lines of what their bus sends are added to a text
+-- events lead from one world to another, and the lines of their bus's messages are appended to a text
 pub record LeadsTelling (old : WorldValue) (events : List Event) (new : WorldValue)
     (before text : List ℕ) : Type 0 where
   pub leads : Leads old events new

@@ -10,7 +10,7 @@ use Rattle.behaviour_sem.specs.proof.ActionExecution.{effect}
 use Rattle.behaviour_sem.proofs.ActionMeanings.{turn_after}
 use Rattle.behaviour_sem.proofs.actions.+run.Given as goal
 
--- the actions that are left, from the variables and outputs so far, have the effect of all
+-- the remaining actions, from the variables and outputs so far, have the effect of all
 abbrev pub invariant-run_all-loop-action : goal.invariant-run_all-loop-action
 invariant-run_all-loop-action l =
     let fresh = map is_present l.inputs.present.now in
@@ -33,7 +33,7 @@ invariant-run_first-loop-branch l =
           ≡ act_first (branches_along l.branches) frame fresh l.fn.outs otherwise;
     }
 
--- the numbers that are left, from the variables and outputs so far, have the effect of all
+-- the remaining numbers, from the variables and outputs so far, have the effect of all
 abbrev pub invariant-run_turns-loop-number : goal.invariant-run_turns-loop-number
 invariant-run_turns-loop-number l =
     let body =

@@ -4,7 +4,7 @@ use Rattle.pals_base.specs.proof.TreeViews.{operands_along}
 use Rattle.behaviour_sem.specs.proof.EvaluationFrames.{seen, fresh}
 use Rattle.behaviour_sem.proofs.expressions.+eval.Given as goal
 
--- the operands that are left, from the value so far, give the value of all
+-- the remaining operands, from the value so far, give the value of all
 abbrev pub invariant-eval_rest-loop-operand : goal.invariant-eval_rest-loop-operand
 invariant-eval_rest-loop-operand l =
     let frame = seen l.vars l.inputs in

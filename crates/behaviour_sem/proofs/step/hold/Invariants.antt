@@ -2,7 +2,7 @@ use Rattle.std.proofs.Common.{◌≡◌, ◌++◌, length, take, drop}
 use Rattle.pals_base.specs.SingleStep.{holding}
 use Rattle.behaviour_sem.proofs.step.hold.Given as goal
 
--- what is held so far, and of the places that are left
+-- the held inputs so far, and of the remaining elements
 abbrev pub invariant-loop-at : goal.invariant-loop-at
 invariant-loop-at l =
     record {

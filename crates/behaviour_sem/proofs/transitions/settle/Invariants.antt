@@ -4,7 +4,7 @@ use Rattle.behaviour_sem.specs.proof.EvaluationFrames.{fresh}
 use Rattle.behaviour_sem.specs.proof.PartialSteps.{fired}
 use Rattle.behaviour_sem.proofs.transitions.settle.Given as goal
 
--- the transitions that are left, from here, lead where all lead
+-- the remaining transitions, from here, lead to the same end as all
 abbrev pub invariant-loop : goal.invariant-loop
 invariant-loop l =
     let fresh' = fresh l.inputs in

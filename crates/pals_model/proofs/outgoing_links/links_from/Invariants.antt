@@ -4,7 +4,7 @@ use Rattle.pals_base.specs.declared.basic_types.LinkNo.{LinkNo}
 use Rattle.pals_model.proofs.FilteredLinks.{numbers_of}
 use Rattle.pals_model.proofs.outgoing_links.links_from.Given as goal
 
--- the numbers so far, and those among the links that are left
+-- the numbers so far, and the numbers among the remaining links
 abbrev pub invariant-loop-number : goal.invariant-loop-number
 invariant-loop-number l =
     map (λ (number : LinkNo). number.0) l.numbers

@@ -4,7 +4,7 @@ use Rattle.pals_model.specs.proof.SourceTables.{table_of, nothing}
 use Rattle.pals_model.proofs.SourceTables.{row}
 use Rattle.pals_model.proofs.port_sources.empty_table.Given as goal
 
--- the rows so far, and those of the components that are left
+-- the rows so far, and the rows of the remaining components
 abbrev pub invariant-loop-component : goal.invariant-loop-component
 invariant-loop-component l =
     l.table ++ map (row nothing) (enumerate_from l.component-index (drop l.component-index l.components))

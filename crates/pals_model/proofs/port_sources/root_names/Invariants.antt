@@ -3,7 +3,7 @@ use Rattle.pals_model.specs.declared.design.Feed.{Feed}
 use Rattle.pals_model.specs.ComponentInputs.{new_names}
 use Rattle.pals_model.proofs.port_sources.root_names.Given as goal
 
--- the names so far, and the new ones among those of the feeds that are left
+-- the names so far, and the new ones among the names of the remaining feeds
 abbrev pub invariant-loop-feed : goal.invariant-loop-feed
 invariant-loop-feed l =
     l.names.keys ++ new_names l.names.keys (map (λ (feed : Feed). feed.name) (drop l.feed-index l.feeds))

@@ -33,7 +33,7 @@ RoundBegins = (design : DesignParts) (env : Env) (node round : ℕ) (c : Compone
       tuples = replicate (length c.behaviour.outs) (replicate c.rate Absent);
     }
 
--- each step goes on at its own inputs
+-- each step advances at its own inputs
 abbrev pub RoundGoesOn : Type 0
 RoundGoesOn =
     (design : DesignParts) (env : Env) (node round : ℕ) (c : Component) (count : ℕ) (inputs : List PortValue) →
@@ -42,13 +42,13 @@ RoundGoesOn =
     partial_steps design env node round c (suc count)
     ≡ stepped_on c.behaviour count inputs (partial_steps design env node round c count)
 
--- after its last step it has made its own steps
+-- after its last step it has completed its own steps
 abbrev pub RoundEnds : Type 0
 RoundEnds = (design : DesignParts) (env : Env) (node round : ℕ) (c : Component) →
     slice_get design.components node ≡ Some c
     → partial_steps design env node round c c.rate ≡ own_steps design env node round c
 
--- the places before a step stay, also where it traps
+-- the places before a step stay, also if it traps
 abbrev pub PlacesStay : Type 0
 PlacesStay = (b : BehaviourParts) (at : ℕ) (inputs : List PortValue) (before : Stepped) →
     map (take at) (stepped_on b at inputs before).tuples ≡ map (take at) before.tuples

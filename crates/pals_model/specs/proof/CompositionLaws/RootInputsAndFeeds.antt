@@ -8,7 +8,7 @@ use Rattle.pals_model.specs.ComponentInputs.{feed_names, root_inputs, root_of, p
 use Rattle.pals_model.specs.PortKindsAndRates.{feed_kind, root_kind}
 use Rattle.pals_model.specs.DesignRules.{IsDesign}
 
--- each name stands once
+-- each name occurs once
 abbrev pub RootInputsDiffer : Type 0
 RootInputsDiffer = (design : DesignParts) → AreDistinct (root_inputs design)
 
@@ -17,7 +17,7 @@ abbrev pub RootInputsAreFeeds : Type 0
 RootInputsAreFeeds =
     (design : DesignParts) (name : List ℕ) → Contains (root_inputs design) name ↔ Contains (feed_names design) name
 
--- they stand in the order of their first feeds
+-- they are in the order of their first feeds
 abbrev pub RootInputsInOrder : Type 0
 RootInputsInOrder =
     (design : DesignParts) → AllPairs (λ a b. place_of a (feed_names design) < place_of b (feed_names design))

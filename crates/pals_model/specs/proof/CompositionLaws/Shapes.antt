@@ -1,4 +1,4 @@
--- Laws of the shapes of what the composition has.
+-- Laws of the shapes of the composition's values.
 use Rattle.std.specs.Prelude.{◌≡◌, ℕ, suc, List, [], length, All, Some, slice_get, slice_index_or}
 use Rattle.pals_base.specs.declared.basic_types.PortValue.{PortValue}
 use Rattle.pals_base.specs.SingleStep.{HasShape}

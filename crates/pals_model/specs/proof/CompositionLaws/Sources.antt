@@ -1,4 +1,4 @@
--- Laws of what in ports read.
+-- Laws of the inputs of in ports.
 use Rattle.std.specs.Prelude.{◌≡◌, ℕ, List, [], ◌∷◌, All, IsFalse, Some, slice_get, slice_index_or, replicate}
 use Rattle.pals_base.specs.declared.basic_types.PortValue.{PortValue}
 use Rattle.pals_base.specs.declared.basic_types.PortValue.TheVariants.{Absent}
@@ -11,7 +11,7 @@ use Rattle.pals_model.specs.PortKindsAndRates.{rate_of}
 use Rattle.pals_model.specs.DesignRules.{IsDesign}
 use Rattle.pals_model.specs.declared.port_sources.PortSource.TheVariants as source
 
--- ---- where it reads from
+-- ---- its source
 -- the in port of a link reads from that link
 abbrev pub LinkIsSource : Type 0
 LinkIsSource =
@@ -31,7 +31,7 @@ NothingIsSource = (design : DesignParts) (node port : ℕ) →
     → All (λ feed. IsFalse (feed_goes_to node port feed)) design.feeds →
     source_of design node port ≡ source.Nothing
 
--- ---- what it brings
+-- ---- the values of a source
 -- a link brings its message, adapted from its source's rate
 abbrev pub LinkBringsMessage : Type 0
 LinkBringsMessage =

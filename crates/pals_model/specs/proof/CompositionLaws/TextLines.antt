@@ -20,7 +20,7 @@ RowHasLines =
 abbrev pub ReportHasLines : Type 0
 ReportHasLines = (design : DesignParts) (env : Env) (n : ℕ) → IsDesign design → All IsLine (report_lines design env n)
 
--- a text of lines splits at its LFs into these lines, and nothing stands behind the last LF
+-- a text of lines splits at its LFs into these lines, and is empty after the last LF
 abbrev pub IsSplitInto : List ℕ → List (List ℕ) → Type 0
 IsSplitInto text lines = slice_split is_line_feed text ≡ lines ++ [] ∷ []
 

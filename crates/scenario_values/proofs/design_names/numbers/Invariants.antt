@@ -2,7 +2,7 @@ use Rattle.std.proofs.Common.{◌≡◌, map, take, drop, vec_len, string_bytes}
 use Rattle.scenario_values.specs.proof.NameTables.{Numbers}
 use Rattle.scenario_values.proofs.design_names.numbers.Given as goal
 
--- the last names are in the table, and the others are left
+-- the last names are in the table, and the others remain
 abbrev pub invariant-loop-name : goal.invariant-loop-name
 invariant-loop-name l =
     (l.names.items ≡ take (vec_len l.names) l.initial.names.items)

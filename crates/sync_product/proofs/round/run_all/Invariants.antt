@@ -4,7 +4,7 @@ use Rattle.sync_product.specs.proof.Rounds.{IsStepped, frames_of}
 use Rattle.sync_product.specs.proof.ProductSizes.{part_size, stage_size}
 use Rattle.sync_product.proofs.round.run_all.Given as goal
 
--- the first components have made their steps, and the sizes stay
+-- the first components have completed their steps, and the sizes stay
 abbrev pub invariant-loop-node : goal.invariant-loop-node
 invariant-loop-node l = record {
   stepped : (k : ℕ) (c : Component) → k < l.node → slice_get l.round.design.now.components k ≡ Some c
