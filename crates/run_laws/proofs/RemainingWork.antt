@@ -204,7 +204,7 @@ one_less : (run : Run) (s : BusState) (j : ℕ) (m : NodeState) → Agrees run s
     → Lessens run s (with_node s j m) 1
 one_less run s j m agree within falls = let less = one_node_less run s j 1 m agree within falls in omega arith
 
-start_lessens : (run : Run) (s : BusState) (node : NodeNo) (reading m : Option ℕ) → IsRunOf run → Agrees run s
+pub start_lessens : (run : Run) (s : BusState) (node : NodeNo) (reading m : Option ℕ) → IsRunOf run → Agrees run s
     → node.0 < length run.design.components → is_waiting (node_at s node.0).phase ≡ true
     → Lessens run s (after_start run s node reading m) 1
 start_lessens run s node reading (Some link) rules agree within waits = omega arith
@@ -217,7 +217,7 @@ start_lessens run s node reading None rules agree within waits =
     (start_less plan run.rounds (links_of run node.0 + 1) n (values_at run.env n.count)
     (plan_rules run node.0 rules within).rate here.1)
 
-step_lessens : (run : Run) (s : BusState) (node : NodeNo) (p : Phase) → Agrees run s
+pub step_lessens : (run : Run) (s : BusState) (node : NodeNo) (p : Phase) → Agrees run s
     → node.0 < length run.design.components
     → (node_at s node.0).phase ≡ p → is_some (next_step p) ≡ true
     → Lessens run s (on_step (next_step p) s (λ i. with_node s node.0 (stepped i (node_at s node.0)))) 1
@@ -233,7 +233,7 @@ step_lessens run s node (Between i) agree within is may =
 step_lessens run s node Holding agree within is may = absurd (false≢true may)
 step_lessens run s node Done agree within is may = absurd (false≢true may)
 
-finish_lessens : (run : Run) (s : BusState) (node : NodeNo) (p : Phase) → Agrees run s
+pub finish_lessens : (run : Run) (s : BusState) (node : NodeNo) (p : Phase) → Agrees run s
     → node.0 < length run.design.components
     → (node_at s node.0).phase ≡ p → is_some (running_step p) ≡ true
     → Lessens run s (on_step (running_step p) s
@@ -275,7 +275,7 @@ one_copy run s node reading number within =
     let size = ap length same in
     omega arith
 
-send_lessens : (run : Run) (s : BusState) (node : NodeNo) (reading : Option ℕ) → Agrees run s
+pub send_lessens : (run : Run) (s : BusState) (node : NodeNo) (reading : Option ℕ) → Agrees run s
     → node.0 < length run.design.components
     → may_send (plan_of run.design node.0) (node_at s node.0) ≡ true → Lessens run s (after_send run s node reading) 1
 send_lessens run s node reading agree within may =
@@ -309,7 +309,7 @@ stop_entries link round reading Kept = refl
 stop_entries link round reading Ignored = refl
 stop_entries link round reading Early = refl
 
-arrive_lessens : (run : Run) (s : BusState) (link : LinkNo) (round : ℕ) (reading : Option ℕ) (copy : FlightCopy)
+pub arrive_lessens : (run : Run) (s : BusState) (link : LinkNo) (round : ℕ) (reading : Option ℕ) (copy : FlightCopy)
     → Agrees run s
     → link.0 < length run.design.links → (link_at run.design link.0).target.0 < length run.design.components
     → oldest round (flight_at s link.0) ≡ Some copy
