@@ -1,3 +1,5 @@
 pub mod DueEvents
 pub mod FaultlessPasses
+pub mod FinishedLists
+pub mod WorkLessens
 pub mod WorldProgress
