@@ -1,5 +1,5 @@
--- Faults that are found one list after the other: that none is added, that two lists are put together, that two
--- properties are the same, and that what is found in the end is the first of all.
+-- Faults that are found one list after another: nothing is added, two lists are concatenated, two properties are
+-- equivalent, and the final result is the first of all.
 use Rattle.std.proofs.Common.{◌⊎◌, inl, inr, [], ◌++◌, Contains, Option, Some, None, refl, sym, ap, subst, ◌∙◌}
 use Rattle.std.proofs.lemmas.List.Elements.{Contains-append_left, Contains-append_right, Contains-append_cases}
 use Rattle.list_lemmas.proofs.Elements.{Contains-nil}
@@ -41,7 +41,7 @@ pub finds_same : (P Q : PackageFault → Type 0) (a b : Option PackageFault) →
 finds_same P Q a b to from p =
     record { faults = p.faults; is = p.is; each = λ f h. to f (p.each f h); all = λ f q. p.all f (from f q) }
 
--- the first of all that is found
+-- the first of all faults found
 pub first_found : (P : PackageFault → Type 0) (new : Option PackageFault) → FindsAll P None new → FirstIn P new
 first_found P new p = by new (subst (FirstOf p.faults) (sym p.is) (found_is_first p.faults))
   where

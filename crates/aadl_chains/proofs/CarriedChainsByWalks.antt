@@ -1,4 +1,4 @@
--- Links and feeds, by the walk back from where they end; taps, by the connection into the root's out port.
+-- Links and feeds, by the backward trace from their last port; taps, by the connection into the root's out port.
 use Rattle.std.proofs.Common.{◌≡◌, ◌⊎◌, inl, inr, ℕ, true, false, ◌&&◌, List, [], ◌∷◌, ◌++◌, slice_get, Contains}
 use Rattle.std.proofs.Common.{Option, Some, None, refl, sym, ap, subst, ◌∙◌}
 use Rattle.std.proofs.lemmas.Bool.{true≢false, false≢true}
@@ -25,7 +25,7 @@ use Rattle.aadl_chains.proofs.ChainsOfWalks.{Rooted, rooted, crossed}
 use Rattle.aadl_chains.proofs.WalksOfChains.{Crosses, Down, down, into_own, from_inner, never_both, MetRoot}
 use Rattle.aadl_chains.proofs.WalksOfChains.{MetCrossing, met}
 
--- chains one behind the other
+-- concatenated chains
 appended : (tree : PackageTree ℕ) (root : ℕ) (ds cs : List ConnectionAt) (a b c : Port) → Leads tree root ds b c
     → Leads tree root cs a b
     → Leads tree root (ds ++ cs) a c
@@ -33,7 +33,7 @@ appended tree root [] cs a b c l k = subst (λ p. Leads tree root cs a p) l k
 appended tree root (x ∷ ds) cs a b c l k = (l.0, appended tree root ds cs a b l.0 l.1 k, l.2)
 
 module _ (tree : PackageTree ℕ) (root : ℕ) where
-  -- the number of what stands at a thread's path
+  -- the number of the implementation at a thread's path
   pub standing_of : (path : List ℕ) → IsThreadAt tree root path → (n : ℕ) × (number_at_path tree root path ≡ Some n)
   standing_of path t =
       option_and_then_some (implementation_at tree) (number_at_path tree root path) t.0 t.1.0 (λ n e f. (n, e))
@@ -47,7 +47,7 @@ module _ (tree : PackageTree ℕ) (root : ℕ) where
       opposed (is_thread_at tree root)
       (ap is_thread_in (subst (λ p. component_at tree root p ≡ Some t.0) e t.1.0) ∙ t.1.1) none
 
-  -- ---- from walks to chains
+  -- ---- from traces to chains
   pub link_from : (ends : CarriedChain) (c : Crossing) (chain : List ConnectionAt) → IsThreadPort tree root ends.to
       → walk_back tree root None ends.to.path ends.to.port ≡ crosses c
       → IsThreadAt tree root ends.from.path → is_in tree root ends.from ≡ false
@@ -176,7 +176,7 @@ module _ (tree : PackageTree ℕ) (root : ℕ) where
         },
       )
 
-  -- ---- from chains to walks
+  -- ---- from chains to traces
   module _ (sound : ArePermitted tree) (one : OneEach tree root) (no_thread : is_thread_at tree root ≡ false) where
     pub record LinkMet (ends : CarriedChain) : Type 0 where
       pub port : IsThreadPort tree root ends.to

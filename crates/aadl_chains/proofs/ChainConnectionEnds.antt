@@ -1,5 +1,5 @@
--- If a connection is on a chain, what its source leads back to is where a chain begins, and what its target leads to
--- is where a chain ends.
+-- If a connection is on a connection chain, its source leads back to a possible first port, and its target leads to a
+-- possible last port.
 use Rattle.std.proofs.Common.{◌≡◌, inl, inr, ℕ, zero, suc, Bool, true, false, not, List, [], ◌∷◌, slice_get, Contains}
 use Rattle.std.proofs.Common.{Some, refl, sym, ap, subst, ◌∙◌}
 use Rattle.std.proofs.lemmas.Option.{same_Some}
@@ -22,7 +22,7 @@ use Rattle.aadl_chains.proofs.ConnectionsOnChains.{port, next_at, below_at, is_i
 use Rattle.aadl_chains.proofs.ConnectionsOnChains.{among_goes, Chained}
 
 module _ (tree : PackageTree ℕ) (root : ℕ) where
-  -- connections one behind the other, the first of them first
+  -- consecutive connections, in their order
   Ahead : List ConnectionAt → Port → Port → Type 0
   Ahead [] from to = from ≡ to
   Ahead (c ∷ cs) from to = (mid : Port) × Goes tree root c from mid × Ahead cs mid to
@@ -34,8 +34,8 @@ module _ (tree : PackageTree ℕ) (root : ℕ) where
   turned (x ∷ cs) ds a b c l h = turned cs (x ∷ ds) a l.0 c l.1 (b, l.2, h)
 
   module _ (sound : ArePermitted tree) where
-    -- ---- from chains to what ends lead to
-    -- what is known of both ends of a connection of a chain
+    -- ---- from chains to the ports that their ends lead to
+    -- the facts about both ends of a connection of a chain
     pub record Step (n : ℕ) (source target : NumberedPort) : Type 0 where
       pub wire : ConnectionPorts
       pub among : Contains (connection_ports_at tree n) wire
@@ -75,7 +75,7 @@ module _ (tree : PackageTree ℕ) (root : ℕ) where
         → number_at_path tree root path ≡ Some b → a ≡ b
     same_number path p a b e x y = same_Some a b (sym x ∙ (ap (number_at_path tree root) e ∙ y))
 
-    -- at a start
+    -- at a first port
     starts_out : (p : Port) (n : ℕ) → number_at_path tree root p.path ≡ Some n → is_in_at tree n p.port ≡ false
         → IsStart tree root p
         → Reaches tree directions.Out n p.port
@@ -99,7 +99,7 @@ module _ (tree : PackageTree ℕ) (root : ℕ) where
     ends_out p n stands out (inl s) = absurd (opposed (is_in tree root p) s.1 (is_in-at tree root p n stands ∙ out))
     ends_out p n stands out (inr s) = of_root (sym (same_Some root n (sym (ap (number_at_path tree root) s.0) ∙ stands)))
 
-    -- the implementation below an end of a connection
+    -- the implementation at an end of a connection
     inner_of : (path : List ℕ) (n k s : ℕ) (p : Port) → p.path ≡ s ∷ path → number_at_path tree root path ≡ Some k
         → number_at_path tree root p.path ≡ Some n
         → below tree k s ≡ Some n
@@ -150,7 +150,7 @@ module _ (tree : PackageTree ℕ) (root : ℕ) where
       inner_target : (s q : ℕ) → g.target ≡ Inner s q → MayEnter tree g.number (Inner s q)
       inner_target s q e = subst (MayEnter tree g.number) e st.enters
 
-      -- what stands at a port of a connection's component, and at one of its subcomponents
+      -- the implementation at a port of a connection's component, and at a port of one of its subcomponents
       own_at : (o : Port) (q n : ℕ) → o ≡ port c.path q → number_at_path tree root o.path ≡ Some n → g.number ≡ n
       own_at o q n e stands = sym (same_number c.path o n g.number (path_is e) stands g.stands)
 
@@ -158,7 +158,7 @@ module _ (tree : PackageTree ℕ) (root : ℕ) where
           → below tree g.number s ≡ Some n
       sub_at o s q n e stands = inner_of c.path n g.number s o (path_is e) g.stands stands
 
-      -- an in port of a subcomponent is no out port
+      -- an in port of a subcomponent is not an out port
       no_inner_target : (n s q : ℕ) → g.target ≡ Inner s q → number_at_path tree root p.path ≡ Some n
           → is_in_at tree n p.port ≡ false → ⊥
       no_inner_target n s q e stands out =
@@ -225,7 +225,7 @@ module _ (tree : PackageTree ℕ) (root : ℕ) where
           subst (λ i. Reaches tree directions.In i mid.port) (own_at mid o n (from_at (Own o) f) stands)
           (subst (Reaches tree directions.In g.number) (sym (port_is (from_at (Own o) f))) here)
 
-      -- a port of what stands inside the component of the connection
+      -- a port of a component inside the component of the connection
       fed_step : (n : ℕ) (x y : NumberedPort) → g.source ≡ x → g.target ≡ y → number_at_path tree root p.path ≡ Some n
           → is_in_at tree n p.port ≡ true
           → ((m : ℕ) → number_at_path tree root mid.path ≡ Some m → is_in_at tree m mid.port ≡ true

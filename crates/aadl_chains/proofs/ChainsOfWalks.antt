@@ -1,4 +1,4 @@
--- What the walk back from an in port of a thread passes is a chain to that port.
+-- The connections on the backward trace from an in port of a thread are a chain to that port.
 use Rattle.std.proofs.Common.{◌≡◌, ◌⊎◌, inl, inr, ℕ, List, [], ◌∷◌, Contains, Option, Some, None, refl, sym, ap, subst}
 use Rattle.std.proofs.Common.{◌∙◌}
 use Rattle.std.proofs.lemmas.Option.{same_Some}
@@ -18,7 +18,7 @@ port path p = record { path = path; port = p }
 abbrev place : List ℕ → ℕ → ConnectionAt
 place path k = record { path = path; connection = k }
 
--- ---- ends of walks
+-- ---- ends of traces
 module _ (tree : PackageTree ℕ) (root : ℕ) where
   pub climb_none : (last : Option ℕ) (path : List ℕ) (s p n : ℕ) → number_at_path tree root path ≡ Some n
       → connection_into tree n (Inner s p) ≡ None
@@ -42,7 +42,7 @@ module _ (tree : PackageTree ℕ) (root : ℕ) where
       ap (walk_back_into tree (λ k q. walk_back tree root (Some k) path q) path s p) e
       ∙ ap (walk_back_along (λ k q. walk_back tree root (Some k) path q) path n) f
 
-  -- the first connection that a walk passes, if it goes on
+  -- the first connection on a trace, unless the trace ends
   pub data Turn (last : Option ℕ) (path : List ℕ) (s p : ℕ) (r : WalkEnd) : Type 0 where
     stops : r ≡ nowhere → Turn last path s p r
     up : (n k q : ℕ) → number_at_path tree root path ≡ Some n → Entered tree n (Inner s p) k (Own q)
@@ -75,8 +75,8 @@ module _ (tree : PackageTree ℕ) (root : ℕ) where
       → Turn last path s p r
   turn last path s p r is = turn_by last path s p r (number_at_path tree root path) refl is
 
-  -- ---- a walk is a chain
-  -- the last connection passed is of the root's implementation
+  -- ---- a trace is a chain
+  -- the last connection of the trace is in the root's implementation
   pub record Rooted (last : Option ℕ) (path : List ℕ) (p : ℕ) (l : Option ℕ) (q : ℕ) : Type 0 where
     pub chain : List ConnectionAt
     pub leads : Leads tree root chain (port [] q) (port path p)
@@ -129,7 +129,7 @@ module _ (tree : PackageTree ℕ) (root : ℕ) where
       by rest (up n k o e x f) = more n k o e x (rest k o f)
       by rest (over n k t o e x f) = absurd (cc f)
 
-  -- the way from a crossing
+  -- the trace from a crossing
   pub record Crossed (path : List ℕ) (p : ℕ) (c : Crossing) : Type 0 where
     pub chain : List ConnectionAt
     pub target : Port

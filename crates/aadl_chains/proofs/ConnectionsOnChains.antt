@@ -1,4 +1,5 @@
--- If the ends of a connection in use lead to where chains begin and end, the connection is on a chain at some place.
+-- If the ends of a connection in use lead to a possible first and last port, the connection is on a connection chain
+-- in some component.
 use Rattle.std.proofs.Common.{◌≡◌, inl, inr, ℕ, zero, suc, true, false, List, [], ◌∷◌, ◌++◌, map, slice_get, Contains}
 use Rattle.std.proofs.Common.{Option, Some, None, option_map, refl, sym, ap, subst, ◌∙◌}
 use Rattle.std.specs.Option.{option_and_then}
@@ -30,7 +31,7 @@ abbrev pub port : List ℕ → ℕ → Port
 port path p = record { path = path; port = p }
 
 module _ (tree : PackageTree ℕ) (root : ℕ) where
-  -- ---- what stands at a path
+  -- ---- the implementation at a path
   pub next_at : (path : List ℕ) (n s m : ℕ) → number_at_path tree root path ≡ Some n → below tree n s ≡ Some m
       → number_at_path tree root (s ∷ path) ≡ Some m
   next_at path n s m e b = ap (option_and_then (λ k. below tree k s)) e ∙ b
@@ -115,13 +116,13 @@ module _ (tree : PackageTree ℕ) (root : ℕ) where
   among_goes place from to g =
       Contains-from_slice_get (connection_ports_at tree g.number) place.connection _ (wire_of_goes place from to g)
 
-  -- ---- chains one behind the other
+  -- ---- concatenated chains
   appended : (ds cs : List ConnectionAt) (a b c : Port) → Leads tree root ds b c → Leads tree root cs a b
       → Leads tree root (ds ++ cs) a c
   appended [] cs a b c l k = subst (λ p. Leads tree root cs a p) l k
   appended (x ∷ ds) cs a b c l k = (l.0, appended ds cs a b l.0 l.1 k, l.2)
 
-  -- ---- from what ends lead to, to chains
+  -- ---- from the ports that ends lead to, to chains
   pub record Begins (path : List ℕ) (p : ℕ) : Type 0 where
     pub chain : List ConnectionAt
     pub from : Port
@@ -170,7 +171,7 @@ module _ (tree : PackageTree ℕ) (root : ℕ) where
       }
 
   module _ (sound : ArePermitted tree) where
-    -- what is known of an end of a connection
+    -- the facts about an end of a connection
     leaves_own : (k q : ℕ) (wire : ConnectionPorts) → Contains (connection_ports_at tree k) wire → wire.source ≡ Some (Own q)
         → is_in_at tree k q ≡ true
     leaves_own k q wire among e =
@@ -271,7 +272,7 @@ module _ (tree : PackageTree ℕ) (root : ℕ) where
           };
         }
 
-    -- a chain through a connection of the implementation, at some place
+    -- a chain through a connection of the implementation, in some component
     pub record Chained (n connection : ℕ) : Type 0 where
       pub chain : List ConnectionAt
       pub from : Port
@@ -282,7 +283,7 @@ module _ (tree : PackageTree ℕ) (root : ℕ) where
       pub stands : number_at_path tree root place.path ≡ Some n
       pub is_connection : place.connection ≡ connection
 
-    -- chains that lead to it and on from it are one
+    -- a chain to it and a chain from it form one chain
     through_it : (path : List ℕ) (n : ℕ) (wire : ConnectionPorts) (source target : NumberedPort) (h : Contains (connection_ports_at tree n) wire)
         → number_at_path tree root path ≡ Some n
         → wire.source ≡ Some source → wire.target ≡ Some target

@@ -1,4 +1,4 @@
--- The rank of a declaration in an order, which falls from each one to what it contains.
+-- The rank of a declaration in an order, which decreases from each declaration to the declarations that it contains.
 use Rattle.std.proofs.Common.{◌≡◌, ℕ, ◌<◌, nat_eq, List, Some, ap, ◌∙◌, arith, ◌⊎◌, inl, inr, zero, suc, ◌≤◌, []}
 use Rattle.std.proofs.Common.{length, slice_get, None, refl, sym}
 use Rattle.std.specs.Option.{option_map_or, option_and_then}
@@ -46,7 +46,7 @@ module _ (tree : PackageTree ℕ) (keys : List ℕ) (order : IsOrder (containmen
       by (inl lt) = lt
       by (inr past) = absurd (none-some m (sym (none_past past) ∙ b))
 
-  -- what a declaration contains stands before it
+  -- a declaration follows the declarations that it contains
   pub rank_falls : (n s m : ℕ) → below tree n s ≡ Some m → rank keys m < rank keys n
   unfolding rank
   rank_falls n s m b =

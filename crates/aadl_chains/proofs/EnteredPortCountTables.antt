@@ -1,4 +1,4 @@
--- Tables of how many ports of threads the in ports of implementations lead to, on the way to all of them.
+-- Incomplete tables of the number of thread ports that the in ports of implementations lead to.
 use Rattle.std.proofs.Common.{◌≡◌, ◌⊎◌, inl, inr, ℕ, ◌+◌, ◌<◌, ◌≤◌, Bool, true, false, cond, ◌&&◌, nat_eq, min, List}
 use Rattle.std.proofs.Common.{[], length, slice_get, get_or, Contains, Option, Some, None, refl, sym, ap, subst, ◌∙◌}
 use Rattle.std.proofs.Common.{arith}
@@ -36,7 +36,7 @@ use Rattle.aadl_chains.proofs.FirstIncomingConnections.{first_if, second_never, 
 use Rattle.aadl_chains.proofs.EnteredThreadPorts.{through_number, own_from, own_to, one_through, thread_number}
 use Rattle.aadl_chains.proofs.EnteredThreadPorts.{no_thread_number, none_first, more_first}
 
--- ---- one more number in a table
+-- ---- one more count in a table
 same_port-apart : (m n p q : ℕ) → (m ≡ n → ⊥) → same_port (declaration_port m p) (declaration_port n q) ≡ false
 same_port-apart m n p q apart = by (nat_eq m n) refl
   where
@@ -103,7 +103,7 @@ none_taken tree limit n k wire table never = record {
 }
 
 -- ---- the connections of one implementation
--- what the first i of them add
+-- the counts that the first i connections add
 pub record FrontCounted (tree : PackageTree ℕ) (limit n i : ℕ) (old new : List (PortAt × ℕ)) : Type 0 where
   pub others : (m q : ℕ) → (m ≡ n → ⊥) → entered_count new (declaration_port m q) ≡ entered_count old (declaration_port m q)
   pub sum : IsNew tree n old → AreTakenBelow tree limit old n → (q : ℕ)
@@ -225,7 +225,7 @@ module _ (tree : PackageTree ℕ) (limit n k : ℕ) where
   through-second second =
       no_number limit (IsEnteredThrough tree n k) (λ x t. second_never tree n k (Inner t.sub t.inner_port) second t.first)
 
-  -- it goes into no port of a subcomponent
+  -- its target is not a port of a subcomponent
   pub through-none : (wire : ConnectionPorts) → slice_get (connection_ports_at tree n) k ≡ Some wire
       → ((s p : ℕ) → wire.target ≡ Some (Inner s p) → ⊥)
       → IsNumber limit (IsEnteredThrough tree n k) 0
@@ -233,7 +233,7 @@ module _ (tree : PackageTree ℕ) (limit n k : ℕ) where
       (λ x t. let w = first_wire tree n (Inner t.sub t.inner_port) k t.first in
       never t.sub t.inner_port (ap (λ (o : ConnectionPorts). o.target) (same_Some wire w.0 (sym is ∙ w.1)) ∙ w.2))
 
--- ---- all implementations, each behind those that it contains
+-- ---- all implementations, each after the ones that it contains
 apart_at : (xs : List ℕ) (i j n : ℕ) → IsDistinct nat_eq xs → slice_get xs i ≡ Some n
     → slice_get xs j ≡ Some n → i < j → ⊥
 apart_at xs i j n distinct at_i at_j lt =

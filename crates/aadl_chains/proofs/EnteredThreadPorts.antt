@@ -224,7 +224,7 @@ module _ (tree : PackageTree ℕ) (n : ℕ) where
       let none : crosses a.ends.1.0 ≡ at_root b.comes.1.0 b.inner_port = sym a.ends.1.1 ∙ (climbs ∙ b.comes.1.1) in
       cc none
 
-  -- ---- numbers
+  -- ---- counts
   module _ (limit : ℕ) where
     -- of the ports entered through one connection
     pub through_number : (k s p m c : ℕ) (wire : ConnectionPorts) → slice_get (connection_ports_at tree n) k ≡ Some wire
@@ -269,7 +269,7 @@ module _ (tree : PackageTree ℕ) (n : ℕ) where
               ap (λ l. port l y.port) (t.path_is ∙ ap (λ i. t.inner ++ i ∷ []) (sym sub)),
             )
 
-    -- of those that are the targets of links below one subcomponent
+    -- of the targets of links below one subcomponent
     pub deeper_number : (s m c : ℕ) → below tree n s ≡ Some m → IsNumber limit (EndsLink tree m) c
         → IsNumber limit (IsLinkBelow tree n s) c
     deeper_number s m c b number =
@@ -295,7 +295,7 @@ module _ (tree : PackageTree ℕ) (n : ℕ) where
     pub no_deeper : (s : ℕ) → below tree n s ≡ None → IsNumber limit (IsLinkBelow tree n s) 0
     no_deeper s e = no_number limit (IsLinkBelow tree n s) (λ x d. none-some d.number (sym e ∙ d.is_below))
 
-    -- a thread has its own in ports alone
+    -- a thread has only its own in ports
     pub thread_number : (q : ℕ) → ArePermitted tree → is_thread_at tree n ≡ true → is_in_at tree n q ≡ true
         → IsThreadPort tree n (port [] q)
         → IsNumber limit (ComesFrom tree n q) (min limit 1)
@@ -336,7 +336,7 @@ module _ (tree : PackageTree ℕ) (n : ℕ) where
             let k = known_into tree n sound n (Inner h.0 r.1) r.2 (Own q) r.4 in
             opposed (is_thread_at tree n) thread k.no_thread
 
--- ---- the first i
+-- ---- the first i subcomponents
 module _ (limit : ℕ) (P : ℕ → Port → Type 0) (apart : (k j : ℕ) (x : Port) → P k x → P j x → k ≡ j) where
   pub none_first : IsNumber limit (AmongFirst P 0) 0
   none_first = no_number limit (AmongFirst P 0) (λ x h. let lt = h.1 in absurd (omega arith))

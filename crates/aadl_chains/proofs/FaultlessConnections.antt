@@ -1,5 +1,5 @@
--- Where lines 2 and 4 of the rules find nothing at connections, these have no faults. For `descend`, `trace_back`
--- and `trace_tap`.
+-- If lines 2 and 4 of the rules have no findings at connections, the connections have no faults. For `descend`,
+-- `trace_back` and `trace_tap`.
 use Rattle.std.proofs.Common.{◌≡◌, ℕ, slice_get, Contains, Some, option_map, sym, ap, subst, ◌∙◌}
 use Rattle.std.specs.Option.{option_and_then}
 use Rattle.std.proofs.lemmas.Option.{same_Some, slice_get-map}

@@ -1,5 +1,5 @@
--- The first connection into a port, what it comes from, and that a second one is none where nothing is wrong. Each
--- step of a walk back passes such a connection.
+-- The first connection into a port, its source, and that a package without faults has no second one. Each step of a
+-- backward trace passes such a connection.
 use Rattle.std.proofs.Common.{◌≡◌, ◌⊎◌, inl, inr, ℕ, zero, suc, ◌+◌, ◌<◌, ◌≤◌, Bool, true, false, cond, nat_lt, List}
 use Rattle.std.proofs.Common.{[], ◌∷◌, slice_get, Contains, Option, Some, None, refl, sym, ap, subst, ◌∙◌, arith}
 use Rattle.std.specs.List.{position_from}
@@ -29,7 +29,7 @@ use Rattle.aadl_chains.proofs.ConnectionsOnChains.{among_goes, wire_of_goes}
 use Rattle.aadl_chains.specs.proof.UpwardWalks.{OneEach}
 use Rattle.aadl_chains.specs.proof.DownwardSteps.{IsFromInner}
 
--- ---- the first that passes a test
+-- ---- the first element that passes a test
 pub record FirstAt {X : Type 0} (test : X → Bool) (xs : List X) (k n : ℕ) : Type 0 where
   pub index : ℕ
   pub item : X
@@ -125,7 +125,7 @@ module _ (tree : PackageTree ℕ) where
       → target_in (connection_ports_at tree n) k ≡ Some target
   target_of n k wire target is e = ap (option_and_then (λ (w : ConnectionPorts). w.target)) is ∙ e
 
-  -- a connection that is not behind another one into its port is the first into it
+  -- a connection without an earlier one into the same port is the first into it
   pub first_if : (n k : ℕ) (wire : ConnectionPorts) (target : NumberedPort) → slice_get (connection_ports_at tree n) k ≡ Some wire
       → wire.target ≡ Some target
       → (IsDuplicate (connection_ports_at tree n) k → ⊥) → first_into_at tree n target ≡ Some k
@@ -150,7 +150,7 @@ module _ (tree : PackageTree ℕ) where
           }))
       by m w at f least (inr (inr more)) = absurd (omega arith)
 
-  -- one behind another is not
+  -- a connection with an earlier one into the same port is not the first
   pub second_never : (n k : ℕ) (target : NumberedPort) → IsDuplicate (connection_ports_at tree n) k
       → first_into_at tree n target ≡ Some k → ⊥
   second_never n k target second first =
@@ -199,7 +199,7 @@ module _ (tree : PackageTree ℕ) where
         (goes_if (record { path = path; connection = k }) n wire source target (implementation_at tree n) refl
         stands is s t).0
 
-    -- the first connection into a port goes there
+    -- the target of the first connection into a port is that port
     pub goes_into : (path : List ℕ) (n : ℕ) (target : NumberedPort) (k : ℕ) (source : NumberedPort)
         → number_at_path tree root path ≡ Some n → Entered n target k source
         → (g : Goes tree root (record { path = path; connection = k }) (port_at path source) (port_at path target))
@@ -228,7 +228,7 @@ module _ (tree : PackageTree ℕ) where
           (record { source = Some g.source; target = Some g.target })
           (first_of_goes place from to g) (wire_of_goes tree root place from to g) refl
 
-    -- what is known of both ends of a connection
+    -- the facts about both ends of a connection
     pub record Known (n : ℕ) (source target : NumberedPort) : Type 0 where
       pub wire : ConnectionPorts
       pub among : Contains (connection_ports_at tree n) wire
@@ -274,7 +274,7 @@ module _ (tree : PackageTree ℕ) where
           known_wire n x.wire source target (Contains-from_slice_get (connection_ports_at tree n) k x.wire x.is_wire)
           x.source_is x.target_is
 
--- into an own out port a connection goes from an out port of a subcomponent
+-- a connection into an own out port has an out port of a subcomponent as its source
 pub inner_of : (tree : PackageTree ℕ) → ArePermitted tree → (here out k : ℕ) (source : NumberedPort)
     → is_in_at tree here out ≡ false
     → connection_into tree here (Own out) ≡ Some (k, source) → IsFromInner tree here source

@@ -1,4 +1,4 @@
--- What is found at connections is what is wrong with their ends.
+-- The findings at connections are the faults of their ends.
 use Rattle.std.proofs.Common.{◌≡◌, ◌⊎◌, ◌↔◌, inl, inr, ℕ, zero, suc, ◌+◌, ◌<◌, ◌≤◌, Bool, true, false, ◌&&◌, IsTrue}
 use Rattle.std.proofs.Common.{List, [], ◌∷◌, ◌++◌, map, length, slice_get, Contains, Option, Some, None, refl, sym, ap}
 use Rattle.std.proofs.Common.{subst, ◌∙◌, arith}
@@ -195,7 +195,7 @@ module _ (tree : PackageTree ℕ) (root n k : ℕ) (link : Connection ℕ) (wire
 
 -- ---- at all of them
 module _ (tree : PackageTree ℕ) (root n : ℕ) where
-  -- what is found at the first i connections
+  -- the findings at the first i connections
   abbrev pub FoundBelow : ℕ → PackageFault → Type 0
   FoundBelow i fault = (k : ℕ) × (k < i) × IsFoundAt tree root n k fault
 
@@ -273,7 +273,7 @@ module _ (tree : PackageTree ℕ) (root : ℕ) (keys : List ℕ) where
       (c.0, h.0, omega arith, slice_get-from_Contains keys h.0 c, h.2))
       front)
 
--- where there is no connection nothing is found
+-- without a connection there is no finding
 pub nothing_at : (tree : PackageTree ℕ) (root n k : ℕ) (old : Option PackageFault)
     → slice_get (connections_of (implementation_at tree n)) k ≡ None
     → FindsAll (IsFoundAt tree root n k) old old

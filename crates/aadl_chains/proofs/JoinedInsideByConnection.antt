@@ -131,7 +131,7 @@ module _ (tree : PackageTree ℕ) (d : Direction) where
   }
 
   -- ---- the connections of one declaration
-  -- what the first i of them join
+  -- the ports that the first i connections join
   pub record FrontJoined (n i : ℕ) (old new : List PortAt) : Type 0 where
     pub kept : (port : PortAt) → Contains old port → Contains new port
     pub sound : AreReaching tree d old → AreReaching tree d new

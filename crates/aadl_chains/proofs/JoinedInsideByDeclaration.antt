@@ -1,4 +1,4 @@
--- Ports that lead to threads below, found declaration by declaration, those that are contained first.
+-- Ports that lead to threads below, found declaration by declaration, the contained ones first.
 use Rattle.std.proofs.Common.{◌≡◌, ◌⊎◌, inl, inr, ℕ, zero, suc, ◌+◌, ◌<◌, ◌≤◌, List, [], length, slice_get, Contains}
 use Rattle.std.proofs.Common.{Some, None, refl, sym, ap, subst, ◌∙◌, arith}
 use Rattle.std.proofs.lemmas.List.{length-map}
@@ -68,7 +68,7 @@ module _ (tree : PackageTree ℕ) (d : Direction) where
       which k m e (inl h) = front.complete k m h e
       which k m e (inr h) = absurd (none-some m (sym is ∙ (ap (slice_get keys) (sym h) ∙ e)))
 
-  -- beyond the last declaration nothing is connected
+  -- after the last declaration nothing is connected
   pub no_wires : (n : ℕ) → length tree.declarations ≤ n → connection_ports_at tree n ≡ []
   no_wires n past = ap (λ o. wires_of tree (implementation_in o)) (slice_get_past tree.declarations n past)
 

@@ -31,7 +31,7 @@ module _ (tree : PackageTree ℕ) (root : ℕ) (d : Direction) where
   leads_in_use (of_own k s q wire among inner outer b rest) = next_in_use k s _ (leads_in_use rest) b
   leads_in_use (of_beside k s t q m wire used among inner outer b c r) = next_in_use k s _ used b
 
-  -- ---- what the first i connections of a declaration lead
+  -- ---- the ports that the first i connections of a declaration join to the outside
   pub record FrontLed (n i : ℕ) (old new : List PortAt) : Type 0 where
     pub kept : (port : PortAt) → Contains old port → Contains new port
     pub sound : AreLeading tree root d old → AreLeading tree root d new

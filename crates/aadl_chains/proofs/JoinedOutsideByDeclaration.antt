@@ -1,4 +1,4 @@
--- Ports that lead out of implementations, found declaration by declaration, those that contain others first.
+-- Ports that lead out of implementations, found declaration by declaration, the containing ones first.
 use Rattle.std.proofs.Common.{◌≡◌, ◌⊎◌, inl, inr, ℕ, zero, suc, ◌+◌, ◌<◌, ◌≤◌, false, nat_eq, List, [], ◌∷◌, length}
 use Rattle.std.proofs.Common.{slice_get, Contains, Some, None, refl, sym, ap, subst, ◌∙◌, arith}
 use Rattle.std.specs.List.{IsDistinct}
@@ -24,7 +24,7 @@ use Rattle.aadl_chains.specs.proof.PortsJoinedOutside.{HasLeading, AreLed, AreLe
 use Rattle.aadl_chains.proofs.JoinedInsideByDeclaration.{no_wires, split}
 use Rattle.aadl_chains.proofs.JoinedOutsideByConnection.{leads_in_use}
 
--- in a list of different numbers each stands at one place
+-- each element of a list of distinct numbers has one position
 one_place : (xs : List ℕ) (i j n : ℕ) → IsDistinct nat_eq xs → slice_get xs i ≡ Some n → slice_get xs j ≡ Some n → i ≡ j
 unfolding IsDistinct
 one_place [] i j n d e f = let lt = slice_get_within [] i n e in absurd (omega arith)
@@ -36,7 +36,7 @@ one_place (x ∷ xs) (suc i) zero n d e f =
 one_place (x ∷ xs) (suc i) (suc j) n d e f = ap suc (one_place xs i j n d.1 e f)
 
 module _ (tree : PackageTree ℕ) (root : ℕ) (d : Direction) (keys : List ℕ) where
-  -- the ports that the last `at` declarations of an order lead
+  -- the ports that the last `at` declarations of an order join to the outside
   pub record BackLed (at : ℕ) (ports : List PortAt) : Type 0 where
     pub sound : AreLeading tree root d ports
     pub complete : (k n : ℕ) (wire : ConnectionPorts) (s port m : ℕ) (site : NumberedPort) → length keys ≤ k + at
@@ -53,7 +53,7 @@ module _ (tree : PackageTree ℕ) (root : ℕ) (d : Direction) (keys : List ℕ)
   }
 
   module _ (order : IsOrder (containment tree) keys) where
-    -- where a declaration with connections stands in the order
+    -- the position of a declaration with connections in the order
     placed_at : (k : ℕ) (wire : ConnectionPorts) → Contains (connection_ports_at tree k) wire → (j : ℕ) × (slice_get keys j ≡ Some k)
     placed_at k wire among = which (split tree d k (length tree.declarations))
       where
@@ -63,7 +63,7 @@ module _ (tree : PackageTree ℕ) (root : ℕ) (d : Direction) (keys : List ℕ)
         which (inr h) = absurd (Contains-nil wire (subst (λ ws. Contains ws wire) (no_wires tree d k h) among))
 
     module _ (at : ℕ) (ports : List PortAt) (back : BackLed at ports) where
-      -- a declaration around one that stands at the place in the order stands behind it
+      -- a declaration that contains the one at a position of the order is after it
       led_around : (n k s port : ℕ) (wire : ConnectionPorts) (site : NumberedPort)
           → ((j : ℕ) → slice_get keys j ≡ Some k → length keys ≤ j + at) → IsInUse tree root k
           → Contains (connection_ports_at tree k) wire → inner_end d wire ≡ Some (Inner s port)
@@ -83,7 +83,7 @@ module _ (tree : PackageTree ℕ) (root : ℕ) (d : Direction) (keys : List ℕ)
       found behind (of_beside k s t q m wire used among inner outer b c r) = inr
           (led_around _ k s _ wire (Inner t q) (λ j is. behind j k s is b) used among inner outer b (m, c, r))
 
-      -- what stands at the next place has its ports, when those around it are done
+      -- the ports of the declaration at the next position are complete when all containing declarations are done
       pub has_next : (k n : ℕ) → k + at + 1 ≡ length keys → slice_get keys k ≡ Some n → HasLeading tree root d ports n
       has_next k n place is port l = found (λ j m s e b. later j m s e b) l
         where
@@ -118,7 +118,7 @@ module _ (tree : PackageTree ℕ) (root : ℕ) (d : Direction) (keys : List ℕ)
               (subst (λ x. Contains (connection_ports_at tree x) wire) here among) i o
               (subst (λ x. below tree x s ≡ Some t) here b) (subst (λ x. LeadsFrom tree root d x site) here l)
 
-      -- a declaration that is not in use leads nothing
+      -- a declaration that is not in use adds nothing
       pub back_unused : (k n : ℕ) → k + at + 1 ≡ length keys → slice_get keys k ≡ Some n → (IsInUse tree root n → ⊥)
           → BackLed (at + 1) ports
       back_unused k n place is unused = record {

@@ -1,4 +1,4 @@
--- Counts of what has a property, up to a limit: of none, of one, of two properties together, and under other names.
+-- Counts of elements with a property, up to a limit: of none, of one, of a disjoint union, and under renaming.
 use Rattle.std.proofs.Common.{◌≡◌, ◌⊎◌, inl, inr, ℕ, ◌+◌, ◌≤◌, min, List, [], ◌∷◌, ◌++◌, map, length, refl, sym, ap}
 use Rattle.std.proofs.Common.{subst, ◌∙◌, arith}
 use Rattle.std.specs.List.{AllByRecursion}
@@ -25,7 +25,7 @@ distinct_map f one (x ∷ xs) a = (
   distinct_map f one xs a.1,
 )
 
--- ---- numbers
+-- ---- counts
 
 module _ {X : Type 0} (limit : ℕ) where
   pub no_number : (P : X → Type 0) → ((x : X) → P x → ⊥) → IsNumber limit P 0
@@ -83,7 +83,7 @@ module _ {X : Type 0} (limit : ℕ) where
       among (inl p) = among_left x.all y.all _ (x.are.complete _ p)
       among (inr q) = among_right x.all y.all _ (y.are.complete _ q)
 
--- what is the same under another name
+-- the same elements under another name
 pub image_number : {X Y : Type 0} (limit : ℕ) (f : X → Y) (P : X → Type 0) (Q : Y → Type 0) (n : ℕ)
     → ((x y : X) → f x ≡ f y → x ≡ y)
     → ((x : X) → P x → Q (f x)) → ((y : Y) → Q y → (x : X) × P x × (y ≡ f x)) → IsNumber limit P n → IsNumber limit Q n
@@ -98,7 +98,7 @@ image_number limit f P Q n one to from a = record {
   number_is = a.number_is ∙ ap (min limit) (sym (length-map a.all f));
 }
 
--- ---- no more than all
+-- ---- a part has at most as many elements as the whole
 module _ {X : Type 0} where
   without : (xs : List X) (x : X) → Among xs x → List X
   without [] x a = absurd a

@@ -1,4 +1,4 @@
--- The number of targets of links is above a limit where, and only where, there are more links than the limit allows.
+-- The number of targets of links exceeds a limit if and only if there are more links than the limit allows.
 use Rattle.std.proofs.Common.{◌≡◌, ◌⊎◌, inl, inr, ◌↔◌, ℕ, suc, ◌+◌, ◌<◌, ◌≤◌, Bool, true, false, not, min, List, []}
 use Rattle.std.proofs.Common.{◌∷◌, map, length, slice_get, get_or, All, AllPairs, Option, Some, None, option_map, refl}
 use Rattle.std.proofs.Common.{sym, ap, subst, ◌∙◌, arith}
@@ -43,7 +43,7 @@ use Rattle.aadl_chains.proofs.CarriedChainsByWalks.{link_from, link_met}
 use Rattle.aadl_chains.proofs.EnteredThreadPorts.{link_parts, deeper_ends, thread_ends, one_through, one_deeper}
 use Rattle.aadl_chains.proofs.EnteredThreadPorts.{not_both, deeper_number, no_deeper, none_first, more_first}
 
--- ---- threads that give to an out port
+-- ---- threads that provide the value of an out port
 module _ (tree : PackageTree ℕ) (root : ℕ) where
   pub record Gives (path : List ℕ) (p : ℕ) : Type 0 where
     pub chain : List ConnectionAt
@@ -215,7 +215,7 @@ module _ (tree : PackageTree ℕ) (limit n : ℕ) where
       (λ sub a b. let lt = slice_get_within (subcomponents_of (implementation_at tree n)) s sub a in
       omega (arith, size, lt))
 
-  -- all those below its subcomponents
+  -- all links below its subcomponents
   pub deeper_all : (i a : ℕ) → length (targets_of tree (implementation_at tree n)) ≤ i
       → IsNumber limit (AmongFirst (IsLinkBelow tree n) i) a
       → IsNumber limit (λ port. (s : ℕ) × IsLinkBelow tree n s port) a
@@ -226,7 +226,7 @@ module _ (tree : PackageTree ℕ) (limit n : ℕ) where
   pub none_deeper : IsNumber limit (AmongFirst (IsLinkBelow tree n) 0) 0
   none_deeper = none_first limit (IsLinkBelow tree n) (one_deeper tree n)
 
-  -- ---- those that its connections carry
+  -- ---- the links that its connections carry
   one_carries : (k j : ℕ) (x : Port) → FromThread tree n k x → FromThread tree n j x → k ≡ j
   one_carries k j x a b = one_through tree n k j x a.1 b.1
 
@@ -271,7 +271,7 @@ module _ (tree : PackageTree ℕ) (limit n : ℕ) where
       same_inner : (t q s p : ℕ) → Some (Inner t q) ≡ Some (Inner s p) → (t ≡ s) × (q ≡ p)
       same_inner t q s p e = (cc e, cc e)
 
-  -- both
+  -- both kinds
   pub links_both : (a b r : ℕ) → IsNumber limit (λ port. (s : ℕ) × IsLinkBelow tree n s port) a
       → IsNumber limit (λ port. (k : ℕ) × FromThread tree n k port) b
       → r ≡ min limit (a + b) → IsNumber limit (EndsLink tree n) r
@@ -282,7 +282,7 @@ module _ (tree : PackageTree ℕ) (limit n : ℕ) where
       (λ z f. thread_ends tree n f.0 z f.1)
       (λ z e. link_parts tree n z e) x y is
 
--- ---- where no connection of an implementation in use is behind another into one port
+-- ---- each connection of an implementation in use is the only one into its target
 pub one_each : (tree : PackageTree ℕ) (root : ℕ) → ((fault : PackageFault) → IsEndFault tree root fault → ⊥)
     → OneEach tree root
 one_each tree root none n i j target used a b = by (cases_order i j)

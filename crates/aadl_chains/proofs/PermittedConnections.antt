@@ -1,5 +1,4 @@
--- Where nothing is wrong with the names of a package, both ends of each connection are declared, and it may go from
--- the one to the other.
+-- If the names of a package have no fault, both ends of each connection are declared, and their directions fit.
 use Rattle.std.proofs.Common.{◌≡◌, ℕ, Bool, true, false, not, ◌&&◌, nat_eq, List, [], ◌∷◌, ◌++◌, map, slice_get}
 use Rattle.std.proofs.Common.{Contains, Option, Some, None, option_map, refl, sym, ap, ◌∙◌, arith}
 use Rattle.std.specs.List.{flat_map, enumerate_from}
@@ -49,7 +48,7 @@ no_port : (name : List ℕ) (p : ℕ) → port_named [] name ≡ Some p → ⊥
 no_port name p e = none-some p e
 
 module _ (tree : PackageTree ℕ) (x : Implementation ℕ) where
-  -- a port of a subcomponent is one of an implementation that the subcomponent names
+  -- a port of a subcomponent is a port of an implementation that the subcomponent names
   pub record InnerPort (s p : ℕ) : Type 0 where
     pub sub : Subcomponent ℕ
     pub target : ℕ
@@ -131,7 +130,7 @@ module _ (tree : PackageTree ℕ) (x : Implementation ℕ) where
     not_both (Inner s p) (Own q) e = tt
     not_both (Inner s p) (Inner t q) e = tt
 
-    -- a connection with which nothing is wrong
+    -- a connection without faults
     pub record Declares (c : Connection ℕ) : Type 0 where
       pub source : NumberedPort
       pub target : NumberedPort
@@ -170,7 +169,7 @@ module _ (tree : PackageTree ℕ) (x : Implementation ℕ) where
               ∙ wrong_none (is_own (directed_end_port tree x c.source) && is_own (directed_end_port tree x c.target)) at third));
         }
 
-    -- the wire of a connection
+    -- the ports of a connection
     wired : (c : Connection ℕ) (wire : ConnectionPorts) → Declares c → ports_of_connection tree x c ≡ wire → IsPermitted tree n wire
     wired c wire d e = record {
       source = d.source;

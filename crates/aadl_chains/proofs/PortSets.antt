@@ -1,4 +1,4 @@
--- Laws on sets of ports: what is in a set when one more port is put into it.
+-- Lemmas on sets of ports: membership after the insertion of one more port.
 use Rattle.std.proofs.Common.{◌≡◌, ◌⊎◌, inl, Bool, true, false, ◌&&◌, nat_eq, List, [], ◌∷◌, ◌++◌, Contains, refl, ap}
 use Rattle.std.proofs.Common.{◌∙◌, if◌then◌else◌}
 use Rattle.std.proofs.lemmas.Bool.{eqb-true, eq-eqb, and_parts}

@@ -1,4 +1,4 @@
--- The test whether two paths are the same.
+-- The test whether two paths are equal.
 use Rattle.std.proofs.Common.{◌≡◌, ◌∙◌, ℕ, true, nat_eq, List, [], ◌∷◌, refl, ap}
 use Rattle.std.proofs.lemmas.Bool.{and_from, and_parts, eqb-true, false≢true}
 use Rattle.list_lemmas.proofs.Numbers.{nat_eq-self}

@@ -1,4 +1,4 @@
--- What the walk back finds is the one chain to a port.
+-- The backward trace finds the only chain to a port.
 use Rattle.std.proofs.Common.{◌≡◌, ◌⊎◌, inl, inr, ℕ, true, false, List, [], ◌∷◌, ◌++◌, reverse, Some, None, refl, sym}
 use Rattle.std.proofs.Common.{ap, subst, ◌∙◌}
 use Rattle.std.proofs.lemmas.List.{reverse-append}
@@ -31,7 +31,7 @@ pub ends_by : (a b : CarriedChain) → a.from ≡ b.from → a.to ≡ b.to → a
     → a.connection ≡ b.connection → a ≡ b
 ends_by a b e f g h i = record { from = e i; to = f i; declaration = g i; connection = h i }
 
--- the walk down stands at an out port of the implementation at the end of a path
+-- the downward trace is at an out port of the implementation at the end of a path
 pub record Descending (tree : PackageTree ℕ) (root : ℕ) (end : Port) (path : List ℕ) (here out : ℕ) : Type 0 where
   pub stands : number_at_path tree root (reverse path) ≡ Some here
   pub goes_out : is_in_at tree here out ≡ false

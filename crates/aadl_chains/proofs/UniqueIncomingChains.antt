@@ -1,5 +1,5 @@
--- At most one chain ends at a port: each port has at most one connection into it, and none goes into where chains
--- begin.
+-- At most one connection chain ends at a port: each port has at most one incoming connection, and possible first
+-- ports have none.
 use Rattle.std.proofs.Common.{◌≡◌, ℕ, true, false, List, [], ◌∷◌, Some, slice_get, refl, sym, ap, ◌∙◌, subst, inl, inr}
 use Rattle.std.specs.Option.{option_and_then}
 use Rattle.std.proofs.lemmas.Option.{same_Some}
@@ -25,7 +25,7 @@ place_by a b path number =
     first ∙ second
 
 module _ (tree : PackageTree ℕ) (root : ℕ) where
-  -- what stands at a path has its own ports there
+  -- the implementation at a path has its own ports there
   goes_at : (path : List ℕ) (n p : ℕ) → number_at_path tree root path ≡ Some n
       → is_in tree root (record { path = path; port = p }) ≡ is_in_at tree n p
   goes_at path n p e = is_in-at tree root (record { path = path; port = p }) n e
@@ -40,7 +40,7 @@ module _ (tree : PackageTree ℕ) (root : ℕ) where
   standing_in a from to g s m e = ap (option_and_then (λ n. below tree n s)) g.stands ∙ e
 
   module _ (sound : AreFaultless tree root) where
-    -- the same path and target: the same place and source
+    -- two connections with the same path and target have the same component and source
     same_place : (a b : ConnectionAt) (from1 from2 to : Port) → (g : Goes tree root a from1 to) (h : Goes tree root b from2 to)
         → a.path ≡ b.path
         → g.target ≡ h.target → (a ≡ b) × (from1 ≡ from2)
@@ -67,7 +67,7 @@ module _ (tree : PackageTree ℕ) (root : ℕ) where
         ∙ ap (port_at b.path) s in
         (place_by a b path i, g.leaves ∙ (f ∙ sym h.leaves))
 
-    -- an own out port is no in port of a subcomponent
+    -- an own out port is not an in port of a subcomponent
     never_both : (a b : ConnectionAt) (from1 from2 to : Port) → (g : Goes tree root a from1 to) (h : Goes tree root b from2 to)
         → (p t q : ℕ)
         → MayEnter tree g.number (Own p) → MayEnter tree h.number (Inner t q)
@@ -99,14 +99,14 @@ module _ (tree : PackageTree ℕ) (root : ℕ) where
     may_enter a from to g =
         sound.enters g.number a.connection g.component g.link g.target g.is_component g.is_link g.is_target
 
-    -- one connection goes into a port
+    -- each port has at most one incoming connection
     pub one_into : (a b : ConnectionAt) (from1 from2 to : Port) → Goes tree root a from1 to → Goes tree root b from2 to
         → (a ≡ b) × (from1 ≡ from2)
     one_into a b from1 from2 to g h =
         by_targets a b from1 from2 to g h g.target h.target refl refl (may_enter a from1 to g) (may_enter b from2 to h)
         (sym g.enters ∙ h.enters)
 
-    -- into a root in port, or an out port of a thread, none goes
+    -- a root in port or an out port of a thread has none
     start_target : (a : ConnectionAt) (from to : Port) → (g : Goes tree root a from to) → (x : NumberedPort)
         → MayEnter tree g.number x → to ≡ port_at a.path x
         → IsStart tree root to → ⊥
@@ -129,11 +129,11 @@ module _ (tree : PackageTree ℕ) (root : ℕ) where
     pub none_into_start : (a : ConnectionAt) (from to : Port) → Goes tree root a from to → IsStart tree root to → ⊥
     none_into_start a from to g s = start_target a from to g g.target (may_enter a from to g) g.enters s
 
-  -- ---- the walk back
+  -- ---- the backward trace
   pub passes_end : (end : Port) → Passes tree root end end
   passes_end end = record { chain = []; leads = refl; through = λ cs from s l. (cs, l) }
 
-  -- chains one behind the other
+  -- concatenated chains
   pub joined : (cs bs : List ConnectionAt) (a b c : Port) → Leads tree root bs a b → Leads tree root cs b c
       → (es : List ConnectionAt) × Leads tree root es a c
   joined [] bs a b c l e = (bs, subst (λ p. Leads tree root bs a p) e l)
@@ -164,7 +164,7 @@ module _ (tree : PackageTree ℕ) (root : ℕ) where
     only_by here from s [] l = l
     only_by here from s (b ∷ bs) l = absurd (none_into_start sound b l.0 here l.2 s)
 
-    -- at a start the walk is at its end: chains begin there and nowhere else
+    -- at a first port the trace is at its end: chains begin there and nowhere else
     pub only_start : (here end from : Port) → Passes tree root here end → IsStart tree root here
         → IsStart tree root from → (cs : List ConnectionAt)
         → Leads tree root cs from end → from ≡ here
@@ -176,7 +176,7 @@ module _ (tree : PackageTree ℕ) (root : ℕ) where
   none_by here from never none t [] l = never (subst (IsStart tree root) l t)
   none_by here from never none t (b ∷ bs) l = none b l.0 l.2
 
-  -- where no connection goes into a port that is no start, no chain comes
+  -- if a port has no incoming connection and is not a first port, no chain leads to it
   pub no_chain : (here end from : Port) → Passes tree root here end → (IsStart tree root here → ⊥)
       → ((place : ConnectionAt) (before : Port) → Goes tree root place before here → ⊥) → IsStart tree root from
       → (cs : List ConnectionAt) → Leads tree root cs from end

@@ -1,5 +1,5 @@
--- The walk back that the code makes, on paths from the outside in, is the walk back of the definitions, on paths
--- from the inside out.
+-- The upward trace of the code, on paths from the outermost subcomponent, equals the trace of the definitions, on
+-- paths from the innermost one.
 use Rattle.std.proofs.Common.{◌≡◌, ℕ, zero, suc, ◌+◌, ◌<◌, false, List, [], ◌∷◌, ◌++◌, take, reverse, length, get_or}
 use Rattle.std.proofs.Common.{Option, Some, None, option_map, refl, sym, ap, subst, ◌∙◌, arith}
 use Rattle.std.proofs.lemmas.List.{reverse-append}
@@ -31,7 +31,7 @@ reversed_more : (path : List ℕ) (d : ℕ) → d < length path
 reversed_more path d lt = ap reverse (taken_more path d lt) ∙ reverse-append (take d path) (get_or path d 0 ∷ [])
 
 module _ (tree : PackageTree ℕ) (root : ℕ) where
-  -- where the walk is behind a connection
+  -- the position of the trace after a connection
   climb_on : List ℕ → Option ConnectionInto → WalkEnd
   climb_on path None = nowhere
   climb_on path (Some e) = walk_back_by (λ k q. walk_back tree root (Some k) path q) path e.declaration e.connection e.source
@@ -87,7 +87,7 @@ module _ (tree : PackageTree ℕ) (root : ℕ) where
         ∙ ap (walk_back_by (λ k q. walk_back tree root (Some k) (reverse (take d path)) q) (reverse (take d path)) x.declaration
         x.connection) inner)
 
-  -- what stands where a crossing comes from
+  -- the implementation at the source of a crossing
   pub record From (c : Crossing) : Type 0 where
     pub number : ℕ
     pub names : below tree c.declaration c.sub ≡ Some number

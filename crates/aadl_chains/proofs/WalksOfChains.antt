@@ -1,4 +1,4 @@
--- Each chain to an in port is the one that the walk back from this port passes.
+-- Each chain to an in port consists of the connections on the backward trace from this port.
 use Rattle.std.proofs.Common.{◌≡◌, ◌⊎◌, inl, inr, ℕ, Bool, true, false, not, List, [], ◌∷◌, slice_get, Contains, Option}
 use Rattle.std.proofs.Common.{Some, refl, sym, ap, subst, ◌∙◌}
 use Rattle.std.proofs.lemmas.Bool.{true≢false, and_parts}
@@ -36,7 +36,7 @@ module _ (tree : PackageTree ℕ) (root : ℕ) where
     pub is_link : slice_get component.connections place.connection ≡ Some link
     pub kind : is_crossing tree component link ≡ true
 
-  -- a connection that goes from or to an own port is none
+  -- a connection with an own port at one end is not between two subcomponents
   pub both_inner : (place : ConnectionAt) (from to : Port) → (g : Goes tree root place from to) → Crosses place
       → (not_own (Some g.source) ≡ true) × (not_own (Some g.target) ≡ true)
   both_inner place from to g x =
@@ -90,7 +90,7 @@ module _ (tree : PackageTree ℕ) (root : ℕ) where
           absurd (opposed (is_in_at tree n p.port)
           (ap (is_in_at tree n) (ap (λ (o : Port). o.port) is) ∙ (ap (λ i. is_in_at tree i q) (sym same) ∙ m.2)) out)
 
-      -- what it comes from
+      -- the source of the connection
       from_own : (q : ℕ) → g.source ≡ Own q → (mid ≡ port c.path q) × (is_in_at tree g.number q ≡ true)
       from_own q e = (g.leaves ∙ ap (port_at c.path) e, subst (MayLeave tree g.number) e k.leaves)
 
@@ -104,7 +104,7 @@ module _ (tree : PackageTree ℕ) (root : ℕ) where
       pub never_both : (q r : ℕ) → g.source ≡ Own q → g.target ≡ Own r → ⊥
       never_both q r e f = subst (λ a. NotBothOwn a (Own r)) e (subst (NotBothOwn g.source) f k.not_both)
 
-    -- ---- down to a thread that gives to an out port
+    -- ---- down to a thread that provides the value of an out port
     pub record Down (chain : List ConnectionAt) (from p : Port) (n : ℕ) : Type 0 where
       pub thread : IsThreadAt tree root from.path
       pub out : is_in tree root from ≡ false

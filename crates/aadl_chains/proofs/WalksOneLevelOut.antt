@@ -1,4 +1,4 @@
--- Walks below an implementation are those below its subcomponents, and one connection more.
+-- The traces below an implementation are the traces below its subcomponents, extended by one connection.
 use Rattle.std.proofs.Common.{◌≡◌, ◌⊎◌, inl, inr, ℕ, true, List, [], ◌∷◌, ◌++◌, slice_get, Option, Some, None}
 use Rattle.std.proofs.Common.{option_map, refl, sym, ap, subst, ◌∙◌}
 use Rattle.std.specs.Option.{option_and_then}
@@ -47,7 +47,7 @@ same_ends (u ∷ a) (v ∷ b) s t e =
     (cc (head, r.0), r.1)
 
 module _ (tree : PackageTree ℕ) where
-  -- ---- what stands below a subcomponent
+  -- ---- the implementations below a subcomponent
   module _ (n s m : ℕ) (there : below tree n s ≡ Some m) where
     pub standing_inner : (path : List ℕ) → number_at_path tree n (path ++ s ∷ []) ≡ number_at_path tree m path
     standing_inner [] = there
@@ -69,7 +69,7 @@ module _ (tree : PackageTree ℕ) where
         → IsThreadPort tree m (port path p)
     port_inner path p t = ((t.0.0, (sym (component_inner path) ∙ t.0.1.0, t.0.1.1)), sym (is_in_inner path p) ∙ t.1)
 
-    -- ---- a walk, one level further out
+    -- ---- a trace, one level further out
     pub outer : WalkEnd → WalkEnd
     outer nowhere = nowhere
     outer (at_root l p) = walk_back_along (λ k q. at_root (Some k) q) [] n (connection_into tree n (Inner s p))
@@ -114,7 +114,7 @@ module _ (tree : PackageTree ℕ) where
         (λ k q. climb_outer (Some k) path q) path u p
         (number_at_path tree m path)
 
-    -- ---- what a walk one level further out comes from
+    -- ---- the source of a trace one level further out
     root_by : (p k : ℕ) (l : Option ℕ) (q : ℕ) (source : NumberedPort) → connection_into tree n (Inner s p) ≡ Some (k, source)
         → walk_back_by (λ k q. at_root (Some k) q) [] n k source ≡ at_root l q → Entered tree n (Inner s p) k (Own q)
     root_by p k l q (Own r) i is =
@@ -216,7 +216,7 @@ module _ (tree : PackageTree ℕ) where
     unfolding outer
     root_crosses r last p k t q e i = ap outer e ∙ ap (walk_back_along (λ k q. at_root (Some k) q) [] n) i
 
-  -- ---- what stands at a path stands below a subcomponent
+  -- ---- an implementation at a path is below a subcomponent
   none_inner : (n s : ℕ) (path : List ℕ) → below tree n s ≡ None → number_at_path tree n (path ++ s ∷ []) ≡ None
   none_inner n s [] e = e
   none_inner n s (u ∷ path) e = ap (option_and_then (λ k. below tree k u)) (none_inner n s path e)

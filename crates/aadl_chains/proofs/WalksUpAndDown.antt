@@ -1,5 +1,5 @@
--- The walk up from an in port and the walk down from where it turns give the chain to the port. For `trace_back` and
--- `trace_tap`.
+-- The upward trace from an in port and the downward trace from its turning point give the connection chain to the
+-- port. For `trace_back` and `trace_tap`.
 use Rattle.std.proofs.Common.{◌≡◌, ℕ, false, List, [], ◌∷◌, reverse, Option, Some, None, refl, sym, ap, subst, ◌∙◌}
 use Rattle.std.proofs.lemmas.Option.{same_Some}
 use Rattle.aadl_tree.specs.Declarations.{PackageTree}

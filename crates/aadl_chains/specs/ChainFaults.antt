@@ -1,4 +1,4 @@
--- Connections on no chain, and second ones into a port.
+-- Connections on no connection chain, and connections that share a target port.
 use Rattle.std.specs.Prelude.{◌≡◌, ◌⊎◌, ◌≢◌, ℕ, List, Some, slice_get, Contains}
 use Rattle.aadl_tree.specs.Declarations.{Connection, PackageTree}
 use Rattle.aadl_names.specs.declared.fault.PackageFault.{PackageFault}
@@ -9,7 +9,7 @@ use Rattle.aadl_uses.specs.SecondConnections.{IsDuplicate}
 use Rattle.aadl_uses.specs.PortsOfConnections.{connection_ports_at}
 use Rattle.aadl_chains.specs.Chains.{IsChain, ConnectionAt, Port}
 
--- a connection of an implementation in use that is on no chain, wherever it stands in the design
+-- a connection of an implementation in use that is on no connection chain in any component of the implementation
 pub record IsDeadEnd (tree : PackageTree ℕ) (root : ℕ) (x : Connection ℕ) : Type 0 where
   pub number : ℕ
   pub connection : ℕ
@@ -19,7 +19,7 @@ pub record IsDeadEnd (tree : PackageTree ℕ) (root : ℕ) (x : Connection ℕ) 
       → Contains chain place
       → number_at_path tree root place.path ≡ Some number → place.connection ≢ connection
 
--- a connection of an implementation in use into a port into which one goes that stands before it
+-- a connection of an implementation in use with the same target as an earlier one
 pub record IsSecondEnd (tree : PackageTree ℕ) (root : ℕ) (x : Connection ℕ) : Type 0 where
   pub number : ℕ
   pub connection : ℕ

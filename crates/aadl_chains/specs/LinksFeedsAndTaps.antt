@@ -1,4 +1,5 @@
--- Links, feeds and taps: the chains between threads, from the root to threads, and from threads to the root.
+-- Links, feeds and taps: the connection chains between threads, from the root to threads, and from threads to the
+-- root. A feed carries an environment input, a tap an observed output.
 use Rattle.std.specs.Prelude.{◌≡◌, ◌⊎◌, ℕ, Bool, true, false, ◌&&◌, ◌||◌, nat_eq, nat_lt, List, [], ◌∷◌, reverse}
 use Rattle.std.specs.Prelude.{Contains, Option, Some, None, slice_get}
 use Rattle.aadl_tree.specs.Declarations.{Connection, Implementation, PackageTree}
@@ -9,7 +10,7 @@ use Rattle.aadl_uses.specs.ContainmentAndUse.{number_at_path}
 use Rattle.aadl_uses.specs.ThreadsBelow.{IsThreadAt, path_before}
 use Rattle.aadl_chains.specs.Chains.{Port, ConnectionAt, IsChain}
 
--- a chain without its inner connections: the carrier is a connection of a declaration
+-- a connection chain without its inner connections; the carrier is a connection of a declaration
 pub record CarriedChain : Type 0 where
   pub from : Port
   pub to : Port
@@ -24,7 +25,8 @@ not_own (Some (Inner s p)) = true
 abbrev pub is_crossing : PackageTree ℕ → Implementation ℕ → Connection ℕ → Bool
 is_crossing tree x c = not_own (end_port tree x c.source) && not_own (end_port tree x c.target)
 
--- the connection of a chain that carries it: the one between two subcomponents, or the one in the root's implementation
+-- the carrier is the connection whose properties apply to the chain: the one between two subcomponents, or the one in
+-- the root's implementation
 pub record Carries (tree : PackageTree ℕ) (root : ℕ) (crossing : Bool) (chain : List ConnectionAt) (ends : CarriedChain) : Type 0 where
   pub place : ConnectionAt
   pub component : Implementation ℕ
@@ -54,7 +56,7 @@ IsTap tree root ends =
     × (ends.to.path ≡ [])
     × Carries tree root false chain ends
 
--- they end at different ports
+-- they end at distinct ports
 abbrev pub OtherTarget : CarriedChain → CarriedChain → Type 0
 OtherTarget a b = a.to ≡ b.to → ⊥
 

@@ -1,4 +1,4 @@
-//! Which connections are on chains.
+//! The connections that are on connection chains.
 ghost use Rattle.std.specs.Prelude.{◌≡◌, ◌↔◌, ◌&&◌, ℕ, Some, IfOk, IsTrue, Contains};
 ghost use Rattle.aadl_tree.specs.proof.PackageViews.{placed};
 ghost use Rattle.aadl_uses.specs.proof.PackageContainment.{containment};
@@ -17,13 +17,13 @@ use std::alloc::{AllocError, Global};
 pub struct JoinedPorts {
     /// The number of the root.
     pub root: usize,
-    /// Out ports to which threads below give.
+    /// The out ports that carry a value of a thread below.
     pub gives: JoinedInside,
-    /// In ports from which threads below take.
+    /// The in ports whose values reach a thread below.
     pub takes: JoinedInside,
-    /// In ports to which something outside gives.
+    /// The in ports that receive a value from outside.
     pub fed: JoinedOutside,
-    /// Out ports from which something outside takes.
+    /// The out ports whose values leave to the outside.
     pub led: JoinedOutside,
 }
 
@@ -40,8 +40,9 @@ impl Drop for JoinedPorts {
 }
 
 impl JoinedPorts {
-    /// The ports of a package below a root. The order has each declaration behind those that it contains, and those
-    /// in use are below the root.
+    /// Computes the ports of a package below a root. Precondition: in `order`, each declaration follows the
+    /// declarations that it contains, and `used` has the declarations in use below the root. Errors: out of
+    /// memory.
     pub fn of(
         alloc: Global,
         wires: &PackageConnections<'_>,
@@ -74,8 +75,8 @@ impl JoinedPorts {
         })
     }
 
-    /// Whether a connection of an implementation in use is on a chain, at some place where the implementation
-    /// stands.
+    /// Returns whether a connection of an implementation in use is on a connection chain in at least one
+    /// component of the implementation.
     pub fn has(&self, wires: &PackageConnections<'_>, number: usize, wire: ConnectionPorts) -> bool
         requires { AreChainPorts (placed wires.now.uses.names.tree.now) self.now }
         ensures { IsTrue result ↔ IsOnChain (placed wires.now.uses.names.tree.now) self.now.root number wire }
@@ -86,7 +87,7 @@ impl JoinedPorts {
         }
     }
 
-    // Whether a connection from this port is on a chain.
+    // Whether a connection from this port is on a connection chain.
     fn goes_on(
         &self,
         wires: &PackageConnections<'_>,

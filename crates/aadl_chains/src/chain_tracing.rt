@@ -1,4 +1,4 @@
-//! Chains, walked back from where they end.
+//! Backward traces: connection chains, traced back from their last port.
 ghost use Rattle.std.specs.Prelude.{◌≡◌, ◌++◌, ◌∷◌, ◌<◌, ℕ, false, take, reverse, length, None, Some, [], slice_index};
 ghost use Rattle.std.specs.Prelude.{IfOk};
 ghost use Rattle.aadl_tree.specs.proof.PackageViews.{placed};
@@ -19,27 +19,27 @@ use aadl_uses::{PackageConnections, standing};
 use indexmap::IndexSet;
 use std::alloc::{AllocError, Global};
 
-/// Where a chain begins.
+/// The first port of a connection chain.
 #[derive(Drop)]
 pub enum ChainStart {
     /// A port of the root.
     Root(usize),
-    /// A port of the thread at the end of a path of subcomponents, the outermost first.
+    /// A port of the thread at the end of a path of subcomponents, which begins with the outermost one.
     Thread(Vec<usize>, usize),
 }
 
-/// A chain by its beginning and the connection that carries it: the one between two subcomponents, or the one in the
-/// root's implementation.
+/// A connection chain, as its first port and the connection whose properties apply: the connection between two
+/// subcomponents, or the one in the root's implementation.
 #[derive(Drop)]
 pub struct ChainRoute {
     pub begin: ChainStart,
-    /// The declaration in which the connection stands.
+    /// The number of the declaration that contains the connection.
     pub declaration: usize,
-    /// Its number there.
+    /// The number of the connection there.
     pub connection: usize,
 }
 
-/// A connection into a port, and where it comes from.
+/// A connection into a port, and its source.
 #[derive(Clone, Copy)]
 pub struct ConnectionInto {
     pub declaration: usize,
@@ -47,8 +47,8 @@ pub struct ConnectionInto {
     pub source: NumberedPort,
 }
 
-/// A connection between two subcomponents of the component at the end of the first `depth` steps of
-/// a path, and the port from which it comes.
+/// A connection between two subcomponents of the component at the end of the first `depth` steps of a path, and
+/// its source port.
 #[derive(Clone, Copy)]
 pub struct CrossConnection {
     pub depth: usize,
@@ -58,18 +58,18 @@ pub struct CrossConnection {
     pub port: usize,
 }
 
-/// Where the walk up from a port ends.
+/// The end of an upward trace from a port.
 #[derive(Clone, Copy)]
 pub enum WalkResult {
-    /// At a port into which no connection goes.
+    /// A port without an incoming connection.
     Nowhere,
-    /// At a port of the root, by the last connection, if there was one.
+    /// A port of the root, reached by the last connection, if there was one.
     Root(Option<usize>, usize),
-    /// At a connection between two subcomponents.
+    /// A connection between two subcomponents.
     Crossing(CrossConnection),
 }
 
-/// A port of a subcomponent, with the implementation that it names.
+/// A port of a subcomponent, and the implementation that the subcomponent names.
 #[derive(Clone, Copy)]
 pub struct PortBelow {
     pub sub: usize,
@@ -77,8 +77,9 @@ pub struct PortBelow {
     pub port: usize,
 }
 
-/// The link or feed that ends at an in port of the thread at a path, if there is one. The package has no fault of
-/// names, no implementation contains itself, and each connection in use is the only one into a port.
+/// Returns the link or feed that ends at an in port of the thread at a path, if there is one. Precondition: the
+/// names of the package have no fault, no implementation contains itself, and each connection in use is the
+/// only one into its target. Errors: out of memory.
 pub fn trace_back(
     alloc: Global,
     wires: &PackageConnections<'_>,
@@ -109,7 +110,8 @@ pub fn trace_back(
     }
 }
 
-/// The tap that ends at an out port of the root, if there is one.
+/// Returns the tap that ends at an out port of the root, if there is one. Precondition and errors as in
+/// [`trace_back`].
 pub fn trace_tap(
     alloc: Global,
     wires: &PackageConnections<'_>,
@@ -135,7 +137,7 @@ pub fn trace_tap(
     }
 }
 
-// The chain from a port of the root by a connection, if there is one.
+// The connection chain from a port of the root through a connection, if there is one.
 fn route_from_root(root: usize, last: Option<usize>, port: usize) -> Option<ChainRoute>
     ensures { result ≡ spec.route_from_root root last port }
 {
@@ -149,7 +151,7 @@ fn route_from_root(root: usize, last: Option<usize>, port: usize) -> Option<Chai
     }
 }
 
-// The chain from a beginning, if there is one, by a connection.
+// The connection chain from a first port, if there is one, through a connection.
 fn route_from(
     begin: Option<ChainStart>,
     declaration: usize,
@@ -167,7 +169,7 @@ fn route_from(
     }
 }
 
-// Walks up from a port of the component at a path.
+// Traces upward from a port of the component at a path.
 fn climb(wires: &PackageConnections<'_>, root: usize, path: &[usize], port: usize) -> WalkResult
     ensures { spec.climbed path.now result ≡ walks.walk_back (placed wires.now.uses.names.tree.now) root None
         (reverse path.now) port }
@@ -199,8 +201,8 @@ fn climb(wires: &PackageConnections<'_>, root: usize, path: &[usize], port: usiz
     WalkResult::Root(last, here)
 }
 
-// The connection into a port of the component behind the first `depth` steps of a path and one
-// more.
+// The connection into a port of the component at the end of the first `depth` steps of a path and one more
+// step.
 fn entry_at(
     wires: &PackageConnections<'_>,
     root: usize,
@@ -238,7 +240,7 @@ fn entry_into(
     }
 }
 
-// The first `depth` steps of a path, and one more.
+// The first `depth` steps of a path, and one more step.
 fn way_to(alloc: Global, path: &[usize], depth: usize, sub: usize) -> Result<Vec<usize>, AllocError>
     ensures { IfOk result (λ way. way.items ≡ take depth path.now ++ sub ∷ []) }
 {
@@ -247,7 +249,8 @@ fn way_to(alloc: Global, path: &[usize], depth: usize, sub: usize) -> Result<Vec
     Ok(way)
 }
 
-// Walks down from an out port of the implementation at the end of a path to the thread that gives to it.
+// Traces downward from an out port of the implementation at the end of a path to the thread that provides its
+// value.
 fn descend(
     wires: &PackageConnections<'_>,
     order: &IndexSet<usize>,
@@ -279,7 +282,7 @@ fn descend(
     Ok(Some(ChainStart::Thread(way, out)))
 }
 
-// The port of a subcomponent that gives to an own out port, if there is one.
+// The port of a subcomponent that provides the value of an own out port, if there is one.
 fn step_down(wires: &PackageConnections<'_>, here: usize, out: usize) -> Option<PortBelow>
     requires declared { ArePermitted (placed wires.now.uses.names.tree.now) }
     requires out { is_in_at (placed wires.now.uses.names.tree.now) here out ≡ false }
@@ -291,7 +294,7 @@ fn step_down(wires: &PackageConnections<'_>, here: usize, out: usize) -> Option<
     }
 }
 
-// An out port of a subcomponent, with what the subcomponent names.
+// An out port of a subcomponent, and the implementation that the subcomponent names.
 fn lower_of(wires: &PackageConnections<'_>, here: usize, source: NumberedPort) -> PortBelow
     requires { IsFromInner (placed wires.now.uses.names.tree.now) here source }
     ensures { IsLower (placed wires.now.uses.names.tree.now) here source result }

@@ -1,4 +1,4 @@
-//! Connections on no chain, and second ones into a port.
+//! Connections on no connection chain, and connections that share a target port.
 ghost use Rattle.std.specs.Prelude.{◌≡◌, ◌↔◌, ℕ, Some, slice_get, IfOk, OnOk, Contains};
 ghost use Rattle.aadl_tree.specs.proof.PackageViews.{placed};
 ghost use Rattle.aadl_tree.specs.proof.DeclarationViews.{connection_view};
@@ -21,8 +21,9 @@ use aadl_uses::{ConnectionPorts, PackageConnections};
 use indexmap::IndexSet;
 use std::alloc::{AllocError, Global};
 
-/// The first connection of an implementation in use that is on no chain, or goes into a port into which another one
-/// goes. The package has no fault of names, and no implementation contains itself.
+/// Returns the first connection of an implementation in use that is on no connection chain, or that has the
+/// same target as an earlier one. Precondition: the names of the package have no fault, and no implementation
+/// contains itself. Errors: out of memory.
 pub fn first_end_fault(
     alloc: Global,
     wires: &PackageConnections<'_>,
@@ -46,7 +47,7 @@ pub fn first_end_fault(
     Ok(finder.finish())
 }
 
-// Finds what is wrong with the ends of the connections of an implementation.
+// Reports the faults at the ends of the connections of an implementation.
 fn check_all(
     finder: &mut FaultFinder,
     wires: &PackageConnections<'_>,
@@ -63,7 +64,7 @@ fn check_all(
     Ok(())
 }
 
-// Finds what is wrong with the ends of a connection.
+// Reports the faults at the ends of a connection.
 fn check(
     finder: &mut FaultFinder,
     wires: &PackageConnections<'_>,
@@ -87,7 +88,7 @@ fn check(
     }
 }
 
-// Finds that a connection is on no chain, and that it is a second one.
+// Reports that a connection is on no connection chain, and that it is not the first one into its target.
 fn report(
     finder: &mut FaultFinder,
     connection: &Connection,

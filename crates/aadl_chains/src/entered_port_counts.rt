@@ -1,4 +1,4 @@
-//! To how many in ports of threads connections lead from the in ports of implementations.
+//! For each in port of an implementation: the number of threads' in ports that its connections lead to.
 ghost use Rattle.std.specs.Prelude.{◌≡◌, ◌+◌, ℕ, min, Some, slice_get, IfOk, OnOk, Contains, if◌then◌else◌};
 ghost use Rattle.aadl_tree.specs.proof.PackageViews.{placed};
 ghost use Rattle.aadl_uses.specs.proof.PackageContainment.{containment};
@@ -20,8 +20,8 @@ use indexmap::{IndexMap, IndexSet};
 use std::alloc::{AllocError, Global};
 use std::marker::Model;
 
-/// The in ports of implementations that are no threads, with the number of threads' in ports to which
-/// connections lead from them. Contracts see the entries.
+/// The in ports of implementations other than threads, each with the number of threads' in ports that
+/// connections lead to from it. The model is the list of entries.
 pub struct PortCounts {
     numbers: IndexMap<PortAt, usize>,
 }
@@ -42,8 +42,8 @@ impl Model for PortCounts {
 }
 
 impl PortCounts {
-    /// The numbers of a package, each up to a limit. The order has each declaration behind those that it
-    /// contains.
+    /// Counts the ports of a package, each up to a limit. Precondition: in `order`, each declaration follows
+    /// the declarations that it contains. Errors: out of memory.
     pub fn of(
         alloc: Global,
         wires: &PackageConnections<'_>,
@@ -67,8 +67,8 @@ impl PortCounts {
         Ok(takes)
     }
 
-    /// To how many in ports of threads a connection leads from its target; the limit where there are more.
-    /// A connection into a port into which one before it goes leads nowhere.
+    /// Returns the number of threads' in ports that a connection leads to from its target; `limit` if there are
+    /// more. A connection that is not the first one into its target counts as 0.
     pub fn through(
         &self,
         wires: &PackageConnections<'_>,
@@ -97,7 +97,8 @@ impl PortCounts {
         }
     }
 
-    // To how many a port of a declaration leads, or of a thread whether it goes in.
+    // The number of threads' in ports that a port of a declaration leads to; for a thread, 1 if the port is an
+    // in port.
     fn below(
         &self,
         wires: &PackageConnections<'_>,
@@ -123,7 +124,7 @@ impl PortCounts {
         }
     }
 
-    // The number of a port.
+    // The count of a port.
     fn at(&self, port: PortAt) -> usize
         ensures { result ≡ entered_count self.now port }
     {
@@ -133,7 +134,7 @@ impl PortCounts {
         }
     }
 
-    // Adds what the connections of an implementation lead to.
+    // Adds the counts of the connections of an implementation.
     fn add_all(
         &mut self,
         wires: &PackageConnections<'_>,
@@ -149,7 +150,7 @@ impl PortCounts {
         Ok(())
     }
 
-    // Adds what a connection leads to, if it comes from an own port.
+    // Adds the count of a connection, if its source is an own port.
     fn add(
         &mut self,
         wires: &PackageConnections<'_>,
@@ -179,7 +180,7 @@ impl PortCounts {
         }
     }
 
-    // Adds to the number of a port.
+    // Increases the count of a port.
     fn increase(&mut self, port: PortAt, more: usize, limit: usize) -> Result<(), AllocError>
         ensures { OnOk result ((other : PortAt)
             → entered_count self.new other ≡ (if same_port port other

@@ -1,5 +1,11 @@
-//! The chains that the connections of a package make between threads, and between threads and the root: which
-//! connections are on none, where each chain comes from, and whether there are too many links.
+//! Connection chains: the sequences of connections between threads, and between threads and the root.
+//!
+//! The crate finds the connections that are on no chain, the chain that ends at a given port, and whether there
+//! are more links than a design may have. Each result is proved equal to its definition on the flattened
+//! design, but is computed on the declarations, without flattening.
+//!
+//! The crate assumes a package whose names have no fault and whose implementations do not contain themselves.
+//! It does not check types, rates or adaptors.
 #![tactic(auto)]
 
 pub mod chain_connections;

@@ -1,4 +1,4 @@
-//! Whether there are more links than a design may have, by numbers of declarations alone.
+//! The limit on links, checked on declarations without flattening the design.
 ghost use Rattle.std.specs.Prelude.{◌≡◌, ◌↔◌, ◌<◌, ℕ, false, Some, length, slice_get, slice_index, slice_set, IfOk};
 ghost use Rattle.std.specs.Prelude.{IsTrue};
 ghost use Rattle.pals_base.specs.declared.limits.TheConstants.{LINKS};
@@ -29,8 +29,9 @@ use indexmap::IndexSet;
 use pals_base::limits::LINKS;
 use std::alloc::{AllocError, Global};
 
-/// Whether there are more links below a root than a design may have. The package has no fault of names, no
-/// implementation contains itself, and each connection in use is the only one into a port.
+/// Returns whether there are more links below a root than a design may have. Precondition: the names of the
+/// package have no fault, no implementation contains itself, and each connection in use is the only one into
+/// its target. Errors: out of memory.
 pub fn has_too_many_links(
     alloc: Global,
     wires: &PackageConnections<'_>,
@@ -49,15 +50,15 @@ pub fn has_too_many_links(
     Ok(count_at(counts.as_slice(), root) > LINKS)
 }
 
-// The ports at which connections between subcomponents begin and end: to how many in ports of threads each
-// in port leads, and to which out ports a thread gives.
+// The two ends of connections between subcomponents: for each in port, the number of threads' in ports that it
+// leads to; and the out ports that carry a thread's value.
 #[derive(Clone, Copy)]
 struct LinkEnds<'c> {
     takes: &'c PortCounts,
     gives: &'c JoinedInside,
 }
 
-// How many links there are below each declaration; the limit where there are more.
+// The number of links below each declaration; the limit if there are more.
 fn link_counts(
     alloc: Global,
     wires: &PackageConnections<'_>,
@@ -97,7 +98,7 @@ fn zeros(alloc: Global, len: usize) -> Result<Vec<usize>, AllocError>
     Ok(counts)
 }
 
-// Puts a count in the place of another.
+// Replaces a count by another.
 fn put(counts: &mut Vec<usize>, number: usize, count: usize)
     requires { number < length counts.old.items }
     ensures { counts.new.items ≡ slice_set counts.old.items number count }
@@ -105,7 +106,7 @@ fn put(counts: &mut Vec<usize>, number: usize, count: usize)
     counts[number] = count;
 }
 
-// The links below a declaration, by those below its subcomponents.
+// The number of links below a declaration, from the numbers of its subcomponents.
 fn links_below(
     wires: &PackageConnections<'_>,
     ends: &LinkEnds<'_>,
@@ -126,7 +127,7 @@ fn links_below(
     add_up_to(limit, deeper, carried)
 }
 
-// Those below its subcomponents.
+// The links below its subcomponents.
 fn links_deeper(
     wires: &PackageConnections<'_>,
     counts: &[usize],
@@ -145,7 +146,7 @@ fn links_deeper(
     count
 }
 
-// Those that its connections carry.
+// The links that its connections carry.
 fn links_carried(
     wires: &PackageConnections<'_>,
     ends: &LinkEnds<'_>,
@@ -167,7 +168,7 @@ fn links_carried(
     count
 }
 
-// Those that one connection carries.
+// The links that one connection carries.
 fn carried(
     wires: &PackageConnections<'_>,
     ends: &LinkEnds<'_>,
@@ -198,7 +199,7 @@ fn carried(
     }
 }
 
-// The count of what a subcomponent names.
+// The count of the declaration that a subcomponent names.
 fn count_of(counts: &[usize], target: Option<usize>) -> usize
     ensures { result ≡ spec.count_of counts.now target }
 {

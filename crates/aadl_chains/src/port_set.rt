@@ -4,14 +4,14 @@ use indexmap::IndexSet;
 use std::alloc::{AllocError, Global};
 use std::marker::Model;
 
-/// A port of a declaration, by numbers in the text's order.
+/// A port of a declaration; both numbers follow the order of the text.
 #[derive(Clone, Copy, PartialEq, Eq, Hash)]
 pub struct PortAt {
     pub declaration: usize,
     pub port: usize,
 }
 
-/// A set of ports. Contracts see them in a list.
+/// A set of ports. The model is a list of its members.
 pub struct Ports {
     ports: IndexSet<PortAt>,
 }
@@ -35,7 +35,7 @@ impl Ports {
     ghost use Rattle.std.specs.Prelude.{◌≡◌, [], OnOk};
     ghost use Rattle.aadl_chains.specs.proof.PortSets.{has, with_port};
 
-    /// An empty set. It takes no memory.
+    /// Returns an empty set. Does not allocate.
     pub fn new(alloc: Global) -> Ports
         ensures { result ≡ [] }
     {
@@ -44,14 +44,14 @@ impl Ports {
         }
     }
 
-    /// Whether a port is among them.
+    /// Returns whether a port is in the set.
     pub fn has(&self, port: PortAt) -> bool
         ensures { result ≡ has self.now port }
     {
         self.ports.contains(&port)
     }
 
-    /// Adds a port, unless it is among them.
+    /// Adds a port, unless it is in the set. Errors: out of memory.
     pub fn add(&mut self, port: PortAt) -> Result<(), AllocError>
         ensures { OnOk result (self.new ≡ with_port self.old port) }
     {

@@ -1,4 +1,4 @@
-//! Ports that connections join to threads below.
+//! The ports that connections join to threads below.
 ghost use Rattle.std.specs.Prelude.{◌≡◌, ◌↔◌, false, IfOk, OnOk, IsTrue};
 ghost use Rattle.aadl_tree.specs.proof.PackageViews.{placed};
 ghost use Rattle.aadl_uses.specs.proof.PackageContainment.{containment};
@@ -13,8 +13,8 @@ use aadl_uses::{ConnectionPorts, PackageConnections};
 use indexmap::IndexSet;
 use std::alloc::{AllocError, Global};
 
-/// The ports of implementations that connections join to threads below: in ports from which they lead to some in
-/// port of a thread, or out ports to which they lead from some out port of a thread.
+/// The ports of implementations that connections join to threads below: in ports that lead to an in port of
+/// some thread, or out ports that an out port of some thread leads to.
 #[derive(Drop)]
 pub struct JoinedInside {
     pub direction: Direction,
@@ -22,8 +22,8 @@ pub struct JoinedInside {
 }
 
 impl JoinedInside {
-    /// The ports of a package that are joined to threads below. The order has each declaration
-    /// behind those that it contains.
+    /// Computes the ports of a package that are joined to threads below. Precondition: in `order`, each
+    /// declaration follows the declarations that it contains. Errors: out of memory.
     pub fn of(
         alloc: Global,
         wires: &PackageConnections<'_>,
@@ -38,7 +38,7 @@ impl JoinedInside {
         Ok(JoinedInside { direction, ports })
     }
 
-    /// Whether connections join a port of a subcomponent to a thread below.
+    /// Returns whether connections join a port of a subcomponent to a thread below.
     pub fn reaches(
         &self,
         wires: &PackageConnections<'_>,
@@ -60,7 +60,7 @@ impl JoinedInside {
     }
 }
 
-// All ports that reach threads.
+// All ports that are joined to threads.
 fn ports_of(
     alloc: Global,
     wires: &PackageConnections<'_>,
@@ -80,7 +80,7 @@ fn ports_of(
     Ok(ports)
 }
 
-// Adds what the connections of a declaration join.
+// Adds the ports that the connections of a declaration join.
 fn join_all(
     ports: &mut Ports,
     wires: &PackageConnections<'_>,
@@ -111,7 +111,7 @@ fn join_each(
     Ok(())
 }
 
-// Adds what a connection joins.
+// Adds the port that a connection joins.
 fn join(
     ports: &mut Ports,
     wires: &PackageConnections<'_>,
@@ -130,7 +130,7 @@ fn join(
     }
 }
 
-// The own port that a connection joins to one that reaches a thread.
+// The own port that a connection joins to a port that reaches a thread.
 fn joined(
     ports: &Ports,
     wires: &PackageConnections<'_>,
@@ -187,7 +187,7 @@ fn joined_inner(
     }
 }
 
-/// Whether a port of a declaration reaches a thread, as a set has it.
+/// Returns whether a port of a declaration reaches a thread, according to a set.
 pub fn reaches_in(
     ports: &Ports,
     wires: &PackageConnections<'_>,
@@ -219,7 +219,7 @@ fn reaches_by(
     }
 }
 
-// Whether a port that goes in, or does not, is of a direction.
+// Whether a port has a direction: `goes_in` is true for in ports.
 fn is_way(direction: Direction, goes_in: bool) -> bool
     ensures { result ≡ spec.is_way direction goes_in }
 {
@@ -229,8 +229,8 @@ fn is_way(direction: Direction, goes_in: bool) -> bool
     }
 }
 
-/// The end of a connection at the subcomponent that a port of this direction belongs to: of an in port the
-/// target, of an out port the source.
+/// Returns the end of a connection at the subcomponent, for a port of this direction: the target for in ports,
+/// the source for out ports.
 pub fn inner_end(direction: Direction, wire: ConnectionPorts) -> Option<NumberedPort>
     ensures { result ≡ spec.inner_end direction wire }
 {
@@ -240,7 +240,7 @@ pub fn inner_end(direction: Direction, wire: ConnectionPorts) -> Option<Numbered
     }
 }
 
-/// The other end.
+/// Returns the other end.
 pub fn outer_end(direction: Direction, wire: ConnectionPorts) -> Option<NumberedPort>
     ensures { result ≡ spec.outer_end direction wire }
 {

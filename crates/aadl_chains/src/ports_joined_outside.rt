@@ -1,4 +1,4 @@
-//! Ports that connections join to threads or the root's ports outside.
+//! The ports that connections join to threads or to the root's ports outside.
 ghost use Rattle.std.specs.Prelude.{◌≡◌, ◌↔◌, ℕ, IfOk, OnOk, IsTrue, Contains};
 ghost use Rattle.aadl_tree.specs.proof.PackageViews.{placed};
 ghost use Rattle.aadl_uses.specs.proof.PackageContainment.{containment};
@@ -17,16 +17,16 @@ use aadl_uses::{ConnectionPorts, PackageConnections};
 use indexmap::IndexSet;
 use std::alloc::{AllocError, Global};
 
-/// Which ports are looked for below which root: in ports to which connections lead from where messages come from,
-/// or out ports from which they lead to where messages go.
+/// The ports to compute, and the root: in ports that connections lead to from a source of messages, or out
+/// ports that lead to a destination of messages.
 #[derive(Clone, Copy)]
 pub struct PortSearch {
     pub root: usize,
     pub direction: Direction,
 }
 
-/// The ports of implementations that connections join, at some place where these stand, to threads or the root's
-/// ports outside.
+/// The ports of implementations that connections join to threads or to the root's ports outside, in at least
+/// one component of the implementation.
 #[derive(Drop)]
 pub struct JoinedOutside {
     pub side: PortSearch,
@@ -34,9 +34,9 @@ pub struct JoinedOutside {
 }
 
 impl JoinedOutside {
-    /// The ports of a package that are joined to threads or the root's ports outside. The order has
-    /// each declaration behind those that it contains, those in use are below the root, and the
-    /// ports inside are of the opposite direction.
+    /// Computes the ports of a package that are joined to threads or to the root's ports outside. Precondition:
+    /// in `order`, each declaration follows the declarations that it contains; `used` has the declarations in
+    /// use below the root; and the ports inside have the opposite direction. Errors: out of memory.
     pub fn of(
         alloc: Global,
         wires: &PackageConnections<'_>,
@@ -57,7 +57,8 @@ impl JoinedOutside {
         Ok(JoinedOutside { side, ports })
     }
 
-    /// Whether connections lead from an end of a connection of an implementation in use to a thread or the root.
+    /// Returns whether connections lead from an end of a connection of an implementation in use to a thread or
+    /// the root.
     pub fn leads(
         &self,
         wires: &PackageConnections<'_>,
@@ -84,7 +85,7 @@ impl JoinedOutside {
     }
 }
 
-// All ports that lead out.
+// All ports that are joined to the outside.
 fn ports_of(
     alloc: Global,
     wires: &PackageConnections<'_>,
@@ -109,7 +110,7 @@ fn ports_of(
     Ok(ports)
 }
 
-// Adds what the connections of a declaration lead, if it is in use.
+// Adds the ports that the connections of a declaration join to the outside, if the declaration is in use.
 fn lead_if_used(
     ports: &mut Ports,
     wires: &PackageConnections<'_>,
@@ -131,7 +132,7 @@ fn lead_if_used(
     }
 }
 
-// Adds what the connections of an implementation in use lead.
+// Adds the ports that the connections of an implementation in use join to the outside.
 fn lead_each(
     ports: &mut Ports,
     wires: &PackageConnections<'_>,
@@ -151,7 +152,7 @@ fn lead_each(
     Ok(())
 }
 
-// Adds what a connection leads.
+// Adds the port that a connection joins to the outside.
 fn lead(
     ports: &mut Ports,
     wires: &PackageConnections<'_>,
@@ -171,7 +172,7 @@ fn lead(
     }
 }
 
-// The port of a subcomponent that a connection leads.
+// The port of a subcomponent that a connection joins to the outside.
 fn led(
     ports: &Ports,
     wires: &PackageConnections<'_>,
@@ -198,7 +199,7 @@ fn led(
     }
 }
 
-// Whether an end of a connection leads to a thread or the root, as the sets have it.
+// Whether an end of a connection leads to a thread or the root, according to the sets.
 fn leads_from(
     ports: &Ports,
     wires: &PackageConnections<'_>,

@@ -1,5 +1,4 @@
--- The canonical text of a tree is read as the same tree, except for its places: the claim
--- `canonical_text_is_read_back`.
+-- The canonical text of a tree parses to the same tree, except for its places: the law `canonical_text_is_read_back`.
 use Rattle.std.proofs.Common.{◌≡◌, ◌∙◌, ℕ, ◌<◌, Bool, false, sym, ap, subst, refl, List, [], ◌∷◌, length, arith}
 use Rattle.std.proofs.lemmas.List.{append-nil}
 use Rattle.aadl_lex.specs.declared.token.Token.{Token}
@@ -32,7 +31,7 @@ use Rattle.aadl_grammar.proofs.CanonicalTextLexing.{outer}
 use Rattle.aadl_grammar.proofs.PossibleLexedTerminals.{text_terminals_possible}
 use Rattle.aadl_grammar.proofs.CanonicalUtf8.{text_utf8}
 
--- tokens in order stand one behind the other
+-- of two tokens in order, the second begins after the first
 all_behind : (inside : Bool) (text : List ℕ) (n from to : ℕ) (ts : List Token) → n < from → AreInOrder from to ts
     → Behind n (spots_from inside text ts)
 all_behind inside text n from to [] less order = tt
@@ -50,7 +49,7 @@ rising inside text from to (t ∷ ts) (start, some, order) = (
 derived : (tree : PackageTree ℕ) (ks : List PlainTerminal) → Spells (package_parts tree) ks [] → Derives whole_package ks
 derived tree ks s = packages.derived ks (record { tree = tree; spelled = s })
 
--- the canonical text does not hang on places
+-- the canonical text does not depend on places
 pub canon_of : (tree : PackageTree ℕ) → canon (package_to no_place tree) ≡ canon tree
 canon_of tree = sym (ap canonical (alike_kept (package_alike no_place tree)))
 

@@ -1,4 +1,4 @@
--- The canonical text of terminals that a text can have is lexed as these terminals.
+-- The canonical text of possible terminals is lexed as these terminals.
 use Rattle.std.proofs.Common.{◌≡◌, ◌⊎◌, ℕ, zero, suc, ◌+◌, Bool, true, false, ◌∙◌, sym, ap, ap₂, subst, refl, List, []}
 use Rattle.std.proofs.Common.{◌∷◌, ◌++◌, length, take, drop, arith, Some, None, inl, inr}
 use Rattle.std.proofs.Math.Seq.{take-append_seam}
@@ -25,13 +25,13 @@ use Rattle.aadl_grammar.proofs.NoAnnexEnds.{close_past, kind_past, close_at}
 use Rattle.aadl_grammar.proofs.TextPiecesAndGaps.{line, is_gap, gap_blank, stands_within, drop_past, drop_cut, gap_skipped}
 use Rattle.aadl_grammar.proofs.TextPiecesAndGaps.{token_bytes, close_gap}
 
--- from a place outside on
+-- from a position outside an annex on
 pub record Outer (r : Reading) (text : List ℕ) (at : ℕ) (ks : List PlainTerminal) : Type 0 where
   pub tokens : List Token
   pub lexes : Lexes r text at tokens
   pub kinds : kinds_of (spots_from false text tokens) ≡ ks
 
--- from a place inside on: the rest of the body, and what stands behind it
+-- from a position inside an annex on: the rest of the body, and the text after it
 record Inner (text : List ℕ) (at : ℕ) (left : List ℕ) (ks : List PlainTerminal) : Type 0 where
   size : ℕ
   closed : close_from 0 left ≡ Some size
@@ -52,7 +52,7 @@ which (mark k.AnnexClose) = inl (inr refl)
 which (mark _) = inr ((λ e. cc), (λ e. cc))
 which _ = inr ((λ e. cc), (λ e. cc))
 
--- `{**` stands only behind the name of a behaviour, and `**}` only inside
+-- `{**` occurs only after the name of a behaviour, and `**}` only inside an annex
 keyword_no_end : (b : Bool)
     → (keyword_of b (mark_text k.AnnexOpen) ≡ None) × (keyword_of b (mark_text k.AnnexClose) ≡ None)
 keyword_no_end true = (refl, refl)
@@ -88,7 +88,7 @@ closed_inside r _ e (a_symbol _ m h) =
 closed_inside _ _ e closes = refl
 closed_inside _ _ e opens = absurd cc
 
--- one token, and the tokens behind it
+-- one token, and the tokens after it
 spots_first : (inside : Bool) (text : List ℕ) (class : TokenKind) (at : ℕ) (kind : PlainTerminal) (s : List ℕ) (ts : List Token)
     (ks : List PlainTerminal) → drop at text ≡ kind_text kind ++ s
     → class_kind inside class (kind_text kind) ≡ kind → inside_behind inside class ≡ inside
@@ -99,7 +99,7 @@ spots_first inside text class at kind s ts ks e read stays more =
     (ap (class_kind inside class) (token_bytes text class at (kind_text kind) s e) ∙ read)
     (ap (λ (b : Bool). kinds_of (spots_from b text ts)) stays ∙ more)
 
--- a terminal is taken, and the text is read on behind it
+-- the lexer takes a terminal and reads on after it
 token_taken : (r : Reading) (text : List ℕ) (at : ℕ) (kind : PlainTerminal) (s : List ℕ) (ts : List Token) (l : Lexed r kind s)
     → drop at text ≡ kind_text kind ++ s
     → Lexes (behind r kind) text (at + length (kind_text kind)) ts

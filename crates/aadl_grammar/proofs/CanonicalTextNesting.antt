@@ -1,5 +1,5 @@
--- A tree's terminals without those that mean nothing nest no deeper than with them. For the claim that canonical
--- text is read back.
+-- A tree's terminals without the meaningless ones nest no deeper than with them. For the law that canonical text is
+-- read back.
 use Rattle.std.proofs.Common.{◌≡◌, ℕ, ◌≤◌, Bool, true, false, ap, subst, refl, List, [], ◌∷◌, ◌++◌, inl, inr, arith}
 use Rattle.aadl_tree.specs.declared.mark.Mark.TheVariants as k
 use Rattle.aadl_tree.specs.Terminals.{PlainTerminal, mark}
@@ -9,7 +9,7 @@ use Rattle.aadl_tree.specs.SpellingParts.{kept}
 use Rattle.aadl_tree.specs.declared.nesting_limit.TheConstants.{GREATEST_NESTING}
 use Rattle.aadl_tree.specs.PackagesBehavioursAndNesting.{opened, is_end, nesting_from, IsShallow}
 
--- nowhere are too many open, where n are open before
+-- if n openers are open before, the number never exceeds the limit
 abbrev Low : ℕ → Bool → List PlainTerminal → Type 0
 Low n ended [] = n ≤ GREATEST_NESTING
 Low n ended (kind ∷ ks) = (n ≤ GREATEST_NESTING) × Low (opened n ended kind) (is_end kind) ks
@@ -29,7 +29,7 @@ front_low n ended (kind ∷ ks) h = (
       (λ front back e. h (kind ∷ front) back (ap (λ l. kind ∷ l) e)),
 )
 
--- no more are open, and an `end` just before makes it no more either
+-- fewer open openers keep the limit, also after an `end`
 abbrev NoMore : ℕ → Bool → ℕ → Bool → Type 0
 NoMore n ended m false = n ≤ m
 NoMore n ended m true = (n ≤ m) × (ended ≡ true)
@@ -67,7 +67,7 @@ low_less n ended m after (kind ∷ ks) h l =
           (opened_less n ended m after kind h)) l.1,
     )
 
--- behind what means nothing as many are open as before it
+-- meaningless terminals leave the number of open openers unchanged
 low_behind : (n : ℕ) (ended : Bool) (extra : Extra) (ks : List PlainTerminal) → Low n ended (extra_kinds extra ++ ks)
     → Low n false ks
 low_behind n true (empty_section feature_section) ks h = h.1.1.1
@@ -92,7 +92,7 @@ low_kept (may extra ∷ ps) n ended ks (inr (more, e, s)) l =
     low_less n ended n false (kept ps) (omega arith)
     (low_kept ps n false more s (low_behind n ended extra more (subst (λ (q : List PlainTerminal). Low n ended q) e l)))
 
--- What is kept of terminals that are not nested too deep is not nested too deep.
+-- The terminals that a tree keeps are within the nesting limit if all its terminals are.
 pub kept_shallow : {P : Type 0} (outer : ℕ) (ps : List (SpellingPart P)) (ks : List PlainTerminal) → Spells ps ks [] → IsShallow outer ks
     → IsShallow outer (kept ps)
 kept_shallow outer ps ks s shallow front back e =

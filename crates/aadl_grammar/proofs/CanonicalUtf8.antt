@@ -1,4 +1,4 @@
--- The canonical text of terminals that a text can have is UTF-8.
+-- The canonical text of possible terminals is UTF-8.
 use Rattle.std.proofs.Common.{◌≡◌, ℕ, suc, zero, Bool, true, ◌&&◌, ◌||◌, ◌==◌, ◌∙◌, ap, refl, List, [], ◌∷◌, ◌++◌}
 use Rattle.std.proofs.Common.{arith, inl, inr}
 use Rattle.std.specs.Prelude.{nat_lt, nat_le}

@@ -1,4 +1,4 @@
--- What the machine does at a section, and what a section's parts are. For the function that reads sections.
+-- What the machine does at a section, and the parts of a section. For the function that reads sections.
 use Rattle.std.proofs.Common.{◌≡◌, ℕ, ◌+◌, ◌<◌, ◌≤◌, true, false, ◌∙◌, sym, ap, subst, refl, List, [], ◌∷◌, ◌++◌}
 use Rattle.std.proofs.Common.{length, inl, inr, arith}
 use Rattle.std.specs.Prelude.{Option, None}
@@ -55,7 +55,7 @@ section_first {item = item} {list = list} is o outer end below {mid = mid} l n h
     ∙ begins_past outer end is.opened item (on k.Nothing (s.only k.Semicolon ∷ []) ∷ []) (list ∷ []) below mid
     is.opened_rows is.opened_stays is.item_stays (n, tt)
 
--- for its callers, whose symbols are known
+-- for its callers, with known symbols
 pub section_of : {keyword : Mark} {item list symbol : Symbol} (opened : Symbol)
     → rows symbol ≡ on keyword (opened ∷ []) ∷ [] → rows opened ≡ section_rows (behind (list ∷ []) (rows item))
     → can_omit symbol ≡ true → can_omit opened ≡ false → can_omit item ≡ false
@@ -70,7 +70,7 @@ section_of opened own inner o p q c = record {
   no_closers = c;
 }
 
--- the openers that may be open stay the same
+-- the admissible numbers of open openers stay the same
 pub before_semicolon : (symbol : Symbol) (o : Option ℕ) (outer : ℕ) (below : Stack)
     → Allows o (outer + depth (symbol ∷ below)) → outer + depth (s.only k.Semicolon ∷ below) ≤ GREATEST_NESTING
 unfolding depth
@@ -93,7 +93,7 @@ before_item {item = item} {list = list} {symbol = symbol} is lists o outer below
     omega (arith, is.no_closers, lists.no_closer) in
     subst (λ (n : ℕ). Allows o n) same h
 
--- a section that is absent, of `none ;`, and of something
+-- a section that is absent, a section `none ;`, and a section with items
 pub no_section : (section : Section) {ps : List (SpellingPart ℕ)} {ss : List PlacedTerminal} → [] ≡ ps
     → Reads (section_parts section ps) ss ss
 no_section section e = respelled (ap (section_parts section) e) (record { written = inl refl })

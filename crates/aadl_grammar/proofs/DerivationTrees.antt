@@ -1,4 +1,4 @@
--- What the stack machine can take: derivations, the trees that belong to them, and why there is only one.
+-- The lists of terminals that the stack machine accepts: derivations, their trees, and why each has only one.
 pub mod ForbiddenFollowers
 pub mod ForbiddenFollowerMembership
 pub mod DerivationsAndMachineSteps

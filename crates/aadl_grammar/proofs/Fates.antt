@@ -1,5 +1,5 @@
--- Where the stack machine gets with a list of terminals, and what this says of the two languages, packages and
--- behaviours.
+-- The states that the stack machine reaches on a list of terminals, and the consequences for the two languages,
+-- packages and behaviours.
 pub mod ProductionNesting
 pub mod StackNesting
 pub mod StackAfterTerminals

@@ -1,5 +1,5 @@
--- What is read as a keyword or a symbol is read as the same one where it is spelled as in canonical texts; and a
--- keyword is no name of an annex.
+-- A keyword or symbol of a text is read as the same one if it has its canonical spelling; and a keyword is not a name
+-- of an annex.
 use Rattle.std.proofs.Common.{◌≡◌, ℕ, Bool, true, false, ◌∙◌, sym, ap, refl, List, [], ◌∷◌, map, length, arith, Option}
 use Rattle.std.proofs.Common.{Some}
 use Rattle.std.specs.Prelude.{codes, if◌then◌else◌}
@@ -26,7 +26,7 @@ find_by : (f : Mark → Option Mark) (x m : Mark) (b : Bool) (y : Option Mark) �
 find_by f x m true y here go e = let same : x ≡ m = same_Some x m e in sym (ap f same) ∙ here ∙ ap Some same
 find_by f x m false y here go e = go e
 
--- what is found among those that f keeps is kept
+-- an element found in a list that f fixes is fixed
 find_fixed : (f : Mark → Option Mark) (q : Mark → Bool) (xs : List Mark) (m : Mark) → map f xs ≡ map Some xs
     → find q xs ≡ Some m → f m ≡ Some m
 find_fixed f q [] m e h = absurd cc

@@ -1,4 +1,4 @@
--- Keywords in lists, and what holds of a test and its negation.
+-- Membership of keywords in lists, and a test and its negation.
 use Rattle.std.proofs.Common.{◌≡◌, Bool, true, false, not, ◌||◌, ◌==◌, List, [], ◌∷◌, refl, arith}
 use Rattle.std.specs.Prelude.{Contains}
 use Rattle.std.proofs.lemmas.Bool.{eqb-true}

@@ -1,4 +1,4 @@
--- What the readers of lists answer, from what the readers of their items answer.
+-- Results of the functions that read lists, from the results of the functions that read their items.
 use Rattle.std.proofs.Common.{◌≡◌, ℕ, ◌+◌, ◌<◌, ◌∙◌, sym, ap, subst, List, [], ◌∷◌, ◌++◌, length, map, flat_map}
 use Rattle.std.specs.Prelude.{Result, Ok, Err, IfOk, Option, Some, None}
 use Rattle.std.specs.Global.{Vec}
@@ -27,7 +27,7 @@ abbrev pub items_of : {X Y : Type 0} {r : Reader} {before : Option Mark} {answer
 items_of f g allowed item list lists each =
     record { item = item; list = list; lists = lists; parts = λ x. f (g x); allowed = allowed; each = each }
 
--- what is read behind nothing is the whole list
+-- after no items, the items read are the whole list
 all_read : {X Y : Type 0} (before : Option Mark) (f : Y → List (SpellingPart ℕ)) (g : X → Y) (r : Reader) (old : List X)
     (at : ℕ) (result : Result (Vec X × ℕ) ParseFault) → old ≡ []
     → IfOk result (λ y. Grows (with_mark before (λ x. f (g x))) old y.0.items (here r at) (here r y.1))
@@ -48,7 +48,7 @@ whole_list {X} {Y} {r} {before} {answers} {old} {at} {result} f g allowed item l
     let of : ItemsOf r before answers = items_of f g allowed item list lists each in
     record { runs = p.runs of; reads = all_read before f g r old at result n (p.reads of) }
 
--- what is read behind a first item is the rest of the list
+-- after a first item, the items read are the rest of the list
 rest_read : {X : Type 0} (parts : X → List (SpellingPart ℕ)) (r : Reader) (old : List X) (first : X) (at mid : ℕ)
     (whole : List X → List (SpellingPart ℕ)) (result : Result (Vec X × ℕ) ParseFault) → old ≡ first ∷ []
     → ((more : List X) (rest : List PlacedTerminal) → Reads (flat_map parts more) (here r mid) rest
@@ -77,14 +77,14 @@ list_from {X} {r} {before} {answers} {old} {at} {mid} {wanted} {result} of first
   reads = rest_read (with_mark before of.parts) r old first at mid whole result n reading (p.reads of);
 }
 
--- what a call answered, written otherwise
+-- the result of a call, written otherwise
 pub same_answer : {X : Type 0} {r : Reader} {Allowed : ℕ → Type 0} {wanted : Stack} {parts : X → List (SpellingPart ℕ)} {at : ℕ}
     {found result : Result (X × ℕ) ParseFault} → Parses r Allowed wanted parts at found → result ≡ found
     → Parses r Allowed wanted parts at result
 same_answer {X} {r = r} {Allowed = Allowed} {wanted = wanted} {parts = parts} {at = at} p e =
     subst (λ (y : Result (X × ℕ) ParseFault). Parses r Allowed wanted parts at y) (sym e) p
 
--- the same answer, whose parts are written otherwise
+-- the same result, whose parts are written otherwise
 read_so : {X : Type 0} {p q : X → List (SpellingPart ℕ)} (r : Reader) (at : ℕ) (result : Result (X × ℕ) ParseFault)
     → ((x : X) → p x ≡ q x) → IfOk result (λ y. Reads (p y.0) (here r at) (here r y.1))
     → IfOk result (λ y. Reads (q y.0) (here r at) (here r y.1))

@@ -1,5 +1,4 @@
--- One item more of a list, as the loop that reads lists takes it: what the machine does at the item, and how the
--- parts that were read grow.
+-- One iteration of the loop that reads lists: what the machine does at the item, and how the parts grow.
 use Rattle.std.proofs.Common.{◌≡◌, ℕ, ◌+◌, ◌≤◌, ◌∙◌, sym, ap, subst, List, [], ◌∷◌, ◌++◌, arith, append_assoc, flat_map}
 use Rattle.std.specs.Prelude.{Result, Option, Some, None}
 use Rattle.std.proofs.lemmas.List.{append-nil}
@@ -19,7 +18,7 @@ pub allows_few : (o : Option ℕ) (n : ℕ) → Allows o n → n ≤ GREATEST_NE
 allows_few None n h = h
 allows_few (Some room) n h = omega (arith, h)
 
--- what the machine does at an item is what the function answers
+-- what the machine does at an item is the result of the function
 pub item_runs : {X : Type 0} {r : Reader} {before : Option Mark} {answers : Answers X} (of : ItemsOf r before answers)
     (outer : ℕ) (below : Stack) (rest start : ℕ) (result : Result (X × ℕ) ParseFault) (was : Fate)
     → Allows of.allowed (outer + depth (of.list ∷ below)) → was ≡ fate outer r.end (of.list ∷ below) (here r rest)

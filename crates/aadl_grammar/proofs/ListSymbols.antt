@@ -24,7 +24,7 @@ marked_moves m f rs x row =
     ap (λ (l : List Row). move_by l (can_omit x) (mark m)) row
     ∙ ap (λ b. cond b (takes f) (move_by rs (can_omit x) (mark m))) (fits_itself m)
 
--- a list whose only row is for the mark, and has an item and the list behind it, or what begins so
+-- a list whose only row begins with the mark, followed by an item and the list, or which begins as such a list does
 marked_list : (m : Mark) (f : List Symbol) (item list : Symbol) → rows list ≡ on m f ∷ [] → can_omit list ≡ true
     → closes item ≡ 0 → ((below : Stack) → depth (f ++ below) ≤ depth (list ∷ below))
     → ((outer end : ℕ) (below : Stack) (ss : List PlacedTerminal)
@@ -70,7 +70,7 @@ name_list =
     marked_list k.Comma (s.name ∷ s.more_names ∷ []) s.name s.more_names refl refl refl (λ below. omega arith)
     (λ outer end below ss. refl)
 
--- a list of items that begin with a word, and of which nothing else is known
+-- a list of items that begin with a word, with no further assumptions
 pub word_list : (item list : Symbol) {f : List Symbol} → rows item ≡ by a_word f ∷ []
     → rows list ≡ table.behind (list ∷ []) (rows item) → can_omit list ≡ true → can_omit item ≡ false
     → closes item ≡ 0 → IsList None item list

@@ -50,7 +50,7 @@ digit_no_letter c d =
       | inr a ↦ (let l = leb-true 97 c (first_so (nat_le 97 c) _ a) in absurd (omega arith))
     ])
 
--- what goes on with a whole number
+-- the bytes that continue a whole number
 abbrev pub in_number : ℕ → Bool
 in_number h = is_ascii_digit h || (h == 95 || h == 46)
 
@@ -104,7 +104,7 @@ whole_first r at (c ∷ ds) rest some all fits stop =
     (take-append_seam (c ∷ ds) rest)
     ∙ ap (λ b. cond b (Taken (Whole (pos (decimal (c ∷ ds)))) (length (c ∷ ds))) (Refused (BigNumber at))) fits)
 
--- the digits of a number say the number
+-- the digits spell the number
 record Says (n : ℕ) (ds : List ℕ) : Type 0 where
   some : 0 < length ds
   digits : list_all is_ascii_digit ds ≡ true

@@ -1,5 +1,5 @@
--- No terminal inside a behaviour annex has the end `**}` of the annex in it. For the claim that canonical text is
--- read back.
+-- No terminal inside a behaviour annex contains the end `**}` of the annex. For the law that canonical text is read
+-- back.
 use Rattle.std.proofs.Common.{◌≡◌, ℕ, suc, ◌+◌, Bool, true, false, cond, not, ◌&&◌, ◌||◌, ◌==◌, ◌∙◌, sym, ap, refl}
 use Rattle.std.proofs.Common.{List, [], ◌∷◌, ◌++◌, append_assoc, length, length-append, arith, Option, Some, None}
 use Rattle.std.proofs.Common.{nat_eq}
@@ -25,7 +25,7 @@ use Rattle.aadl_grammar.proofs.PossibleTerminals.{IsPossibleTerminal, a_word, a_
 use Rattle.aadl_grammar.proofs.PossibleTerminals.{closes}
 use Rattle.aadl_grammar.proofs.TerminalRelexing.{Ends, IsPlain, keyword_is_word}
 
--- bytes that are no `*` are passed over
+-- the search passes bytes other than `*`
 pub close_past : (p : ℕ → Bool) → p 42 ≡ false → (w s : List ℕ) (n : ℕ) → list_all p w ≡ true
     → close_from n (w ++ s) ≡ close_from (n + length w) s
 close_past p star [] s n e = ap (λ m. close_from m s) (let g : n ≡ n + 0 = omega arith in g)
@@ -35,19 +35,19 @@ close_past p star (c ∷ w) s n e =
     ∙ close_past p star w s (n + 1) (second_so (p c) _ e)
     ∙ ap (λ m. close_from m s) (let g : n + 1 + length w ≡ n + suc (length w) = omega arith in g)
 
--- and a `*` that none follows
+-- and a last `*`
 star_past : (s : List ℕ) (n : ℕ) → Ends (mark k.Star) s → close_from n (42 ∷ s) ≡ close_from (n + 1) s
 star_past [] n e = refl
 star_past (h ∷ t) n e = rw e refl
 
--- where a `**}` begins hangs on three bytes
+-- three bytes determine whether a `**}` begins
 starts_same : (c : ℕ) (w s : List ℕ) → starts_with nat_eq (c ∷ (w ++ 34 ∷ [])) (codes "**}") ≡ false
     → starts_with nat_eq (c ∷ (w ++ 34 ∷ s)) (codes "**}") ≡ false
 starts_same c [] s e = and-false (42 == c)
 starts_same c (d ∷ []) s e = ap (λ b. (42 == c) && b) (and-false (42 == d)) ∙ and-false (42 == c)
 starts_same c (d ∷ (f ∷ w)) s e = e
 
--- a string has no `**}` in it, and ends with a quote
+-- a string does not contain `**}`, and ends with a quote
 string_past : (w s : List ℕ) (n m : ℕ) → close_from m (w ++ 34 ∷ []) ≡ None
     → close_from n (w ++ 34 ∷ s) ≡ close_from (n + length w + 1) s
 string_past [] s n m e = ap (λ j. close_from j s) (let g : n + 1 ≡ n + 0 + 1 = omega arith in g)
@@ -66,7 +66,7 @@ close_by true j size m y z go e = ap (λ i. Some (m + i)) (some_nat j size e)
     some_nat a b e = cc
 close_by false j size m y z go e = go e
 
--- the place of the first `**}`, with another number for the first byte
+-- the position of the first `**}`, with another number for the first byte
 pub close_at : (s : List ℕ) (m j size : ℕ) → close_from j s ≡ Some size → close_from (m + j) s ≡ Some (m + size)
 close_at [] m j size e = absurd cc
 close_at (c ∷ s) m j size e =
@@ -120,7 +120,7 @@ quoted_past b s n h e =
     ∙ string_past (34 ∷ h.inner) s n 0 none
     ∙ ap (λ j. close_from j s) (let g : n + suc (length h.inner) + 1 ≡ n + length b = omega arith in g)
 
--- The first `**}` behind a terminal inside is not before its end.
+-- The first `**}` after a terminal inside an annex is not before its end.
 pub kind_past : (kind : PlainTerminal) (s : List ℕ) (n : ℕ) → IsPossibleTerminal Inside kind → IsPlain kind → Ends kind s
     → close_from n (kind_text kind ++ s) ≡ close_from (n + length (kind_text kind)) s
 kind_past _ s n (a_word _ b w h) plain e = word_past b s n w

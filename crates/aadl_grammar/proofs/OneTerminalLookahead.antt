@@ -1,4 +1,4 @@
--- At most one row of a symbol fits a terminal, so one terminal decides how a symbol begins: the claim
+-- At most one row of a symbol fits a terminal, so one terminal determines how a symbol begins: the law
 -- `one_terminal_decides`.
 use Rattle.std.proofs.Common.{◌≡◌, true, not, ◌==◌, sym, ap, List, [], ◌∷◌, eq-eqb}
 use Rattle.std.proofs.lemmas.Bool.{or_left, or_right}

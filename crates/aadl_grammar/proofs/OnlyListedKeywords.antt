@@ -1,5 +1,5 @@
--- No keywords can come but the listed ones, outside of annexes and inside: an invariant of all symbols that can be
--- wanted there.
+-- Only the listed keywords can occur, outside and inside annexes: an invariant of all symbols that can be expected
+-- there.
 use Rattle.std.proofs.Common.{◌≡◌, Bool, true, false, not, ◌&&◌, ◌||◌, List, refl, subst}
 use Rattle.std.specs.Prelude.{Contains}
 use Rattle.std.specs.List.{list_all}
@@ -16,7 +16,7 @@ use Rattle.aadl_grammar.specs.proof.ReachableKeywords.{is_word, Stands, at_first
 use Rattle.aadl_grammar.proofs.KeywordListMembership.{or_not, or_false, listed, is_listed}
 use Rattle.aadl_grammar.proofs.RoutesToKeywords.{is_the, the_mark}
 
--- a keyword or symbol that may come where these are the keywords
+-- a keyword or symbol that is possible with these keywords
 abbrev fine_mark : List Mark → Mark → Bool
 fine_mark keywords m = listed keywords m || not (is_word m)
 
@@ -24,7 +24,7 @@ abbrev fine : List Mark → Class → Bool
 fine keywords (the m) = fine_mark keywords m
 fine keywords _ = true
 
--- what a row wants passes, except the inside of an annex
+-- the symbols of a row satisfy the test, except the inside of an annex
 abbrev row_stays : (Symbol → Bool) → Row → Bool
 row_stays side r = list_all side r.wanted || is_the k.AnnexOpen r.first
 
@@ -63,7 +63,7 @@ either : (b : Bool) → ((b && true) || not b) ≡ true
 either true = refl
 either false = refl
 
--- the symbols that stand outside of annexes
+-- the symbols outside annexes
 pub outside : Symbol → Bool
 outside (s.only m) = fine_mark keywords_outside m
 outside s.more_identifiers = false
@@ -132,7 +132,7 @@ outside_fine (s.only m) = either (fine_mark keywords_outside m)
 outside_fine s.identifier = refl
 outside_fine _ = refl
 
--- the symbols that stand inside of annexes
+-- the symbols inside annexes
 pub inside : Symbol → Bool
 inside (s.only m) = fine_mark keywords_inside m
 inside s.action = false

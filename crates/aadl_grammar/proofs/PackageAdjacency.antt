@@ -1,5 +1,5 @@
--- Any two neighbours among the terminals of a package may stand side by side. For the claim that canonical text is
--- read back.
+-- Any two neighbours among the terminals of a package may follow each other. For the law that canonical text is read
+-- back.
 use Rattle.std.proofs.Common.{◌≡◌, ℕ, Bool, true, false, not, ◌||◌, ◌==◌, refl, List, [], ◌∷◌}
 use Rattle.std.proofs.lemmas.Bool.{and_from}
 use Rattle.aadl_tree.specs.declared.mark.Mark.{Mark}
@@ -18,7 +18,7 @@ use Rattle.aadl_grammar.proofs.ParseTableAdjacency.{before_guard}
 abbrev nothing_more : Symbol → Bool
 nothing_more x = false
 
--- behind `.`
+-- after `.`
 abbrev names_one : Symbol → Bool
 names_one s.identifier = true
 names_one s.path = true
@@ -35,7 +35,7 @@ dot_checked : (x : Symbol) → after_check (class_number (the k.Dot)) names_one 
 dot_checked (s.only m) = dot_marked m
 dot_checked _ = refl
 
--- behind `!`
+-- after `!`
 abbrev tests : Symbol → Bool
 tests s.test = true
 tests _ = false
@@ -51,7 +51,7 @@ bang_checked : (x : Symbol) → after_check (class_number (the k.Bang)) tests no
 bang_checked (s.only m) = bang_marked m
 bang_checked _ = refl
 
--- behind `:`
+-- after `:`
 abbrev declares : Symbol → Bool
 declares s.identifier = true
 declares s.direction = true
@@ -102,7 +102,7 @@ word_checked : (x : Symbol) → before_check (class_number a_word) goes_on of_na
 word_checked (s.only m) = word_marked m
 word_checked _ = refl
 
--- before an annex that is not read, and before `{**`
+-- before an annex of another language, and before `{**`
 abbrev has_annex : Symbol → Bool
 has_annex s.content = true
 has_annex (s.only m) = mark_number m == mark_number k.AnnexOpen
@@ -123,7 +123,7 @@ annex_checked : (x : Symbol) → before_check (class_number a_word) has_annex is
 annex_checked (s.only m) = annex_marked m
 annex_checked _ = refl
 
--- every terminal is of a class
+-- every terminal has a class
 abbrev any_pair : Symbol → Symbol → Bool
 any_pair x y = true
 

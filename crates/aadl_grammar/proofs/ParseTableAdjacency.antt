@@ -1,5 +1,5 @@
--- Two kinds of invariants that say which terminals may be neighbours, on what comes behind and before a terminal.
--- Each is proved by a check of all rows of the parse table.
+-- Two kinds of invariants on neighbouring terminals: one on the followers and one on the predecessors of a terminal.
+-- A check of all rows of the parse table proves each.
 use Rattle.std.proofs.Common.{◌≡◌, ℕ, Bool, true, false, not, ◌&&◌, ◌||◌, ◌==◌, ◌∙◌, ap, refl, List, [], ◌∷◌, inl, inr}
 use Rattle.std.proofs.lemmas.Bool.{or_left}
 use Rattle.std.specs.Cmp.{first_so, second_so}
@@ -34,7 +34,7 @@ carried a true k e h = refl
 carried true false k e h = absurd cc
 carried false false k e h = h
 
--- Behind a terminal of the number t only some symbols are on top, and so only some terminals come.
+-- After a terminal of the number t, only some symbols can be topmost, so only some terminals can follow.
 
 abbrev pub after_top : ℕ → (Symbol → Bool) → ℕ → Symbol → Bool
 after_top t ok p y = not (p == t) || ok y
@@ -45,7 +45,7 @@ after_pair t ok chain x y = not (chain x || is_only t x) || ok y
 abbrev pub after_beside : ℕ → (ℕ → Bool) → ℕ → ℕ → Bool
 after_beside t come p n = not (p == t) || come n
 
--- what a row leaves on what is below
+-- what a row pushes onto the symbols below
 abbrev after_seam : ℕ → (Symbol → Bool) → Symbol → ℕ → List Symbol → Bool
 after_seam t chain x n [] = not (n == t) || (chain x || is_only t x)
 after_seam t chain x n (z ∷ f) = not (chain (last_of z f) || is_only t (last_of z f))
@@ -96,7 +96,7 @@ after_guard t ok chain come checked =
           && pairs_hold (after_pair t ok chain) r.wanted) _ (row x r m)));
     }
 
--- Some symbols are on top behind a word alone, and so some terminals come behind a word alone.
+-- Some symbols are topmost only after a word, so their first terminals occur only after a word.
 
 abbrev pub before_top : ℕ → (Symbol → Bool) → ℕ → Symbol → Bool
 before_top t held p y = (p == t) || not (held y)

@@ -1,4 +1,4 @@
--- How the faults that a parser answers follow from where its terminals stop.
+-- How the faults that a parser returns follow from the positions at which its terminals stop.
 use Rattle.std.proofs.Common.{◌≡◌, ℕ, ◌∙◌, sym, subst}
 use Rattle.std.specs.Prelude.{Result, Ok, Err, IfOk}
 use Rattle.std.specs.Result.{IsErrAnd}
@@ -8,7 +8,7 @@ use Rattle.aadl_grammar.specs.declared.parse_fault.ParseFault.{ParseFault}
 use Rattle.aadl_grammar.specs.declared.parse_fault.ParseFault.TheVariants.{Memory, Syntax, TooDeep}
 use Rattle.aadl_grammar.specs.proof.ParserAnswers.{FailsAs, RunsTo}
 
--- a fault stays what it is along an equation
+-- a fault remains correct along an equation of fates
 pub along : (a b : Fate) (e : ParseFault) → a ≡ b → FailsAs b e → FailsAs a e
 along a b Memory h f = tt
 along a b (Syntax at) h f = h ∙ f
@@ -25,6 +25,6 @@ pub no_reads : {X : Type 0} (P : X → Type 0) (e : ParseFault) (result : Result
 no_reads P e (Ok x) h = absurd h
 no_reads P e (Err y) h = tt
 
--- an opener for which there is no room
+-- an opener without room
 pub too_deep : (was : Fate) (at : ℕ) (e : ParseFault) → e ≡ TooDeep at → was ≡ deep_at at → FailsAs was e
 too_deep was at e is h = subst (λ (z : ParseFault). FailsAs was z) (sym is) h

@@ -1,4 +1,4 @@
--- A tree that terminals spell gets the places of these terminals, by kinds of trees.
+-- A tree that terminals spell can be given the places of these terminals, by kinds of trees.
 pub mod FilledTrees
 pub mod Names
 pub mod Values

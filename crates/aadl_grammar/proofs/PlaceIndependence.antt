@@ -1,4 +1,4 @@
--- How a tree is spelled does not depend on its places, by kinds of trees.
+-- The spelling of a tree does not depend on its places, by kinds of trees.
 pub mod AlikeParts
 pub mod NamesAndValues
 pub mod Expressions

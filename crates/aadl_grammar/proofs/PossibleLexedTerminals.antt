@@ -1,4 +1,4 @@
--- The terminals of a text's tokens are terminals that a text can have.
+-- The terminals of a text's tokens are possible terminals.
 use Rattle.std.proofs.Common.{◌≡◌, ℕ, ◌+◌, ◌-◌, ◌<◌, Bool, true, false, ◌∙◌, sym, ap, subst, refl, List, [], ◌∷◌, ◌++◌}
 use Rattle.std.proofs.Common.{append_assoc, length, length-append, take, drop, get_or, arith, Option, Some, None}
 use Rattle.std.specs.Prelude.{codes, is_some}
@@ -30,7 +30,7 @@ use Rattle.aadl_grammar.proofs.PossibleTerminals.{a_keyword, a_symbol, opens, cl
 use Rattle.aadl_grammar.proofs.TerminalRelexing.{after_inside, word_then, whole_then, real_then, quoted_then}
 use Rattle.aadl_grammar.proofs.KeywordAndSymbolSpellings.{keyword_fixed, symbol_fixed, keyword_behind, symbol_behind}
 
--- a piece of a text, between two bytes of one byte each
+-- a piece of a text, between two single bytes
 utf8_front : (w rest : List ℕ) (y : ℕ) → y < 128 → IsUtf8 (w ++ y ∷ rest) → IsUtf8 (w ++ y ∷ [])
 utf8_front w rest y low utf8 =
     let byte = at_seam w (y ∷ rest) in
@@ -49,7 +49,7 @@ utf8_piece full at n x y mid utf8 within low high e =
     let rest = IsUtf8-drop full at utf8 (IsCharBoundary-before_ascii full at within (omega arith)) in
     subst IsUtf8 (sym e) (utf8_front (x ∷ mid) (drop n (drop at full)) y high (subst IsUtf8 whole rest))
 
--- what one token says
+-- the content of one token
 record Says (r : Reading) (class : TokenKind) (b : List ℕ) : Type 0 where
   spoken : IsPossibleTerminal r (class_kind (is_inside r) class b)
   goes : spelled.behind r class b ≡ behind r (class_kind (is_inside r) class b)
@@ -130,6 +130,6 @@ said_tokens text utf8 r from (t ∷ ts) (start, some, order) (h, hs) =
           (subst (λ (q : Reading). ArePossibleTerminals q (kinds_of (spots_from (is_inside next) text ts))) says.goes on),
     )
 
--- The terminals of a text are terminals that a text can have.
+-- The terminals of a text are possible terminals.
 pub text_terminals_possible : (text : List ℕ) (ts : List Token) → AreTokensOf text ts → ArePossibleTerminals Outside (kinds_of (placed_terminals text ts))
 text_terminals_possible text ts h = said_tokens text h.utf8 Outside 0 ts (order_tokens text ts h) (spelled_tokens text ts h)

@@ -1,5 +1,5 @@
--- Which terminals a text can have, by whether it is read inside an annex or outside. What a tree keeps of such
--- terminals is such terminals again.
+-- The possible terminals of a text, inside an annex or outside. The terminals that a tree keeps of them are possible
+-- again.
 use Rattle.std.proofs.Common.{◌≡◌, ℕ, ◌≤◌, Bool, true, false, ◌==◌, ◌∙◌, sym, ap, subst, refl, List, [], ◌∷◌, ◌++◌}
 use Rattle.std.proofs.Common.{Some, None, inl, inr}
 use Rattle.std.specs.Prelude.{codes, pos, if◌then◌else◌}
@@ -24,7 +24,7 @@ abbrev pub is_inside : Reading → Bool
 is_inside Inside = true
 is_inside _ = false
 
--- a terminal that can stand where the text is read so
+-- a terminal that is possible in this mode of reading
 pub data IsPossibleTerminal : Reading → PlainTerminal → Type 0 where
   a_word : (r : Reading) (b : List ℕ) → is_word b ≡ true → keyword_of (is_inside r) b ≡ None → IsPossibleTerminal r (word b)
   a_number : (r : Reading) (n : ℕ) → n ≤ most → IsPossibleTerminal r (whole (pos n))
@@ -37,7 +37,7 @@ pub data IsPossibleTerminal : Reading → PlainTerminal → Type 0 where
   opens : IsPossibleTerminal AfterName (mark k.AnnexOpen)
   closes : IsPossibleTerminal Inside (mark k.AnnexClose)
 
--- how the text is read behind a terminal
+-- the mode of reading after a terminal
 abbrev pub behind : Reading → PlainTerminal → Reading
 behind Inside (mark k.AnnexClose) = Outside
 behind Inside _ = Inside
@@ -45,7 +45,7 @@ behind _ (mark k.AnnexOpen) = Inside
 behind _ (word b) = if str_eq_ignore_ascii_case b (codes "behavior_specification") then AfterName else Outside
 behind _ _ = Outside
 
--- terminals that a text can have from here on, up to its end
+-- possible terminals from here on, up to the end of the text
 abbrev pub ArePossibleTerminals : Reading → List PlainTerminal → Type 0
 ArePossibleTerminals r [] = is_inside r ≡ false
 ArePossibleTerminals r (kind ∷ ks) = IsPossibleTerminal r kind × ArePossibleTerminals (behind r kind) ks
@@ -76,7 +76,7 @@ no_annex n h =
     false_from_ne_true (n == 104)
     (λ e. let same = eqb-true n 104 e in let never = ap (may_stand_behind (mark_number k.Semicolon)) same in absurd cc)
 
--- behind a `;` a text goes on in one way, whatever was before it
+-- after a `;`, the terminal before it does not matter
 said_anyhow : (r : Reading) (ks : List PlainTerminal) → is_inside r ≡ false → AreNeighbours (mark_number k.Semicolon) ks
     → ArePossibleTerminals Outside ks → ArePossibleTerminals r ks
 said_anyhow r [] i near said = i
@@ -85,7 +85,7 @@ said_anyhow r (kind ∷ ks) i (near, nears) (said, more) = (
   subst (λ (x : Reading). ArePossibleTerminals x ks) (behind_same r kind i) more,
 )
 
--- what means nothing ends with `;`
+-- meaningless terminals end with `;`
 last_near : (p : ℕ) (extra : Extra) (ks : List PlainTerminal) → AreNeighbours p (extra_kinds extra ++ ks)
     → AreNeighbours (mark_number k.Semicolon) ks
 last_near p (empty_section s) ks h = h.1.1.1
@@ -109,7 +109,7 @@ said_behind AfterName (empty_section connection_section) ks near h = said_anyhow
 said_behind AfterName (empty_section property_section) ks near h = said_anyhow AfterName ks refl near h.1.1.1
 said_behind AfterName last_semicolon ks near h = said_anyhow AfterName ks refl near h.1
 
--- What is kept of the terminals of a text are the terminals of a text.
+-- The terminals that a tree keeps of a text's terminals are possible in a text.
 pub kept_said : {P : Type 0} (ps : List (SpellingPart P)) (p : ℕ) (r : Reading) (ks : List PlainTerminal) → Spells ps ks []
     → AreNeighbours p ks → ArePossibleTerminals r ks → ArePossibleTerminals r (kept ps)
 kept_said [] p r ks e near said = subst (λ (q : List PlainTerminal). ArePossibleTerminals r q) e said

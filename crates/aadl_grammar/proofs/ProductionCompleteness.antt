@@ -1,5 +1,5 @@
--- Each tree that terminals spell is built by some production of its symbol, which is a row of the parse table, by
--- kinds of symbols.
+-- Some production of its symbol, which is a row of the parse table, builds each tree that terminals spell, by kinds
+-- of symbols.
 pub mod NamesAndValues
 pub mod Expressions
 pub mod Actions

@@ -1,5 +1,5 @@
--- What a production, which is a row of the parse table, builds is spelled by terminals that it takes, by kinds of
--- symbols.
+-- The terminals that a production takes spell the tree that it builds, by kinds of symbols. A production is a row of
+-- the parse table.
 pub mod NamesAndValues
 pub mod Expressions
 pub mod Actions

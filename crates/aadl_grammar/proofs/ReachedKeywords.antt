@@ -1,4 +1,4 @@
--- Each listed keyword can come: a way through the table to it, outside of annexes and inside.
+-- Each listed keyword can occur: a route through the table to it, outside and inside annexes.
 use Rattle.std.proofs.Common.{◌≡◌, ℕ, Bool, true, ◌&&◌, List, [], ◌∷◌, refl}
 use Rattle.std.specs.Prelude.{Contains}
 use Rattle.std.specs.List.{list_all}

@@ -1,4 +1,4 @@
--- A reference whose names are read one by one: the loop of `reference` adds one more name.
+-- The loop of `reference`, which reads the names of a reference one by one: an iteration adds one more name.
 use Rattle.std.proofs.Common.{◌≡◌, ◌∙◌, ap, sym, List, [], ◌∷◌, ◌++◌, map, flat_map, append_assoc}
 use Rattle.aadl_tree.specs.declared.mark.Mark.TheVariants as k
 use Rattle.aadl_tree.specs.declared.names.Identifier.{Identifier}

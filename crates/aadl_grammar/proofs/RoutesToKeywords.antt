@@ -1,5 +1,5 @@
--- A route through the parse table, from a symbol that is wanted first to one that begins with a keyword, shows that
--- the keyword can come.
+-- A route through the parse table, from an initially expected symbol to a symbol that begins with a keyword, proves
+-- that the keyword can occur.
 use Rattle.std.proofs.Common.{◌≡◌, ◌≢◌, ℕ, Bool, true, false, not, ◌&&◌, ◌==◌, List, [], ◌∷◌, length, get_or, ap}
 use Rattle.std.proofs.Common.{eq-eqb}
 use Rattle.std.specs.Prelude.{nat_lt}
@@ -30,7 +30,7 @@ the_mark m a_quoted e = cc
 the_mark m an_unread e = cc
 the_mark m (the x) e = ap the (same_number x m (eqb-true _ _ e))
 
--- by a row, and then by one of the symbols that it wants
+-- by a row, and then by one of the symbols that it pushes
 pub record Turn : Type 0 where
   pub by : ℕ
   pub to : ℕ
@@ -54,7 +54,7 @@ abbrev pub is_way : Symbol → List Turn → Bool
 is_way x [] = true
 is_way x (t ∷ ts) = may_go x t && is_way (next x t) ts
 
--- from the symbol of a number among those that are wanted first, by turns, to the row of a number
+-- from an initial symbol, by its index, through turns, to a row, by its index
 pub record Way : Type 0 where
   pub first : ℕ
   pub turns : List Turn

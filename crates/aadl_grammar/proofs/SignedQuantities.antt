@@ -1,4 +1,4 @@
--- A sign before a number: the symbol for quantities takes it and then wants a figure and a unit.
+-- A sign before a number: the symbol of quantities takes it and then expects a number and a unit.
 use Rattle.std.proofs.Common.{◌≡◌, refl, [], ◌∷◌}
 use Rattle.aadl_tree.specs.declared.expressions.Sign.{Sign}
 use Rattle.aadl_tree.specs.declared.expressions.Sign.TheVariants as signs

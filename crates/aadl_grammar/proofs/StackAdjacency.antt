@@ -1,5 +1,5 @@
--- Invariants of the machine's stack: which symbols may be on top behind a terminal, and which one below the other.
--- For which terminals may be neighbours.
+-- Invariants of the machine's stack: the symbols that may be topmost after a terminal, and the symbols that may be
+-- directly below another. They determine which terminals may be neighbours.
 use Rattle.std.proofs.Common.{◌≡◌, ℕ, Bool, true, ◌&&◌, ◌∙◌, sym, ap, subst, refl, List, [], ◌∷◌, ◌++◌}
 use Rattle.std.proofs.lemmas.List.{append-nil}
 use Rattle.std.proofs.lemmas.Bool.{eqb-true, and_from}
@@ -10,18 +10,18 @@ use Rattle.aadl_grammar.specs.proof.ParseTable.{rows, can_omit}
 use Rattle.aadl_grammar.specs.proof.StackMachine.{Stack, class_number, kind_number}
 use Rattle.aadl_grammar.proofs.DerivationTrees.DerivationsAndMachineSteps.{Member, Derives, nothing, take, omit}
 
--- symbols one below the other
+-- adjacent symbols of a stack
 abbrev pub pairs_hold : (Symbol → Symbol → Bool) → Stack → Bool
 pairs_hold pair [] = true
 pairs_hold pair (x ∷ []) = true
 pairs_hold pair (x ∷ (y ∷ s)) = pair x y && pairs_hold pair (y ∷ s)
 
--- the symbol on top, behind a terminal of this number
+-- the topmost symbol after a terminal of this number
 abbrev pub on_top : (ℕ → Symbol → Bool) → ℕ → Stack → Bool
 on_top top p [] = true
 on_top top p (y ∷ s) = top p y
 
--- what a row leaves on a symbol below it
+-- the symbols that a row pushes onto the symbol below
 abbrev pub last_of : Symbol → List Symbol → Symbol
 last_of z [] = z
 last_of z (y ∷ f) = last_of y f
@@ -39,7 +39,7 @@ pub record Guard (top : ℕ → Symbol → Bool) (pair : Symbol → Symbol → B
   pub takes : (p : ℕ) (x : Symbol) (r : Row) → Member r (rows x) → top p x ≡ true
       → beside p (class_number r.first) ≡ true
 
--- each terminal beside the one before it
+-- each terminal and its predecessor satisfy the relation
 abbrev pub Beside : (ℕ → ℕ → Bool) → ℕ → List PlainTerminal → Type 0
 Beside beside p [] = Unit {0}
 Beside beside p (kind ∷ ks) = (beside p (kind_number kind) ≡ true) × Beside beside (kind_number kind) ks
@@ -82,7 +82,7 @@ below_seam : (top : ℕ → Symbol → Bool) (pair : Symbol → Symbol → Bool)
 below_seam top pair beside g x below r m n y s e =
     g.seams x y r m (first_so _ _ (subst (λ (l : Stack). pairs_hold pair (x ∷ l) ≡ true) e n))
 
--- What a guarded stack derives has its terminals beside one another.
+-- The terminals that a guarded stack derives satisfy the relation of neighbours.
 pub guarded : (top : ℕ → Symbol → Bool) (pair : Symbol → Symbol → Bool) (beside : ℕ → ℕ → Bool) → Guard top pair beside
     → (p : ℕ) (wanted : Stack) (ks : List PlainTerminal)
     → on_top top p wanted ≡ true → pairs_hold pair wanted ≡ true → Derives wanted ks → Beside beside p ks

@@ -1,4 +1,4 @@
--- The text of a terminal is lexed as this terminal's token, where nothing behind it continues it. For the claim that
+-- The text of a terminal is lexed as this terminal's token if the bytes after it do not continue it. For the law that
 -- canonical text is read back.
 use Rattle.std.proofs.Common.{◌≡◌, ℕ, ◌<◌, Bool, true, false, ◌&&◌, ◌||◌, ◌∙◌, sym, ap, refl, List, [], ◌∷◌, ◌++◌}
 use Rattle.std.proofs.Common.{length, length-append, get_or, arith, Some}
@@ -25,7 +25,7 @@ use Rattle.aadl_grammar.proofs.LiteralAndAnnexLexing.{unread_first}
 use Rattle.aadl_grammar.proofs.PossibleTerminals.{is_inside, IsPossibleTerminal, a_word, a_number, a_real, a_string, an_annex}
 use Rattle.aadl_grammar.proofs.PossibleTerminals.{a_keyword, a_symbol, opens, closes, behind}
 
--- bytes that would go on with a terminal
+-- bytes that would continue a terminal
 abbrev pub goes_on : PlainTerminal → ℕ → Bool
 goes_on (word b) h = is_in_word h
 goes_on (whole n) h = in_number h
@@ -33,7 +33,7 @@ goes_on (real b) h = is_ascii_digit h
 goes_on (mark m) h = (is_word (mark_text m) && is_in_word h) || extends m h
 goes_on _ h = false
 
--- what follows does not go on with the terminal
+-- the following bytes do not continue the terminal
 abbrev pub Ends : PlainTerminal → List ℕ → Type 0
 Ends kind [] = Unit {0}
 Ends kind (h ∷ t) = goes_on kind h ≡ false
@@ -121,7 +121,7 @@ pub record Lexed (r : Reading) (kind : PlainTerminal) (rest : List ℕ) : Type 0
   pub inside : inside_behind (is_inside r) class ≡ is_inside (behind r kind)
   pub inner : (b : Bool) → inside_behind b class ≡ b
 
--- neither of a body's ends
+-- neither end of an annex body
 abbrev pub IsPlain : PlainTerminal → Type 0
 IsPlain kind = (kind ≡ mark k.AnnexOpen → ⊥) × (kind ≡ mark k.AnnexClose → ⊥)
 
@@ -133,7 +133,7 @@ mark_some : (m : Mark) → 0 < length (mark_text m)
 mark_some k.Package = omega arith
 mark_some _ = omega arith
 
--- how a text is read behind a class of tokens, where it is none of a body's ends
+-- how a text is read after a token class other than the two ends of an annex body
 abbrev IsInner : TokenKind → Type 0
 IsInner class = (b : Bool) → inside_behind b class ≡ b
 

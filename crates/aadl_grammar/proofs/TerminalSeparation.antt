@@ -1,4 +1,4 @@
--- In a canonical text the byte behind a terminal never continues the terminal's token. For the claim that canonical
+-- In a canonical text, the byte after a terminal never continues the terminal's token. For the law that canonical
 -- text is read back.
 use Rattle.std.proofs.Common.{◌≡◌, ℕ, Bool, true, false, ◌&&◌, ◌||◌, refl, List, [], ◌∷◌, ◌++◌, get_or, inl, inr}
 use Rattle.std.specs.Prelude.{codes, if◌then◌else◌}
@@ -20,7 +20,7 @@ use Rattle.aadl_grammar.proofs.WordAndSymbolLexing.{other_bytes}
 use Rattle.aadl_grammar.proofs.PossibleTerminals.{IsPossibleTerminal, a_word, ArePossibleTerminals}
 use Rattle.aadl_grammar.proofs.TerminalRelexing.{goes_on, Ends}
 
--- a blank goes on with nothing
+-- a blank continues no token
 space_ends : (p : PlainTerminal) → goes_on p 32 ≡ false
 space_ends (mark k.Package) = refl
 space_ends (mark _) = refl
@@ -93,7 +93,7 @@ left_meets p (mark k.Bang) rest l h = bang_meets p h
 left_meets p (mark _) rest l h = absurd cc
 left_meets p _ rest l h = absurd cc
 
--- nothing goes on with `(`, `::` and `'`
+-- no byte continues `(`, `::` and `'`
 closed_ends : (m : Mark) → ((h : ℕ) → goes_on (mark m) h ≡ false) → (rest : List ℕ) → Ends (mark m) rest
 closed_ends m never [] = tt
 closed_ends m never (h ∷ t) = never h
@@ -141,7 +141,7 @@ gap_ends r p kind rest true e h s = elim (or_cases (holds_right p) (holds_left k
 ]
 gap_ends r p kind rest false e h s = apart p (ends_line p) (kind_text kind ++ rest)
 
--- What follows a terminal in the canonical text of such terminals does not go on with it.
+-- The text after a terminal in the canonical text of such terminals does not continue the terminal.
 pub ends_behind : (r : Reading) (p : PlainTerminal) (ks : List PlainTerminal) → AreNeighbours (kind_number p) ks → ArePossibleTerminals r ks
     → Ends p (text_behind p ks)
 ends_behind r p [] near said = line_ends p

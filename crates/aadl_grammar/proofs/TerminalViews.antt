@@ -1,5 +1,5 @@
--- The spots that a list of terminals stands for: the first one and those behind it. Each word among terminals is a
--- word, also with one terminal more, and its bytes are a text.
+-- The spots of a list of terminals: the first one and the following ones. Each word among the terminals is a word,
+-- also after one more terminal is added, and its bytes are a text.
 use Rattle.std.proofs.Common.{◌≡◌, ℕ, zero, suc, ◌+◌, ◌<◌, ◌≤◌, true, ◌∙◌, sym, ap, List, [], ◌∷◌, ◌++◌, length, get_or}
 use Rattle.std.proofs.Common.{drop, refl, arith, add-one, drop-cons, ◌&&◌}
 use Rattle.std.specs.List.{list_all, All}
@@ -20,7 +20,7 @@ use Rattle.aadl_grammar.specs.declared.terminal.Terminal.{Terminal}
 use Rattle.aadl_grammar.specs.declared.terminal.TerminalClass.TheVariants as t
 use Rattle.aadl_grammar.specs.proof.TerminalViews.{spot_of, spots_of, is_word_at, AreWords}
 
--- one terminal, and those behind it
+-- one terminal, and the terminals after it
 pub spots_cons : (text : List ℕ) (ts : List Terminal) (at : ℕ) (d : Terminal) → at < length ts
     → spots_of text (drop at ts) ≡ spot_of text (get_or ts at d) ∷ spots_of text (drop (at + 1) ts)
 spots_cons text ts at d less =

@@ -1,4 +1,4 @@
--- Pieces of a text one behind the other, and the gaps of blanks between them.
+-- Consecutive pieces of a text, and the gaps of blanks between them.
 use Rattle.std.proofs.Common.{◌≡◌, ℕ, ◌+◌, ◌-◌, ◌<◌, Bool, true, false, ◌||◌, ◌∙◌, ap, subst, refl, List, [], ◌∷◌, ◌++◌}
 use Rattle.std.proofs.Common.{length, length-append, take, drop, arith, Some}
 use Rattle.std.specs.Prelude.{codes, if◌then◌else◌}
@@ -33,16 +33,16 @@ gap_blank _ none = refl
 gap_blank _ space = refl
 gap_blank _ line = refl
 
--- a piece is there, so its place is in the text
+-- a piece exists, so its place is in the text
 pub stands_within : (text : List ℕ) (at : ℕ) (w s : List ℕ) → 0 < length w → drop at text ≡ w ++ s → at < length text
 stands_within text at w s some e =
     let a = length-drop at text in let b = ap (length {A = ℕ}) e in let c = length-append w s in omega arith
 
--- what stands behind a piece
+-- the text after a piece
 pub drop_past : (text : List ℕ) (at : ℕ) (w s : List ℕ) → drop at text ≡ w ++ s → drop (at + length w) text ≡ s
 drop_past text at w s e = drop_add at (length w) text ∙ ap (drop (length w)) e ∙ drop-append_seam w s
 
--- a piece, in a text that ends some bytes behind it
+-- a piece of a text that ends some bytes after the piece
 pub drop_cut : (text : List ℕ) (at : ℕ) (w s : List ℕ) (m : ℕ) → drop at text ≡ w ++ s
     → drop at (take (at + (length w + m)) text) ≡ w ++ take m s
 drop_cut text at w s m e = drop-take at (length w + m) text ∙ ap (take (length w + m)) e ∙ take-append-add w s m

@@ -1,4 +1,4 @@
--- Each text has tokens or a first lexical fault: the claim `tokens_or_fault`.
+-- Each text has tokens or a first lexical fault: the law `tokens_or_fault`.
 use Rattle.std.proofs.Common.{◌≡◌, ◌⊎◌, inl, inr, ℕ, zero, suc, ◌+◌, ◌<◌, ◌≤◌, Bool, true, false, cond, List, [], ◌∷◌}
 use Rattle.std.proofs.Common.{◌++◌, length, take, drop, Option, Some, None, arith, refl, nat_eq, nat_le, ◌&&◌}
 use Rattle.std.proofs.lemmas.Bool.{cases_lt}
@@ -77,7 +77,7 @@ HasFaults r text at = (fault : LexFault) × (fault ≢ Memory) × Faults r text 
 abbrev EndsFrom : Reading → List ℕ → ℕ → Type 0
 EndsFrom r text at = ((tokens : List Token) × Lexes r text at tokens) ⊎ HasFaults r text at
 
--- what stands at the byte decides how the text ends from there on; those from the later bytes on are given
+-- the byte determines how the text ends from here on, if this is known for all later bytes
 abbrev Below : ℕ → Type 0
 Below n = (r : Reading) (text : List ℕ) (at : ℕ) → length text ≤ at + n → EndsFrom r text at
 

@@ -1,4 +1,4 @@
--- What the symbol on top of the stack does at the first terminal: it takes it, is left out, or no text goes on.
+-- What the topmost symbol does at the first terminal: it takes the terminal, is omitted, or refuses it.
 use Rattle.std.proofs.Common.{◌≡◌, ℕ, ◌+◌, ◌<◌, ◌≤◌, Bool, true, false, cond, ◌∙◌, sym, ap, subst, refl, List, [], ◌∷◌}
 use Rattle.std.proofs.Common.{◌++◌, ◌==◌, inl, inr}
 use Rattle.std.proofs.lemmas.Bool.{or_cases, or_parts, false_from_ne_true}
@@ -56,7 +56,7 @@ moves_no : (x : Symbol) (ss : List PlacedTerminal) → can_omit x ≡ false → 
 moves_no x [] o m = ap (λ b. cond b omitted refuses) o
 moves_no x (t ∷ ss) o m = move_refuses x t.kind o (none_fits_marks (rows x) t ss m)
 
--- no row fits: the symbol is left out, or no text goes on
+-- no row fits: the symbol is omitted or refuses the terminal
 pub omits_unless : (outer end : ℕ) (x : Symbol) (below : Stack) (ss : List PlacedTerminal) → can_omit x ≡ true
     → MissAll (rows x) ss → fate outer end (x ∷ below) ss ≡ fate outer end below ss
 omits_unless outer end x below ss o m = fate_omits outer end x below ss (moves_on x ss o m)
@@ -69,7 +69,7 @@ none_own_fits : (rs : List Row) (ss : List PlacedTerminal) → MissAll rs ss →
 none_own_fits rs [] m = tt
 none_own_fits rs (t ∷ ss) m = false_from_ne_true (among (kind_number t.kind) (firsts rs)) (none_fits_marks rs t ss m)
 
--- past some of its own rows it begins as another one with more behind it
+-- past some of its own rows, it begins as another symbol with more after it
 pub begins_past : (outer end : ℕ) (x y : Symbol) (own : List Row) (more : List Symbol) (below : Stack) (ss : List PlacedTerminal)
     → rows x ≡ own ++ behind more (rows y) → can_omit x ≡ false → can_omit y ≡ false → MissAll own ss
     → fate outer end (x ∷ below) ss ≡ fate outer end (y ∷ more ++ below) ss
@@ -81,7 +81,7 @@ pub begins_as : (outer end : ℕ) (x y : Symbol) (more : List Symbol) (below : S
     → fate outer end (x ∷ below) ss ≡ fate outer end (y ∷ more ++ below) ss
 begins_as outer end x y more below ss e o p = fate_expands outer end x y [] more below ss e o p (none_own ss)
 
--- one that may be left out begins as another one, where that one takes the terminal
+-- a symbol that may be omitted begins as another one, if that one takes the terminal
 pub enters_as : (outer end : ℕ) (x y : Symbol) (more : List Symbol) (below : Stack) {kind : PlainTerminal} {ss rest : List PlacedTerminal}
     {f : List Symbol} → rows x ≡ behind more (rows y) → can_omit y ≡ false
     → At kind ss rest → move y kind ≡ takes f → fate outer end (x ∷ below) ss ≡ fate outer end (y ∷ more ++ below) ss
@@ -97,7 +97,7 @@ acts_as outer end x y below {kind} {ss} {rest} l m =
     ∙ ap (λ z. fate_by outer end z below ss) (ap (move_at x) l.whole ∙ m ∙ sym (ap (move_at y) l.whole))
     ∙ sym (fate_is outer end y below ss)
 
--- where this mark comes first, rows of other classes miss it
+-- if this mark comes first, it misses the rows of other classes
 missing : (rs : List Row) (m : Mark) (at : ℕ) (rest : List PlacedTerminal) → among (mark_number m) (firsts rs) ≡ false
     → MissAll rs (spot (mark m) at ∷ rest)
 missing [] m at rest e = tt
@@ -108,7 +108,7 @@ pub misses_at : (rs : List Row) {m : Mark} {ss rest : List PlacedTerminal} → A
     → among (mark_number m) (firsts rs) ≡ false → MissAll rs ss
 misses_at rs {m} {ss} {rest} l e = subst (λ (x : List PlacedTerminal). MissAll rs x) (sym l.whole) (missing rs m l.at rest e)
 
--- a symbol that cannot be left out is not
+-- a symbol that cannot be omitted is not omitted
 cond_omits : (b : Bool) (f : List Symbol) (z : Move) → (z ≡ omitted → ⊥) → cond b (takes f) z ≡ omitted → ⊥
 cond_omits true f z h e = cc
 cond_omits false f z h e = h e
@@ -126,7 +126,7 @@ unfolding move
 never_omits y [] p e = never_end (can_omit y) p e
 never_omits y (t ∷ ss) p e = rows_omit (rows y) t.kind (ap (λ b. move_by (rows y) b t.kind) (sym p) ∙ e)
 
--- Before a symbol that has to come and does not, leaving out comes to the same fault.
+-- If a required symbol is missing, omitting the symbols before it gives the same fault.
 by_move : (outer end : ℕ) (x y : Symbol) (own : List Row) (more : List Symbol) (m : Mark) (below : Stack)
     (ss : List PlacedTerminal) (z : Move) → rows x ≡ own ++ behind more (rows y) → can_omit x ≡ true → can_omit y ≡ false
     → MissAll own ss → Misses (the m) ss → move_at y ss ≡ z → (z ≡ omitted → ⊥)
@@ -146,7 +146,7 @@ pub before_closer : (outer end : ℕ) (x y : Symbol) (own : List Row) (more : Li
 before_closer outer end x y own more m below ss e o p own_miss miss =
     by_move outer end x y own more m below ss (move_at y ss) e o p own_miss miss refl (never_omits y ss p)
 
--- a keyword that may be left out
+-- an optional keyword
 pub flag_runs : (outer end : ℕ) (x : Symbol) (below : Stack) (m : Mark) (b : Bool) (ss rest : List PlacedTerminal)
     → rows x ≡ on m [] ∷ [] → can_omit x ≡ true → move x (mark m) ≡ takes [] → outer + depth below ≤ GREATEST_NESTING
     → IsMarked m b ss rest

@@ -1,4 +1,4 @@
--- Each text has a tree or a first fault: the claim `tree_or_fault`.
+-- Each text has a tree or a first fault: the law `tree_or_fault`.
 use Rattle.std.proofs.Common.{◌≡◌, ◌⊎◌, inl, inr, ℕ, sym, subst, List, [], ◌∷◌, length, refl}
 use Rattle.aadl_lex.specs.declared.token.Token.{Token}
 use Rattle.aadl_lex.specs.TokensAndFirstFaults.{AreTokensOf}
@@ -18,7 +18,7 @@ use Rattle.aadl_grammar.proofs.PlaceFilling.FilledTrees.{U}
 use Rattle.aadl_grammar.proofs.PlaceFilling.Declarations.{package_fill}
 use Rattle.aadl_grammar.proofs.PlaceFilling.TerminalPlaces.{placed}
 
--- nothing is left where no kinds are
+-- a list without kinds is empty
 none_left : (ss : List PlacedTerminal) → kinds_of ss ≡ [] → ss ≡ []
 none_left [] e = refl
 none_left (s ∷ ss) e = absurd cc

@@ -1,4 +1,5 @@
--- A tree is fixed by itself without places and by its places. For the claim that tokens spell one tree with places.
+-- A tree is determined by its shape, which is the tree without places, and by its places. For the law that tokens
+-- spell one tree with places.
 pub mod PlaceCounts
 pub mod PlacesFromTokens
 pub mod Names

@@ -1,4 +1,4 @@
--- Lists of values and of properties that grow by one item, as the loops of parsers read them.
+-- Lists of values and of properties that grow by one item, as the parsers' loops read them.
 use Rattle.std.proofs.Common.{◌≡◌, ℕ, ◌<◌, ◌∙◌, sym, ap, List, [], ◌∷◌, ◌++◌, length, append_assoc, arith, refl}
 use Rattle.std.proofs.Common.{flat_map}
 use Rattle.std.specs.Prelude.{Result}
@@ -89,7 +89,7 @@ pub association_begun : (x : Association) {ss rest : List PlacedTerminal}
     → Reads (v.association_parts (association_view kept_place x)) ss rest → length rest < length ss
 association_begun x a = plain_begun (association_view kept_place x) a
 
--- a word is no closer, so what is read before the closer is no empty list
+-- a word is not a closer, so the list before the closer is not empty
 pub braced : (xs : List Association) {front ss mid rest : List PlacedTerminal} → StartsWord ss → AtMark k.BraceOpen front ss
     → Reads (v.associations_parts (associations_view kept_place xs)) ss mid → AtMark k.BraceClose mid rest
     → Reads (v.properties_parts (associations_view kept_place xs)) front rest

@@ -1,5 +1,5 @@
--- Blanks, words and symbols at the front of a text, each lexed as what it is where the bytes behind do not go on
--- with it. For the claim that canonical text is read back.
+-- Blanks, words and symbols at the front of a text: each is lexed as such if the following bytes do not continue it.
+-- For the law that canonical text is read back.
 use Rattle.std.proofs.Common.{◌≡◌, ℕ, ◌+◌, Bool, true, false, cond, not, ◌&&◌, ◌||◌, ◌==◌, ◌∙◌, ap, refl, List, [], ◌∷◌}
 use Rattle.std.proofs.Common.{◌++◌, length, get_or, arith, Some, nat_eq, nat_le}
 use Rattle.std.specs.Prelude.{codes}
@@ -19,7 +19,7 @@ use Rattle.aadl_tree.specs.declared.mark.Mark.{Mark}
 use Rattle.aadl_tree.specs.declared.mark.Mark.TheVariants as k
 use Rattle.aadl_tree.specs.KeywordsAndSymbols.{mark_text, symbol_of}
 
--- a byte that passes a test is none that does not
+-- a byte that passes the test differs from a byte that fails it
 pub other_byte : (p : ℕ → Bool) (c d : ℕ) → p c ≡ true → p d ≡ false → (c == d) ≡ false
 other_byte p c d h fails =
     false_from_ne_true (c == d) (λ e. let same = eqb-true c d e in let f = ap p same in absurd cc)
@@ -57,7 +57,7 @@ pub run_all : (p : ℕ → Bool) (w rest : List ℕ) → list_all p w ≡ true �
     → run p (w ++ rest) ≡ length w
 run_all p w rest e h = length-prefix_len p (w ++ rest) ∙ prefix_all p w rest e h
 
--- a byte that is no blank and no `-`
+-- a byte other than a blank and `-`
 pub record Visible (p : ℕ → Bool) : Type 0 where
   pub space : p 32 ≡ false
   pub tab : p 9 ≡ false
@@ -110,7 +110,7 @@ word_first r at (c ∷ cs) rest w stop =
     let len = run_all is_in_word (c ∷ cs) rest all stop in
     letter_goes r at c (cs ++ rest) letter (ap (λ n. nat_le n NAME_BYTES) len ∙ short) ∙ ap (λ n. Taken Word n) len
 
--- what goes on with a symbol; or with `*` to a `**}`
+-- the bytes that continue a symbol, or that continue `*` to a `**}`
 abbrev pub extends : Mark → ℕ → Bool
 extends k.Colon h = (58 == h) || (61 == h)
 extends k.Dot h = 46 == h

@@ -1,4 +1,5 @@
--- What the theorem of the program does not rest on: definitions of contracts below it, of laws, and of proofs.
+-- Definitions that the program's theorem does not depend on: those of the contracts of its parts, of laws, and of
+-- proofs.
 pub mod GrammarSymbols
 pub mod ParseTable
 pub mod StackMachine

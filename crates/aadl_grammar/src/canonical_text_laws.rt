@@ -1,4 +1,4 @@
-//! Laws of canonical texts. Each function does nothing; its contract is proved.
+//! Laws of canonical texts. Each law is the contract of a function that does nothing.
 ghost use Rattle.std.specs.Prelude.{◌≡◌, ℕ, List};
 ghost use Rattle.aadl_tree.specs.Declarations.{PackageTree};
 ghost use Rattle.aadl_tree.specs.TextTreesAndFaults.{IsTreeOf};
@@ -8,8 +8,8 @@ ghost use Rattle.aadl_tree.specs.proof.PackageViews.{meaning};
 ghost use Rattle.aadl_tree.specs.declared.package.PackageTree.{PackageTree as SourceTree};
 ghost use Rattle.aadl_grammar.specs.proof.CanonicalRoundTrip.{HasSameTree};
 
-/// The canonical text of a tree has a tree, within the greatest nesting, that is the same except
-/// for its places, and no other. The text does not depend on the places of the tree.
+/// The canonical text of a tree parses to the same tree with other places, within the nesting limit, and to no
+/// other tree. The text does not depend on the places of the tree.
 pub fn canonical_text_is_read_back()
     ensures of_text { (text : List ℕ) (tree : PackageTree ℕ) → IsTreeOf text tree
         → HasSameTree (canon tree) (package_to no_place tree) }

@@ -1,5 +1,5 @@
-//! Laws of the grammar's stack machine: where it stops on terminals, and that terminals spell one tree at most. Each
-//! function does nothing; its contract is proved.
+//! Laws of the grammar's stack machine: where it stops, and that a list of terminals spells at most one tree.
+//! Each law is the contract of a function that does nothing.
 ghost use Rattle.std.specs.Prelude.{◌≡◌, ◌↔◌, ◌+◌, ℕ, List, [], ◌∷◌, map};
 ghost use Rattle.aadl_tree.specs.declared.nesting_limit.TheConstants.{GREATEST_NESTING};
 ghost use Rattle.aadl_tree.specs.Terminals.{PlainTerminal, mark, PlacedTerminal, kinds_of};
@@ -18,13 +18,14 @@ ghost use Rattle.aadl_grammar.specs.proof.MovedPackages.{SamePackage};
 ghost use Rattle.aadl_grammar.specs.proof.PlaceOrder.{Rising};
 ghost use Rattle.aadl_grammar.specs.proof.ExampleTerminals.{numbered, without_value, nested, small_package};
 
-/// One terminal decides how a symbol begins: no two rows of the table's symbols are of one class.
+/// One terminal determines how a symbol begins: any two rows of a symbol in the parse table have distinct
+/// classes.
 pub fn one_terminal_decides()
     ensures { (symbol : Symbol) → Decides (rows symbol) }
 {}
 
-/// Each opener makes the nesting deeper by one, that of a guard and that of an annex too, and each
-/// closer takes one back.
+/// Each opener, including the openers of guards and annexes, increases the nesting depth by one, and each
+/// closer decreases it by one.
 pub fn openers_are_counted()
     ensures openers { map (λ m. nesting 0 (mark m ∷ []))
         (k.ParenOpen ∷ k.BracketOpen ∷ k.BraceOpen ∷ k.AnnexOpen ∷ k.GuardOpen ∷ k.If ∷ [])
@@ -34,9 +35,10 @@ pub fn openers_are_counted()
         ≡ 0 ∷ 0 ∷ 0 ∷ 0 ∷ 0 ∷ [] }
 {}
 
-/// The machine finishes on just the texts of packages that are not nested too deep. It stops with a
-/// fault just where no text goes on, and for depth just at the opener that makes the nesting too
-/// deep. So of each list of terminals one of the three holds, at one place.
+/// The machine finishes on a list of terminals if and only if the list is a package within the nesting limit.
+/// It stops with a syntax fault at the first terminal at which no text continues, and with a depth fault at the
+/// first opener beyond the nesting limit. So each list of terminals has exactly one of the three fates, at one
+/// position.
 pub fn fate_of_package()
     ensures finished { (end : ℕ) (spots : List PlacedTerminal)
         → (fate 0 end whole_package spots ≡ finished) ↔ (IsPackage (kinds_of spots) × IsShallow 0 (kinds_of spots)) }
@@ -46,9 +48,9 @@ pub fn fate_of_package()
         ↔ DeepAt IsPackage 0 spots at }
 {}
 
-/// The machine finishes on just the bodies of behaviour annexes that are not nested too deep, each
-/// by itself, with its opener open around it. It stops with a fault just where no text goes on, and
-/// for depth just at the opener that makes the nesting too deep.
+/// The machine finishes on a list of terminals if and only if the list is the body of a behaviour annex within
+/// the nesting limit; the opener of the annex counts as open. It stops with a syntax fault at the first
+/// terminal at which no text continues, and with a depth fault at the first opener beyond the nesting limit.
 pub fn fate_of_behaviour()
     ensures finished { (end : ℕ) (spots : List PlacedTerminal)
         → (fate 1 end annex_body spots ≡ finished) ↔ (IsBehaviour (kinds_of spots) × IsShallow 1 (kinds_of spots)) }
@@ -58,8 +60,8 @@ pub fn fate_of_behaviour()
         ↔ DeepAt IsBehaviour 1 spots at }
 {}
 
-/// Terminals spell one package, or one behaviour, at most, where places do not count. So trees of one
-/// text, with their places, have one canonical text.
+/// A list of terminals spells at most one package or behaviour, up to places. So all trees of one text, with
+/// their places, have one canonical text.
 pub fn a_text_has_one_tree()
     ensures package { (ks : List PlainTerminal) (t u : PackageTree (Unit {0})) → Spells (package_parts t) ks []
         → Spells (package_parts u) ks [] → t ≡ u }
@@ -73,9 +75,9 @@ pub fn a_text_has_one_tree()
         → kept (annex_tree_parts t) ≡ kept (annex_tree_parts u) }
 {}
 
-/// The tokens of a text are written by one package, or one behaviour, at most, with its places. And
-/// terminals that are just those that a package keeps are written by the same package at their own
-/// places: so the canonical text of a package has its tree.
+/// The tokens of a text spell at most one package or behaviour with its places. If a list of terminals consists
+/// of the terminals that a package keeps, it spells the same package at its own places; so the canonical text
+/// of a package has a tree.
 pub fn one_tree_with_places()
     ensures package { (ss : List PlacedTerminal) (t u : PackageTree ℕ) → Written (package_parts t) ss []
         → Written (package_parts u) ss [] → t ≡ u }
@@ -85,8 +87,8 @@ pub fn one_tree_with_places()
         → Written (package_parts t) ss [] → Rising ss → kinds_of ts ≡ kept (package_parts t) → SamePackage t ts }
 {}
 
-/// The machine on a transition of the two counters, on `x := ;` and on the text's end, on a small
-/// package, and on parentheses that are nested as deep as may be and one deeper.
+/// The fates of a transition of the two counters, of `x := ;`, of an end of text after it, of a small package,
+/// and of parentheses that reach the nesting limit and exceed it by one.
 pub fn worked_fates()
     ensures transition { fate 1 99 (s.transition ∷ []) (numbered 0 (counting_kinds [])) ≡ finished }
     ensures ended { fate 1 99 (s.transition ∷ []) (numbered 0 (counting_kinds (mark k.Semicolon ∷ []))) ≡ finished }

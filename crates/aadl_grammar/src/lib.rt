@@ -1,13 +1,18 @@
-//! The grammar as a machine, and what both parsers read with.
+//! The grammar of packages and behaviours as a stack machine, and the functions that both parsers read
+//! terminals with.
 //!
-//! The machine is a stack of symbols that are wanted, and what each does at a terminal. The table says
-//! how a symbol may begin and what is wanted then; one terminal decides. The laws here say that the
-//! machine takes just the texts of the grammar, and that it stops at the first terminal that no text
-//! goes on with. So a parser that follows the machine needs no other proof of where a text is at fault.
+//! The state of the machine is a stack of expected symbols, the topmost first. The parse table lists, for each
+//! symbol, the terminals that it can begin with and the symbols that follow each of them, so one terminal of
+//! lookahead suffices. The laws of this crate prove that the machine accepts the texts of the grammar and no
+//! others, and that it stops at the first terminal at which no text of the grammar continues. A parser that is
+//! proved to follow the machine therefore needs no further proof about the position of a fault.
 //!
-//! A [`Reader`] holds the terminals of a text. Each function of the parsers reads one part of the
-//! grammar from a place on, and gives its tree with the place behind it, or the fault that the machine
-//! meets. Room says how many more openers may be open.
+//! A [`Reader`] holds the terminals of a text. Each parsing function reads one part of the grammar from an
+//! index on. It returns the tree of the part and the index of the next terminal, or the fault that the machine
+//! reports. The parameter `room` of a function is the number of openers that may still be open at the same
+//! time.
+//!
+//! This crate parses references, values and properties. The crates of the two parsers parse everything else.
 #![tactic(auto)]
 
 pub mod canonical_text_laws;

@@ -1,4 +1,4 @@
-//! Lists, read item by item.
+//! Parses lists, item by item.
 ghost use Rattle.std.specs.Prelude.{◌≡◌, [], ◌∷◌, MatchOption, None, flat_map};
 ghost use Rattle.aadl_tree.specs.SpellingParts.{Section, section_mark};
 ghost use Rattle.aadl_tree.specs.Declarations.{section_parts};
@@ -10,7 +10,8 @@ ghost use Rattle.aadl_grammar.specs.proof.ListAnswers.{ParsesMore};
 use crate::parse_input::{Parsed, Reader};
 use aadl_tree::Mark;
 
-/// Where the next item begins: behind its mark, or, where items have no mark before them, at a word.
+/// Returns the index at which the next item begins, or `None` if no item follows. An item begins after its mark
+/// or, if the items have no mark, at a word.
 fn next_item(reader: &Reader<'_>, at: usize, before: Option<Mark>) -> Option<usize>
     ensures { MatchOption result (NoneFollows before (here reader.now at))
         (λ start. Follows before (here reader.now at) (here reader.now start)) }
@@ -21,7 +22,8 @@ fn next_item(reader: &Reader<'_>, at: usize, before: Option<Mark>) -> Option<usi
     }
 }
 
-/// `{ mark item }`, or `{ item }` of items that begin with a word, behind what is found already.
+/// Parses `{ mark item }`, or `{ item }` for items that begin with a word, and appends the items to those
+/// already found.
 pub fn followers<T: Drop, F: Fn(usize) -> Parsed<T>>(
     reader: &Reader<'_>,
     at: usize,
@@ -42,7 +44,7 @@ pub fn followers<T: Drop, F: Fn(usize) -> Parsed<T>>(
     Ok((found, rest))
 }
 
-/// `[ keyword ( "none" ";" | item { item } ) ]` of items that begin with a word.
+/// Parses `[ keyword ( "none" ";" | item { item } ) ]` for items that begin with a word.
 pub fn section<T: Drop, F: Fn(usize) -> Parsed<T>>(
     reader: &Reader<'_>,
     at: usize,

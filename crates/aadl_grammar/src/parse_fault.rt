@@ -1,18 +1,18 @@
-//! Why tokens have no tree.
+//! The reason why tokens have no tree.
 
 use std::alloc::{AllocError, AllocFailed};
 use thiserror::Error;
 
-/// The fault at the least place, each `at` a byte offset.
+/// The first fault of a text; each `at` is a byte offset.
 #[derive(Clone, Copy, Debug, Error)]
 pub enum ParseFault {
-    /// No text of the grammar goes on with the token at `at`, or ends there.
+    /// No text of the grammar continues with the token at `at` or, at the end of the text, ends there.
     #[error("Syntax")]
     Syntax { at: usize },
     /// The opener at `at` is nested too deep.
     #[error("TooDeep")]
     TooDeep { at: usize },
-    /// There was not enough memory.
+    /// Out of memory.
     #[error("Memory")]
     Memory,
 }

@@ -1,5 +1,5 @@
-//! Reads the terminal at a place: a given keyword or symbol, a word, a number, a string or an annex that is not
-//! read.
+//! Reads the terminal at an index: a given keyword or symbol, a word, a number, a string, or an annex of
+//! another language.
 ghost use Rattle.std.specs.Prelude.{◌≡◌, [], true, MatchOption, MatchBool, IfOk, IfErr};
 ghost use Rattle.aadl_tree.specs.TerminalFaults as grammar;
 ghost use Rattle.aadl_tree.specs.Terminals.{whole, real, quoted, unread};
@@ -21,7 +21,7 @@ use aadl_tree::{Identifier, Mark, Sign, Spelling};
 use std::str;
 
 impl Reader<'_> {
-    /// The terminal at this number, and the number behind it.
+    /// Returns the terminal at an index, and the next index.
     fn first(&self, at: usize) -> Option<(Terminal, usize)>
         ensures { MatchOption result (here self.now at ≡ []) (λ x. IsFirst self.now at x.0 x.1) }
     {
@@ -38,7 +38,8 @@ impl Reader<'_> {
         between(self.text, terminal.start as usize, terminal.end as usize)
     }
 
-    /// Where the terminal at this number stands in the text, or where the text ends.
+    /// Returns the byte offset of the terminal at an index, or of the end of the text if there is no such
+    /// terminal.
     pub fn place(&self, at: usize) -> usize
         ensures { result ≡ grammar.place self.now.end (here self.now at) }
     {
@@ -48,7 +49,7 @@ impl Reader<'_> {
         }
     }
 
-    /// The number behind the keyword or symbol, where it comes first.
+    /// Returns the next index if the keyword or symbol `mark` is at this index.
     pub fn take(&self, at: usize, mark: Mark) -> Option<usize>
         ensures { MatchOption result (Misses (the mark) (here self.now at))
             (λ next. AtMark mark (here self.now at) (here self.now next)) }
@@ -60,7 +61,7 @@ impl Reader<'_> {
         }
     }
 
-    /// Whether a word comes first.
+    /// Returns whether a word is at this index.
     pub fn is_word(&self, at: usize) -> bool
         ensures { MatchBool result (StartsWord (here self.now at)) (Misses a_word (here self.now at)) }
     {
@@ -73,7 +74,7 @@ impl Reader<'_> {
         }
     }
 
-    /// The whole number that comes first, and the number behind it.
+    /// Returns the whole number at this index, and the next index.
     pub fn whole(&self, at: usize) -> Option<(i64, usize)>
         ensures { MatchOption result (Misses a_whole (here self.now at))
             (λ x. At (whole x.0) (here self.now at) (here self.now x.1)) }
@@ -85,7 +86,7 @@ impl Reader<'_> {
         }
     }
 
-    /// The real that comes first, and the number behind it.
+    /// Returns the bytes of the real at this index, and the next index. Errors: `Memory`.
     pub fn real(&self, at: usize) -> Result<Option<(Vec<u8>, usize)>, ParseFault>
         ensures ok { IfOk result (λ o. MatchOption o (Misses a_real (here self.now at))
             (λ x. At (real x.0.items) (here self.now at) (here self.now x.1))) }
@@ -103,7 +104,7 @@ impl Reader<'_> {
         }
     }
 
-    /// The string that comes first, and the number behind it.
+    /// Returns the bytes of the string at this index, and the next index. Errors: `Memory`.
     pub fn quoted(&self, at: usize) -> Result<Option<(Vec<u8>, usize)>, ParseFault>
         ensures ok { IfOk result (λ o. MatchOption o (Misses a_quoted (here self.now at))
             (λ x. At (quoted x.0.items) (here self.now at) (here self.now x.1))) }
@@ -121,7 +122,7 @@ impl Reader<'_> {
         }
     }
 
-    /// The annex of another language that comes first, and the number behind it.
+    /// Returns the bytes of the annex of another language at this index, and the next index. Errors: `Memory`.
     pub fn unread(&self, at: usize) -> Result<Option<(Vec<u8>, usize)>, ParseFault>
         ensures ok { IfOk result (λ o. MatchOption o (Misses an_unread (here self.now at))
             (λ x. At (unread x.0.items) (here self.now at) (here self.now x.1))) }
@@ -139,7 +140,7 @@ impl Reader<'_> {
         }
     }
 
-    /// The spelling of a word.
+    /// The spelling of a word. Errors: `Memory`.
     fn spelling(&self, word: Terminal) -> Result<Spelling, ParseFault>
         requires { is_word_at self.now.text.now word ≡ true }
         ensures ok { IfOk result (λ found. found ≡ between self.now.text.now word.start word.end) }
@@ -149,7 +150,7 @@ impl Reader<'_> {
         Ok(Spelling::from_str(self.alloc, text)?)
     }
 
-    /// The word that comes first, and the number behind it.
+    /// Returns the word at this index, and the next index. Errors: `Memory`.
     pub fn word(&self, at: usize) -> Result<Option<(Identifier, usize)>, ParseFault>
         ensures ok { IfOk result (λ o. MatchOption o (Misses a_word (here self.now at))
             (λ x. AtWord (identifier_view kept_place x.0) (here self.now at) (here self.now x.1))) }
@@ -168,7 +169,7 @@ impl Reader<'_> {
         }
     }
 
-    /// The number behind this keyword or symbol, which has to come first.
+    /// Returns the next index. Errors: `Syntax` unless the keyword or symbol `mark` is at this index.
     pub fn expect(&self, at: usize, mark: Mark) -> Result<usize, ParseFault>
         ensures { Expects self.now mark at result }
     {
@@ -178,7 +179,7 @@ impl Reader<'_> {
         }
     }
 
-    /// Whether this keyword comes first, and the number behind it, if it does.
+    /// Returns whether the keyword `mark` is at this index, and the index after it if it is, else this index.
     pub fn has(&self, at: usize, mark: Mark) -> (bool, usize)
         ensures { IsMarked mark result.0 (here self.now at) (here self.now result.1) }
     {
@@ -188,7 +189,7 @@ impl Reader<'_> {
         }
     }
 
-    /// The sign that comes first, and the number behind it.
+    /// Returns the sign at this index, and the next index.
     pub fn sign(&self, at: usize) -> Option<(Sign, usize)>
         ensures { MatchOption result (MissAll (rows s.terms) (here self.now at))
             (λ x. AtMark (sign_mark x.0) (here self.now at) (here self.now x.1)) }
@@ -202,7 +203,8 @@ impl Reader<'_> {
         None
     }
 
-    /// The room behind the opener that stands at this number.
+    /// Returns the room inside the opener at this index. Errors: `TooDeep` if there is no room for another
+    /// opener.
     pub fn deeper(&self, at: usize, room: usize) -> Result<usize, ParseFault>
         ensures { Deepens room (grammar.place self.now.end (here self.now at)) result }
     {

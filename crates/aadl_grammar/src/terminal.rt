@@ -1,4 +1,4 @@
-//! Terminals: tokens, and whether each is a keyword.
+//! Terminals: tokens that are classified as keywords or other words.
 ghost use Rattle.std.specs.Prelude.{◌≡◌, IfOk, All};
 ghost use Rattle.aadl_lex.specs.proof.TokenSpellings.{IsWordAt};
 ghost use Rattle.aadl_lex.specs.TokensAndFirstFaults.{bytes_of};
@@ -11,12 +11,12 @@ use aadl_lex::{Token, TokenKind};
 use aadl_tree::Mark;
 use std::alloc::{AllocError, Global};
 
-/// What a terminal is. What it says otherwise stands in the text.
+/// The class of a terminal. The text has its further content, such as the spelling of a word.
 #[derive(Clone, Copy)]
 pub enum TerminalClass {
-    /// A word that is no keyword.
+    /// A word that is not a keyword.
     Word,
-    /// A whole number, by its value.
+    /// A whole number and its value.
     Whole(i64),
     /// A real.
     Real,
@@ -26,12 +26,12 @@ pub enum TerminalClass {
     Unread,
     /// A keyword or a symbol.
     Mark(Mark),
-    /// Bytes that are no symbol. No text has them.
+    /// Bytes that are not a symbol. No text has such a terminal.
     Other,
 }
 
-/// A terminal: the bytes of the text from `start` up to `end`. Its places have 32 bits, so that it
-/// takes 24 bytes.
+/// A terminal: the bytes of the text from `start` up to, but not including, `end`. Offsets have 32 bits, so a
+/// terminal takes 24 bytes.
 #[derive(Clone, Copy)]
 pub struct Terminal {
     pub kind: TerminalClass,
@@ -39,7 +39,7 @@ pub struct Terminal {
     pub end: u32,
 }
 
-/// The bytes of the text between two places.
+/// The bytes of the text between two byte offsets.
 pub(crate) fn between(text: &[u8], start: usize, end: usize) -> &[u8]
     ensures { result.now ≡ between text.now start end }
 {
@@ -70,7 +70,7 @@ fn terminal_kind(inside: bool, text: &[u8], token: Token) -> TerminalClass
     }
 }
 
-/// A place in 32 bits. For a text of 4 GiB or more there is not enough memory.
+/// Converts a byte offset to 32 bits. Errors: `AllocError` for a text of 4 GiB or more.
 pub fn narrow(place: usize) -> Result<u32, AllocError>
     ensures { IfOk result (λ narrow. narrow ≡ place) }
 {
@@ -80,7 +80,7 @@ pub fn narrow(place: usize) -> Result<u32, AllocError>
     Ok(place as u32)
 }
 
-/// The terminals of the tokens, from inside a behaviour annex or outside on.
+/// Returns the terminals of the tokens. `inside` states whether the first token is inside a behaviour annex.
 #[inline(never)]
 pub fn resolve(
     alloc: Global,

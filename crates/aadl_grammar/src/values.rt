@@ -178,7 +178,7 @@ fn values(reader: &Reader<'_>, at: usize, room: usize) -> Parsed<Vec<Value>>
     Ok((found, end))
 }
 
-/// A value that begins with a bracket or a keyword; none where another one has to come.
+/// A value that begins with a bracket or a keyword, or `None` if another kind of value must follow.
 #[cycle(value)]
 fn value(reader: &Reader<'_>, at: usize, room: usize) -> Parsed<Value>
     ensures { Parses reader.now (Room room) (s.value ∷ []) (λ x. value_parts (value_view kept_place x)) at result }
@@ -207,7 +207,7 @@ fn value(reader: &Reader<'_>, at: usize, room: usize) -> Parsed<Value>
     plain_value(reader, at)
 }
 
-/// A string, a name, or a number with its unit, or a range of two.
+/// A string, a name, a number with an optional unit, or a range of two such numbers.
 fn plain_value(reader: &Reader<'_>, at: usize) -> Parsed<Value>
     requires { MissAll (on k.ParenOpen [] ∷ on k.BracketOpen [] ∷ on k.Reference [] ∷ on k.Classifier [] ∷ [])
         (here reader.now at) }

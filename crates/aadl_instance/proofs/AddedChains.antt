@@ -1,5 +1,5 @@
--- The chain that a walk back finds is added to those found before it. For the functions of `chain_search` that add
--- chains and taps.
+-- The chain that a backward trace finds is added to the chains found before it. For the functions of `chain_search`
+-- that add chains and taps.
 use Rattle.std.proofs.Common.{◌≡◌, ◌⊎◌, inl, inr, ℕ, ◌+◌, true, false, List, [], ◌∷◌, ◌++◌, slice_get, AllPairs, Some}
 use Rattle.std.proofs.Common.{None, refl, sym, ap, subst, ◌∙◌}
 use Rattle.std.proofs.lemmas.Bool.{true≢false}
@@ -21,7 +21,7 @@ use Rattle.aadl_instance.proofs.DeclaredEndPorts.{begins_there}
 use Rattle.aadl_instance.proofs.ChainsSoFar.{into_skip, into_link, into_feed, in_by, taps_more, taps_skip, not_root}
 
 module _ (tree : PackageTree ℕ) (root : ℕ) where
-  -- ---- where routes begin
+  -- ---- the first ports of routes
   begins_of : (begin : ChainStart) (ends : CarriedChain) → ends.from ≡ begin_port begin → IsOfKind tree root begin ends
       → IsChainStart tree root begin
   begins_of (begins.Root port) ends e f =

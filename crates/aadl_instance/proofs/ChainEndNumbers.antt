@@ -1,4 +1,4 @@
--- Ends of chains, as an instance shows them: the numbers of their threads, by paths, and of their ports.
+-- The ends of connection chains in an instance model: the numbers of their threads, by paths, and of their ports.
 use Rattle.std.proofs.Common.{◌≡◌, ◌⊎◌, inl, inr, ℕ, ◌+◌, ◌<◌, ◌≤◌, Bool, true, false, cond, ◌||◌, List, [], ◌∷◌}
 use Rattle.std.proofs.Common.{length, map, reverse, take, slice_get, get_or, AllPairs, Option, Some, None, count_by}
 use Rattle.std.proofs.Common.{Vec, Global, refl, sym, ap, subst, ◌∙◌, arith}

@@ -1,4 +1,4 @@
--- The loops over threads and ports find all links, feeds and taps, in the order of what they go into.
+-- The loops over threads and ports find all links, feeds and taps, in the order of their targets.
 use Rattle.std.proofs.Common.{◌≡◌, ◌⊎◌, inl, inr, ℕ, ◌+◌, ◌<◌, ◌≤◌, true, false, ◌&&◌, ◌||◌, nat_lt, List, [], ◌∷◌}
 use Rattle.std.proofs.Common.{◌++◌, length, reverse, slice_get, get_or, Contains, AllPairs, Some, refl, sym, ap, subst}
 use Rattle.std.proofs.Common.{◌∙◌, arith}
@@ -75,7 +75,7 @@ module _ (paths : List (List ℕ)) where
   all_passed : (to : Port) → Contains paths to.path → IsPassed paths (length paths) 0 to
   all_passed to h = inl (h.0, h.1, slice_get-from_Contains paths to.path h)
 
--- ---- what is passed comes before
+-- ---- passed targets come first
 
 first_before : (a b : CarriedChain) → PathBefore a.to.path b.to.path → TargetBefore a b
 first_before a b e = ap (λ t. t || (same_path a.to.path b.to.path && nat_lt a.to.port b.to.port)) e
@@ -209,7 +209,7 @@ module _ (tree : PackageTree ℕ) (root : ℕ) (paths : List (List ℕ)) where
       to : Port
       to = record { path = path; port = port }
 
-      -- no chain of a kind comes into the port
+      -- no chain of a kind leads into the port
       module _ (Kind : CarriedChain → Type 0)
           (none : (x : CarriedChain) → Kind x → x.to ≡ record { path = path; port = port } → ⊥) where
         still : (x : CarriedChain) → Kind x → IsPassed paths node port x.to ⊎ (x.to ≡ record { path = path; port = port })
@@ -226,7 +226,7 @@ module _ (tree : PackageTree ℕ) (root : ℕ) (paths : List (List ℕ)) where
             (λ x h. (h.0, port_passed paths node port x.to h.1))
             (λ x h. (h.0, still x h.0 (passed_port paths node port path at x.to h.1))) s
 
-      -- one comes
+      -- one chain does
       module _ (Kind : CarriedChain → Type 0) (one : CarriedChain) (is : Kind one)
           (there : one.to ≡ record { path = path; port = port })
           (only : (x : CarriedChain) → Kind x → x.to ≡ record { path = path; port = port } → one ≡ x) where

@@ -1,4 +1,4 @@
--- Ports that connections go out of and into are declared.
+-- The ports at the ends of connections are declared.
 use Rattle.std.proofs.Common.{◌≡◌, ℕ, ◌<◌, true, List, [], ◌∷◌, length, slice_get, Contains, Option, Some, None}
 use Rattle.std.proofs.Common.{option_map, refl, sym, ap, subst, ◌∙◌, arith}
 use Rattle.std.specs.Option.{option_and_then}
@@ -22,7 +22,7 @@ use Rattle.aadl_instance.specs.proof.ChainsSoFar.{HasPort}
 named_within : (ports : List (Feature ℕ)) (name : List ℕ) (p : ℕ) → port_named ports name ≡ Some p → p < length ports
 named_within ports name p e = let lt = position_from-within _ 0 p ports e in omega arith
 
--- a port that goes in is declared
+-- an in port is declared
 in_within_by : (ports : List (Feature ℕ)) (p : ℕ) (o : Option (Feature ℕ)) → slice_get ports p ≡ o
     → goes_in (option_map (λ f. f.direction) o) ≡ true
     → p < length ports

@@ -1,5 +1,4 @@
--- How many names the lists of some declarations have, counted up to a limit: for `variables_up_to` and
--- `states_up_to`.
+-- The number of names in the lists of some declarations, up to a limit: for `variables_up_to` and `states_up_to`.
 use Rattle.std.proofs.Common.{◌≡◌, ℕ, ◌+◌, ◌<◌, ◌≤◌, min, List, [], ◌∷◌, ◌++◌, length, map, take, get_or, sym, ap, ◌∙◌}
 use Rattle.std.proofs.Common.{arith}
 use Rattle.std.specs.List.{flat_map}

@@ -1,4 +1,4 @@
--- Paths in depth-first order of declaration, and the number of a thread as how many come before it.
+-- Paths in depth-first order of declaration; the number of a thread is the number of earlier ones.
 use Rattle.std.proofs.Common.{◌≡◌, ◌⊎◌, inl, inr, ℕ, ◌<◌, ◌≤◌, Bool, true, false, ◌&&◌, ◌||◌, nat_eq, nat_lt, List, []}
 use Rattle.std.proofs.Common.{◌∷◌, length, reverse, drop, slice_get, get_or, AllPairs, Contains, Some, Vec, Global}
 use Rattle.std.proofs.Common.{refl, sym, ap, subst, ◌∙◌, arith}
@@ -11,7 +11,7 @@ use Rattle.aadl_uses.specs.ThreadsBelow.{path_before, PathBefore}
 use Rattle.aadl_uses.proofs.PathOrder.{never_before}
 use Rattle.aadl_instance.specs.proof.ChainsSoFar.{paths_of}
 
--- ---- where a comparison ends
+-- ---- the end of a comparison
 pub ended_before : (p q : List ℕ) (i : ℕ) → length p ≤ i → i < length q → path_before (drop i p) (drop i q) ≡ true
 ended_before p q i ended within =
     ap (λ l. path_before l (drop i q)) (drop_all i p ended) ∙ ap (path_before []) (drop_more q i 0 within)

@@ -1,4 +1,4 @@
--- A fault found in a line of the rules is the first one if the lines before find nothing.
+-- A fault in a line of the rules is the first one if the earlier lines have no findings.
 use Rattle.std.proofs.Common.{◌≡◌, ◌⊎◌, inl, inr, ℕ, zero, suc, ◌+◌, ◌-◌, ◌<◌, ◌≤◌, false, List, [], ◌∷◌, get_or}
 use Rattle.std.proofs.Common.{Contains, Some, None, Result, Ok, Err, MatchResult, refl, sym, ap, subst, ◌∙◌, arith}
 use Rattle.std.proofs.lemmas.Bool.{cases_order}
@@ -26,7 +26,7 @@ limit_lines Variables = omega arith
 limit_lines States = omega arith
 limit_lines Path = omega arith
 
--- each has a line of its own
+-- each limit has its own line
 limit_of : ℕ → Limit
 limit_of zero = Components
 limit_of (suc zero) = Links
@@ -53,7 +53,7 @@ first_by : (P Q : PackageFault → Type 0) (fault : PackageFault) → ((f : Pack
 first_by P Q fault to from x = record { found = to fault x.found; first = λ other q. x.first other (from other q) }
 
 module _ (tree : PackageTree ℕ) (root : ℕ) where
-  -- a limit that is passed, at its line and by its name
+  -- an exceeded limit, at its line and with its name
   abbrev Passed : ℕ → List ℕ → Type 0
   Passed line what = (limit : Limit) × (line ≡ line_of limit) × (what ≡ name_of limit) × IsExceeded tree root limit
 
@@ -156,7 +156,7 @@ module _ (tree : PackageTree ℕ) (root : ℕ) where
       by (inr (inl lt)) = inl lt
       by (inr (inr gt)) = inr (omega arith)
 
-  -- no limit is passed
+  -- no limit is exceeded
   pub all_silent : IsSilentTo tree root 5 → ((limit : Limit) → IsExceeded tree root limit → ⊥)
       → (line : ℕ) (fault : PackageFault) → FoundIn tree root line fault → ⊥
   all_silent before none line fault h = by (split line)
@@ -271,7 +271,7 @@ last_line Variables = omega arith
 last_line States = omega arith
 last_line Path = omega arith
 
--- what is before the next one
+-- the limits before the next one
 pub passed_next : (P : Limit → Type 0) (limit : Limit) (i : ℕ) → line_of limit ≡ 5 + i
     → ((other : Limit) → line_of other < 5 + i → P other → ⊥) → (P limit → ⊥)
     → (other : Limit) → line_of other < 5 + (i + 1) → P other → ⊥
@@ -282,7 +282,7 @@ passed_next P limit i is before here other lt p = by (cases_order (line_of other
     by (inr (inl less)) = before other (omega arith) p
     by (inr (inr more)) = absurd (omega arith)
 
--- ---- what calls give
+-- ---- results of calls
 pub matched : {T E : Type 0} (P P' : T → Type 0) (Q Q' : E → Type 0) (r : Result T E) → ((x : T) → P x → P' x)
     → ((e : E) → Q e → Q' e) → MatchResult r P Q
     → MatchResult r P' Q'

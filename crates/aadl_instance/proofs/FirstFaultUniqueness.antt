@@ -1,4 +1,4 @@
--- A package has at most one first fault: its line, place and number are fixed. The claim `one_first_fault`.
+-- A package has at most one first fault: its line, position and number are determined. The law `one_first_fault`.
 use Rattle.std.proofs.Common.{◌≡◌, ℕ, ◌<◌, false, ◌&&◌, ◌||◌, nat_eq, nat_lt, subst, arith, inl, inr, ◌⊎◌}
 use Rattle.std.proofs.lemmas.Bool.Decides.{nat_tests}
 use Rattle.std.proofs.lemmas.Bool.{cases_order}

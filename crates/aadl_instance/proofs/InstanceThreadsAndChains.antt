@@ -1,4 +1,4 @@
--- A package without a fault has threads and chains as its instance shows them. For `instance_of`.
+-- The threads and chains of a package without faults are the ones of its instance model. For `instance_of`.
 use Rattle.std.proofs.Common.{◌≡◌, ◌⊎◌, inl, inr, ℕ, ◌<◌, ◌≤◌, List, [], ◌∷◌, length, get_or, map, reverse, codes, Some}
 use Rattle.std.proofs.Common.{Vec, Global, refl, sym, ap, subst, ◌∙◌, All}
 use Rattle.std.specs.Prelude.{IsSome}
@@ -108,7 +108,7 @@ module _ (tree : PackageTree ℕ) (checked : Checked) (is : IsChecked tree check
       refl,
     )
 
--- each path leads somewhere
+-- each path leads to an implementation
 pub all_stand : (tree : PackageTree ℕ) (root : ℕ) (threads : List (Vec ℕ Global))
     → Lists (IsThreadAt tree root) PathBefore (paths_of threads)
     → All (λ path. IsSome (number_at_path tree root (reverse path.items))) threads

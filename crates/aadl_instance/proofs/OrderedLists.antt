@@ -1,4 +1,4 @@
--- A list of all that have a property, in order, gets one more item at its end.
+-- A sorted list of all elements with a property, after one more element at its end.
 use Rattle.std.proofs.Common.{◌≡◌, ◌⊎◌, inl, inr, List, [], ◌∷◌, ◌++◌, get_or, subst, Contains, arith}
 use Rattle.std.proofs.lemmas.List.Elements.{All-contains, Contains-get_or, Contains-append_left, Contains-push}
 use Rattle.std.proofs.lemmas.List.Elements.{Contains-push_cases}

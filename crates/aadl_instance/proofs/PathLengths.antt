@@ -1,4 +1,4 @@
--- The length of a path in bytes: of each name its bytes, and one for the dot. For the limit of lengths of paths.
+-- The length of a path in bytes: the length of each name, and one for each dot. For the limit on the length of paths.
 use Rattle.std.proofs.Common.{◌≡◌, ◌↔◌, ℕ, zero, suc, ◌+◌, ◌<◌, true, false, List, [], ◌∷◌, ◌++◌, length, map, reverse}
 use Rattle.std.proofs.Common.{codes, Option, Some, None, get_or, slice_get, refl, sym, ap, ◌∙◌, arith}
 use Rattle.std.specs.Option.{option_and_then, option_map_or}

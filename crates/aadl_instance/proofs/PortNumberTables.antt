@@ -1,4 +1,4 @@
--- A port's number among the ports of its type that go the same way, in or out, as the code counts them.
+-- The number of a port among the ports of its type with the same direction, as the code counts them.
 use Rattle.std.proofs.Common.{◌≡◌, ◌⊎◌, inl, inr, ℕ, ◌+◌, ◌<◌, ◌≤◌, Bool, true, false, cond, List, [], ◌∷◌, ◌++◌}
 use Rattle.std.proofs.Common.{length, map, take, get_or, slice_get, count_by, Some, None, refl, sym, ap, subst, ◌∙◌}
 use Rattle.std.proofs.Common.{arith}
@@ -102,7 +102,7 @@ rows_whole tree count rows all each (Some n) port lt = by (cases_lt n count)
         subst (λ o. port < length (features_of (type_in o))) past lt in
         absurd (omega (arith, none))
 
--- a number is no greater than its port's
+-- a number is at most its port's
 pub few_before : (ports : List (Feature ℕ)) (port : ℕ) → port ≤ length ports → number_among ports port ≤ port
 few_before ports port within =
     let counted = count_by-le-length (goes_as (slice_get ports port)) (take port ports) in

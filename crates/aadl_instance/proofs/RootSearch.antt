@@ -1,4 +1,4 @@
--- The loop over declarations that looks for the root.
+-- The loop over declarations that searches for the root.
 use Rattle.std.proofs.Common.{◌≡◌, ℕ, ◌+◌, ◌<◌, ◌≤◌, Bool, true, false, ◌&&◌, cond, List, [], length, map, drop, get_or}
 use Rattle.std.proofs.Common.{add-one, drop-cons, Some, None, refl, sym, ap, ◌∙◌, arith}
 use Rattle.std.proofs.lemmas.Bool.{true≢false}

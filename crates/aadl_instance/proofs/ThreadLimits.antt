@@ -1,4 +1,4 @@
--- Threads that are in use below a root are those at paths from it.
+-- Threads in use below a root are the threads at paths from it.
 use Rattle.std.proofs.Common.{◌≡◌, ◌↔◌, ℕ, ◌<◌, ◌≤◌, true, List, length, Option, Some, None, slice_get, Contains, refl}
 use Rattle.std.proofs.Common.{sym, ap, ◌∙◌, arith}
 use Rattle.std.specs.Option.{option_and_then, option_map_or}
@@ -53,7 +53,7 @@ some_by tree used part n h (Some x) is thread over =
       over = over;
     }
 
--- this one has too many
+-- this one exceeds the limit
 pub some_over : (tree : PackageTree ℕ) (used : List ℕ) (part : ThreadPart) (n : ℕ) → Contains used n
     → is_thread_in (implementation_at tree n) ≡ true → most part < count_at tree n part → HasTooMany tree used part
 some_over tree used part n h thread over = some_by tree used part n h (implementation_at tree n) refl thread over

@@ -1,4 +1,4 @@
--- How many variables and states a thread has, of which it may have only a limited number.
+-- The numbers of variables and states of a thread, which are limited.
 use Rattle.std.specs.Prelude.{ℕ, List, length, Option, Some, None}
 use Rattle.aadl_tree.specs.Annexes.{AnnexTree}
 use Rattle.aadl_tree.specs.Declarations.{Implementation}
@@ -8,7 +8,7 @@ abbrev pub count_in : {X : Type 0} → (AnnexTree ℕ → List X) → Option (An
 count_in of None = 0
 count_in of (Some tree) = length (of tree)
 
--- those of the first behaviour of an implementation
+-- the variables and states of the first behaviour of an implementation
 abbrev pub variable_count : Implementation ℕ → ℕ
 variable_count x = count_in variables_of (first_behaviour (behaviours x.annexes))
 

@@ -1,4 +1,4 @@
--- What is found in a package with a root, by line, and its first fault.
+-- The faults of a package with a root, by line, and its first fault.
 use Rattle.std.specs.Prelude.{◌≡◌, ◌⊎◌, ℕ, ◌<◌, true, List, length, codes, Contains, Some, None}
 use Rattle.pals_base.specs.declared.limits.TheConstants.{COMPONENTS, LINKS, PORTS, VARIABLES, STATES, PATH_BYTES}
 use Rattle.aadl_tree.specs.Declarations.{Implementation, PackageTree}
@@ -14,7 +14,7 @@ use Rattle.aadl_uses.specs.ThreadLocations.{ThreadWith, spelled_path}
 use Rattle.aadl_instance.specs.BehaviourSizes.{variable_count, state_count}
 use Rattle.aadl_chains.specs.LinksFeedsAndTaps.{IsLink, OtherTarget}
 
--- there is more of something than a design may have, at the line of its limit
+-- a design exceeds a limit; the fault is at the line of the limit
 abbrev pub IsOver : PackageTree ℕ → ℕ → ℕ → List ℕ → Type 0
 IsOver tree root line what =
     ((line ≡ 5) × (what ≡ codes "components") × MoreThan COMPONENTS (IsThreadAt tree root) PathBefore)
@@ -32,7 +32,7 @@ FoundIn tree root line fault =
     ⊎ ((line ≡ 4) × IsEndFault tree root fault)
     ⊎ ((what : List ℕ) × IsOver tree root line what × (fault ≡ TooMany what))
 
--- line 1, and the lines of a package that has the root
+-- line 1, and the lines of a package with the root
 abbrev pub Found : PackageTree ℕ → List ℕ → ℕ → PackageFault → Type 0
 Found tree name line fault =
     ((line ≡ 1) × (root_number tree name ≡ None) × (fault ≡ NoRoot))
@@ -41,10 +41,10 @@ Found tree name line fault =
 abbrev pub IsFault : PackageTree ℕ → List ℕ → PackageFault → Type 0
 IsFault tree name fault = IsFirstByLine (Found tree name) fault
 
--- in the lines before one nothing is found
+-- the earlier lines have no findings
 abbrev pub IsSilentTo : PackageTree ℕ → ℕ → ℕ → Type 0
 IsSilentTo tree root end = (line : ℕ) (fault : PackageFault) → line < end → FoundIn tree root line fault → ⊥
 
--- it is the number of a system's implementation
+-- it is the number of a system implementation
 abbrev pub IsRoot : PackageTree ℕ → ℕ → Type 0
 IsRoot tree root = (x : Implementation ℕ) × (implementation_at tree root ≡ Some x) × (is_system x.category ≡ true)

@@ -1,5 +1,5 @@
--- The instance of a package by numbers, as the type `Instance` shows it: threads with the texts of their paths, and
--- chains between numbered threads and ports.
+-- The instance model of a package by numbers, as the type `Instance` represents it: threads with the texts of their
+-- paths, and chains between numbered threads and ports.
 use Rattle.std.specs.Prelude.{◌≡◌, ℕ, Bool, false, not, List, [], ◌∷◌, map, take, count_by, Option, Some, None}
 use Rattle.std.specs.Prelude.{slice_get}
 use Rattle.std.specs.Option.{option_map_or}
@@ -32,7 +32,7 @@ abbrev pub goes_as : Option (Feature ℕ) → Feature ℕ → Bool
 goes_as None other = false
 goes_as (Some f) other = same_direction f.direction other.direction
 
--- the number of a port among the ports that go as it does
+-- the number of a port among the ports of its direction
 abbrev pub number_among : List (Feature ℕ) → ℕ → ℕ
 number_among ports port = count_by (goes_as (slice_get ports port)) (take port ports)
 
@@ -43,7 +43,7 @@ abbrev pub port_name : Option (Feature ℕ) → List ℕ
 port_name None = []
 port_name (Some f) = f.name.spelling
 
--- the root has the empty path, and threads the others
+-- the root has the empty path, and threads have all other paths
 abbrev pub end_by : PackageTree ℕ → ℕ → List (List ℕ) → Port → List ℕ → ChainEnd
 end_by tree root threads p [] = Root (port_name (port_of tree root p))
 end_by tree root threads p (s ∷ path) = Thread (node_at threads p.path) (port_number tree root p)
@@ -63,7 +63,7 @@ chain_in tree root threads ends =
 abbrev pub chain_at : PackageTree ℕ → InstanceParts → CarriedChain → Chain
 chain_at tree parts = chain_in tree parts.root parts.threads
 
--- the instance of a flattened design of the package
+-- the instance model of a flattened design of the package
 pub record IsInstance (tree : PackageTree ℕ) (root : ℕ) (threads : List ThreadAt)
     (links feeds taps : List Chain) : Type 0 where
   pub name : List ℕ

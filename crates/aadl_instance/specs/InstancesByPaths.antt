@@ -1,5 +1,5 @@
--- The instance of a package by paths: its root, its threads by their paths, and its links, feeds and taps between
--- ports at paths.
+-- The instance model of a package by paths: its root, its threads by their paths, and its links, feeds and taps
+-- between ports at paths.
 use Rattle.std.specs.Prelude.{◌≡◌, ℕ, List, Some}
 use Rattle.aadl_tree.specs.Declarations.{PackageTree}
 use Rattle.aadl_names.specs.declared.fault.PackageFault.{PackageFault}
@@ -9,7 +9,7 @@ use Rattle.aadl_chains.specs.LinksFeedsAndTaps.{CarriedChain, IsLink, IsFeed, Is
 use Rattle.aadl_instance.specs.Faults.{Found}
 pub use Rattle.aadl_instance.specs.Faults.{IsOver, Found, IsFault}
 
--- what the flattened design has: the root's number, its threads by their paths, and its chains
+-- the flattened design: the root's number, its threads by their paths, and its chains
 pub record InstanceParts : Type 0 where
   pub root : ℕ
   pub threads : List (List ℕ)
@@ -17,7 +17,7 @@ pub record InstanceParts : Type 0 where
   pub feeds : List CarriedChain
   pub taps : List CarriedChain
 
--- nothing is found, and these are the parts
+-- there are no findings, and these are the parts
 pub record IsFlat (tree : PackageTree ℕ) (name : List ℕ) (parts : InstanceParts) : Type 0 where
   pub sound : (line : ℕ) (fault : PackageFault) → Found tree name line fault → ⊥
   pub root : root_number tree name ≡ Some parts.root

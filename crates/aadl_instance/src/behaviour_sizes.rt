@@ -1,4 +1,4 @@
-//! How many variables and states an implementation declares, counted up to a limit.
+//! The numbers of variables and states of an implementation, counted up to a limit.
 ghost use Rattle.std.specs.Prelude.{◌≡◌, length, min};
 ghost use Rattle.aadl_tree.specs.Names.{identifiers};
 ghost use Rattle.aadl_tree.specs.proof.PlaceMaps.{kept_place};
@@ -11,7 +11,7 @@ use aadl_uses::marked_counts::add_up_to;
 use name_faults::behaviour_sections::{states_in, variables_in};
 use name_faults::first_behaviour;
 
-/// The number of variables.
+/// Returns the number of variables, or `limit` if there are more.
 pub fn variables_up_to(x: &Implementation, limit: usize) -> usize
     ensures { result ≡ min limit (variable_count (implementation_view kept_place x.now)) }
 {
@@ -24,7 +24,7 @@ pub fn variables_up_to(x: &Implementation, limit: usize) -> usize
     count
 }
 
-/// The number of states.
+/// Returns the number of states, or `limit` if there are more.
 pub fn states_up_to(x: &Implementation, limit: usize) -> usize
     ensures { result ≡ min limit (state_count (implementation_view kept_place x.now)) }
 {
@@ -37,7 +37,7 @@ pub fn states_up_to(x: &Implementation, limit: usize) -> usize
     count
 }
 
-// How many words a list of them has.
+// The number of words in a list.
 fn word_count(words: &Identifiers) -> usize
     ensures { result ≡ length (identifiers (identifiers_view kept_place words.now)) }
 {

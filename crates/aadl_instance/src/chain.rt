@@ -1,13 +1,13 @@
-//! The chains of an instance. Numbers count in the text's order, from 0.
+//! The connection chains of an instance model. Numbers count in the order of the text, from 0.
 
 use pals_base::{ItemList, NodeNo, Text};
 
-/// Connections, one behind the other, from where a message begins to where it ends.
+/// A connection chain: consecutive connections from the first port of a message to its last port.
 pub struct Chain {
     pub from: ChainEnd,
     pub to: ChainEnd,
-    /// The connection whose properties are the chain's: the one between two subcomponents, or, of a
-    /// feed or a tap, the one in the root's implementation.
+    /// The connection whose properties apply to the chain: the one between two subcomponents or, for a feed or
+    /// a tap, the one in the root's implementation.
     pub carrier: ConnectionAt,
 }
 
@@ -21,7 +21,7 @@ impl Drop for Chain {
     }
 }
 
-/// Where a chain begins or ends.
+/// The first or last port of a connection chain.
 #[derive(Drop)]
 pub enum ChainEnd {
     /// A port of a thread, by its number among the thread's in ports or out ports.
@@ -30,7 +30,7 @@ pub enum ChainEnd {
     Root { name: Text },
 }
 
-/// A connection: the number of the declaration in which it stands, and its own number there.
+/// A connection: the number of the declaration that contains it, and its own number there.
 #[derive(Clone, Copy)]
 pub struct ConnectionAt {
     pub declaration: usize,

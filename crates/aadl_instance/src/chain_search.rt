@@ -1,4 +1,4 @@
-//! The links, feeds and taps of a package that has no fault.
+//! The links, feeds and taps of a package without faults.
 ghost use Rattle.std.specs.Prelude.{◌≡◌, ◌+◌, true, [], reverse, IfOk, OnOk};
 ghost use Rattle.aadl_chains.specs.proof.PortsJoinedInside.{is_in_at};
 ghost use Rattle.aadl_chains.specs.LinksFeedsAndTaps.{IsLink, IsFeed, IsTap, TargetBefore, PortBefore};
@@ -15,16 +15,16 @@ use aadl_uses::standing;
 use pals_base::{ItemList, NodeNo};
 use std::alloc::{AllocError, Global};
 
-/// The chains into threads.
+/// The connection chains into threads.
 #[derive(Drop)]
 pub struct Incoming {
-    /// From threads.
+    /// The chains from threads.
     pub links: ItemList<Chain>,
-    /// From the root.
+    /// The chains from the root.
     pub feeds: ItemList<Chain>,
 }
 
-/// All links and feeds, in order of their targets.
+/// Returns all links and feeds, in the order of their targets. Errors: out of memory.
 pub fn incoming_of(alloc: Global, network: &ChainSearchContext<'_>) -> Result<Incoming, AllocError>
     requires { IsReady network.now }
     ensures links { IfOk result (λ incoming. Shows network.now IsLink TargetBefore incoming.links) }
@@ -46,7 +46,7 @@ pub fn incoming_of(alloc: Global, network: &ChainSearchContext<'_>) -> Result<In
     Ok(incoming)
 }
 
-// Adds the chains into the thread of a number and a path.
+// Adds the chains into the thread with a number and a path.
 fn add_thread(
     alloc: Global,
     incoming: &mut Incoming,
@@ -122,7 +122,7 @@ impl Incoming {
     ghost use Rattle.std.specs.Prelude.{OnOk};
     ghost use Rattle.aadl_instance.specs.proof.ChainsSoFar.{with_chain};
 
-    // Adds a chain by where it begins.
+    // Adds a chain to the links or feeds, by its first port.
     fn push(&mut self, begin: &ChainStart, chain: Chain) -> Result<(), AllocError>
         ensures { OnOk result (self.new ≡ with_chain self.old begin.now chain) }
     {
@@ -133,7 +133,7 @@ impl Incoming {
     }
 }
 
-/// All taps, in order of the ports to which they go.
+/// Returns all taps, in the order of their target ports. Errors: out of memory.
 pub fn taps_of(
     alloc: Global,
     network: &ChainSearchContext<'_>,
@@ -173,7 +173,7 @@ fn add_tap(
     }
 }
 
-// A chain by how it was found and the end to which it leads.
+// The chain of a traced route and its last port.
 fn chain_by(
     alloc: Global,
     network: &ChainSearchContext<'_>,

@@ -1,4 +1,4 @@
-//! What a search for chains is given: connections, threads and port numbers; and a thread with its
+//! The context of a search for connection chains: connections, threads and port numbers; and a thread with its
 //! number.
 
 use crate::port_numbers::PortNumbers;
@@ -6,8 +6,8 @@ use aadl_uses::PackageConnections;
 use indexmap::IndexSet;
 use pals_base::NodeNo;
 
-/// Where the chains of an instance are: the connections of its package, an order of the declarations, the number of
-/// its root, the paths of its threads, in depth-first order of declaration, and the numbers of ports.
+/// The context of a search: the connections of the package, an order of the declarations, the number of the
+/// root, the paths of the threads, in depth-first order of declaration, and the numbers of ports.
 #[derive(Clone, Copy)]
 pub struct ChainSearchContext<'t> {
     pub wires: &'t PackageConnections<'t>,
@@ -17,7 +17,7 @@ pub struct ChainSearchContext<'t> {
     pub numbers: &'t PortNumbers,
 }
 
-/// A thread of a network: its number, its path, and the number of its declaration.
+/// A thread of the instance model: its number, its path, and the number of its declaration.
 #[derive(Drop)]
 pub struct NumberedThread<'t> {
     pub number: NodeNo,

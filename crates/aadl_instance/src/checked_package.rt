@@ -1,4 +1,4 @@
-//! A package that has no fault below a root.
+//! A package without faults below a root.
 ghost use Rattle.std.specs.Prelude.{◌≡◌, ◌⊎◌, [], Some, IfOk, MatchResult};
 ghost use Rattle.aadl_tree.specs.proof.PackageViews.{placed};
 ghost use Rattle.aadl_names.specs.declared.fault.PackageFault.{PackageFault};
@@ -22,11 +22,11 @@ use name_faults::first_name_fault;
 use pals_base::Text;
 use std::alloc::{AllocError, Global};
 
-/// A package that has no fault below a root.
+/// A package without faults below a root.
 pub struct Checked<'t> {
     /// Its connections.
     pub wires: PackageConnections<'t>,
-    /// Its declarations, each behind those that it contains.
+    /// Its declarations, each after the declarations that it contains.
     pub order: IndexSet<usize>,
     /// The declarations in use.
     pub used: IndexSet<usize>,
@@ -48,7 +48,7 @@ impl Drop for Checked<'_> {
 impl<'t> Checked<'t> {
     ghost use Rattle.std.specs.Prelude.{◌≡◌};
 
-    /// Its connections alone.
+    /// Returns only its connections.
     pub fn into_wires(self) -> PackageConnections<'t>
         ensures { result ≡ self.entry.wires }
     {
@@ -62,7 +62,7 @@ impl<'t> Checked<'t> {
     }
 }
 
-/// A package with the root of a name, where it has no fault, or else its first fault.
+/// Returns the package with its look-ups below the named root, or its first fault.
 pub fn check_package<'t>(
     alloc: Global,
     tree: &'t PackageTree,
@@ -85,7 +85,7 @@ pub fn check_package<'t>(
     }
 }
 
-// Looks for what is wrong with names, and then further.
+// Checks names, and then the remaining rules.
 fn check_names<'t>(
     alloc: Global,
     wires: PackageConnections<'t>,
@@ -103,7 +103,7 @@ fn check_names<'t>(
     }
 }
 
-// Looks for implementations that contain themselves, and then further.
+// Checks that no implementation contains itself, and then the remaining rules.
 fn check_recursion<'t>(
     alloc: Global,
     wires: PackageConnections<'t>,
@@ -122,7 +122,7 @@ fn check_recursion<'t>(
     }
 }
 
-// Looks for what is wrong with connections, and then further.
+// Checks connections, and then the remaining rules.
 fn check_wires<'t>(
     alloc: Global,
     wires: PackageConnections<'t>,

@@ -1,4 +1,4 @@
-//! From a package to its instance.
+//! From a package to its instance model.
 ghost use Rattle.std.specs.Prelude.{◌≡◌, ◌⊎◌, ℕ, List, Some, IfErr, IfOk};
 ghost use Rattle.aadl_tree.specs.proof.PackageViews.{placed};
 ghost use Rattle.aadl_names.specs.declared.fault.PackageFault.TheVariants.{Memory};
@@ -18,7 +18,7 @@ use aadl_uses::{thread_paths, threads_at};
 use pals_base::{NoMemory, Text};
 use std::alloc::Global;
 
-/// The instance of a package below the root of a name, or the package's first fault.
+/// Returns the instance model of a package below the named root. Errors: the package's first fault.
 pub fn flatten<'t>(
     alloc: Global,
     tree: &'t PackageTree,
@@ -35,7 +35,7 @@ pub fn flatten<'t>(
     }
 }
 
-// The instance of a package that has no fault below a root that has a name.
+// The instance model of a package without faults below a root.
 fn instance_of<'t>(alloc: Global, checked: Checked<'t>) -> Result<Instance<'t>, NoMemory>
     requires checked { IsChecked (placed checked.wires.uses.names.tree.now) checked }
     requires name { (name : List ℕ) × (root_number (placed checked.wires.uses.names.tree.now) name

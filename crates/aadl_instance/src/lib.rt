@@ -1,5 +1,9 @@
-//! The instance of a package: what stands where below its root, and which ports messages go between; or the first fault
-//! of the package, limits on threads and on the paths by which they are known among them.
+//! The instance model of a package below a root: its threads with their paths, and the connection chains
+//! between their ports; or the first fault of the package. The faults include exceeded limits on threads, paths
+//! and links.
+//!
+//! [`flatten`] is proved to return the instance model of the definition, or the first fault in the order of the
+//! rules; no package has both. The crate does not check types, properties or behaviours.
 #![tactic(auto)]
 
 mod behaviour_sizes;

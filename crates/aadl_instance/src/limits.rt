@@ -1,4 +1,4 @@
-//! The limits of a design, and the first one that it passes.
+//! The limits of a design, and the first one that is exceeded.
 ghost use Rattle.std.specs.Prelude.{◌≡◌, ◌↔◌, ◌<◌, ℕ, false, length, Contains, IfOk, IsTrue};
 ghost use Rattle.aadl_tree.specs.proof.PackageViews.{placed};
 ghost use Rattle.aadl_names.specs.declared.fault.PackageFault.{PackageFault};
@@ -17,7 +17,7 @@ use aadl_uses::PackageConnections;
 use indexmap::IndexSet;
 use std::alloc::{AllocError, Global};
 
-/// What a design may have only a limited amount of.
+/// A limited quantity of a design.
 #[derive(Clone, Copy)]
 pub enum Limit {
     Components,
@@ -29,7 +29,7 @@ pub enum Limit {
 }
 
 impl Limit {
-    /// Its name in a fault.
+    /// Returns its name in a fault.
     pub fn name(self) -> &'static str
         ensures { result.now ≡ spec.name_of self }
     {
@@ -44,7 +44,7 @@ impl Limit {
     }
 }
 
-/// All limits, in the order in which they are looked for.
+/// All limits, in the order of their checks.
 const LIMITS: [Limit; 6] = [
     Limit::Components,
     Limit::Links,
@@ -54,8 +54,9 @@ const LIMITS: [Limit; 6] = [
     Limit::Path,
 ];
 
-/// The first limit that a design passes, if it passes one. The package has no fault of names, no implementation
-/// contains itself, and each connection in use is on a chain, and the only one into a port.
+/// Returns the first limit that a design exceeds, or `None`. Precondition: the names of the package have no
+/// fault, no implementation contains itself, and each connection in use is on a connection chain and is the
+/// only one into its target. Errors: out of memory.
 pub fn first_limit(
     alloc: Global,
     wires: &PackageConnections<'_>,
@@ -80,7 +81,7 @@ pub fn first_limit(
     Ok(None)
 }
 
-// Whether a design passes a limit.
+// Whether a design exceeds a limit.
 fn is_passed(
     alloc: Global,
     wires: &PackageConnections<'_>,

@@ -1,4 +1,4 @@
-//! The longest path by which a thread is known.
+//! The limit on the length of the paths of threads.
 ghost use Rattle.std.specs.Prelude.{◌≡◌, ◌↔◌, ◌<◌, None, IfOk, IsTrue, length, map, slice_index_or};
 ghost use Rattle.pals_base.specs.declared.limits.TheConstants.{PATH_BYTES};
 ghost use Rattle.aadl_tree.specs.proof.PlaceMaps.{kept_place};
@@ -16,7 +16,7 @@ use pals_base::NoMemory;
 use pals_base::limits::PATH_BYTES;
 use std::alloc::Global;
 
-/// Whether a thread below a root is known by a path of more bytes than a path may have.
+/// Returns whether the path of some thread below a root is longer than the limit. Errors: out of memory.
 pub fn has_too_long_path(
     alloc: Global,
     uses: &Uses<'_>,
@@ -31,7 +31,7 @@ pub fn has_too_long_path(
 {
     let marks = uses.thread_marks(alloc)?;
     let weights = name_weights(alloc, uses.names.tree.declarations.as_slice())?;
-    // each name counts with the dot before it, and the first has none
+    // each name counts with the dot before it; the first name has none
     let found = heaviest_below(
         alloc,
         uses.containment(),
@@ -43,7 +43,7 @@ pub fn has_too_long_path(
     Ok(is_over(found.as_slice(), root))
 }
 
-// Whether the heaviest path from a declaration is too heavy.
+// Whether the weight of the heaviest path from a declaration exceeds the limit.
 fn is_over(found: &[Option<usize>], root: usize) -> bool
     ensures { result ≡ spec.is_over (slice_index_or found.now root None) }
 {
@@ -54,7 +54,7 @@ fn is_over(found: &[Option<usize>], root: usize) -> bool
     }
 }
 
-// The bytes of the names of subcomponents, each with a dot.
+// The lengths of the names of subcomponents in bytes, each with its dot.
 fn name_weights(
     alloc: Global,
     declarations: &[Declaration],
@@ -69,7 +69,7 @@ fn name_weights(
     Ok(weights)
 }
 
-// Those of a declaration.
+// The lengths of a declaration's subcomponents.
 fn weights_in(alloc: Global, declaration: &Declaration) -> Result<Vec<usize>, NoMemory>
     ensures { IfOk result (λ row. row.items ≡ spec.weights_in (declaration_view kept_place declaration.now)) }
 {
@@ -79,7 +79,7 @@ fn weights_in(alloc: Global, declaration: &Declaration) -> Result<Vec<usize>, No
     }
 }
 
-// Those of some subcomponents.
+// The lengths of these subcomponents.
 fn weights_of(alloc: Global, subs: &[Subcomponent]) -> Result<Vec<usize>, NoMemory>
     ensures { IfOk result (λ row. row.items ≡ map spec.weight_of (map (subcomponent_view kept_place) subs.now)) }
 {

@@ -1,4 +1,4 @@
-//! The ends of chains with their threads and ports as numbers.
+//! The ends of connection chains, with the numbers of their threads and ports.
 ghost use Rattle.std.specs.Prelude.{◌≡◌, ◌≤◌, Some, [], length, reverse, slice_get, AllPairs, Contains, IfOk};
 ghost use Rattle.aadl_uses.specs.ThreadsBelow.{path_before, IsThreadAt, PathBefore};
 ghost use Rattle.aadl_chains.specs.proof.TracedChains.{begin_port};
@@ -13,7 +13,7 @@ use aadl_uses::standing;
 use pals_base::{NodeNo, Text};
 use std::alloc::{AllocError, Global};
 
-/// Where a chain begins.
+/// Returns the first port of a connection chain.
 pub fn start_end(
     alloc: Global,
     network: &ChainSearchContext<'_>,
@@ -30,7 +30,8 @@ pub fn start_end(
     }
 }
 
-/// A port of the root, by its number. The root has a port of this number.
+/// Returns a port of the root, by its number. Precondition: the root has a port with this number. Errors: out
+/// of memory.
 pub fn root_end(
     alloc: Global,
     network: &ChainSearchContext<'_>,
@@ -65,7 +66,7 @@ fn thread_end(network: &ChainSearchContext<'_>, path: &[usize], port: usize) -> 
     node_end(network, &node, port)
 }
 
-/// A port of a thread, by its number among those that go as it does.
+/// Returns a port of a thread, by its number among the ports of its direction.
 pub fn node_end(
     network: &ChainSearchContext<'_>,
     node: &NumberedThread<'_>,
@@ -86,7 +87,7 @@ pub fn node_end(
     }
 }
 
-// The number of the thread at a path: how many threads come before it.
+// The number of the thread at a path: the number of threads before it.
 fn node_of(threads: &[Vec<usize>], path: &[usize]) -> NodeNo
     requires in_order { AllPairs PathBefore (paths_of threads.now) }
     requires among { Contains (paths_of threads.now) (reverse path.now) }
@@ -97,7 +98,7 @@ fn node_of(threads: &[Vec<usize>], path: &[usize]) -> NodeNo
     NodeNo(before as u32)
 }
 
-// Whether a path comes before another one.
+// Whether a path precedes another one.
 fn comes_before(path: &[usize], other: &[usize]) -> bool
     ensures { result ≡ path_before path.now other.now }
 {

@@ -1,4 +1,4 @@
-//! The numbers of ports among those that go as they do.
+//! The number of each port among the ports of its direction.
 ghost use Rattle.std.specs.Prelude.{◌≡◌, ◌<◌, map, IfOk};
 ghost use Rattle.aadl_tree.specs.proof.PlaceMaps.{kept_place};
 ghost use Rattle.aadl_tree.specs.proof.PackageViews.{placed};
@@ -11,8 +11,9 @@ use name_faults::port_name_tables::ports_at;
 use std::alloc::{AllocError, Global};
 use std::marker::Model;
 
-/// For each type, by the number of its declaration, how many ports before each of its ports go as this one does. A type
-/// of many ports may have many implementations, so these have none of their own. Contracts see the lists of these.
+/// For each type, by the number of its declaration, the number of earlier ports with the same direction as each
+/// of its ports. The table is per type, since a type with many ports may have many implementations. The model
+/// is the list of lists.
 #[derive(Drop)]
 pub struct PortNumbers {
     rows: Vec<Vec<usize>>,
@@ -31,7 +32,7 @@ impl PortNumbers {
     ghost use Rattle.aadl_tree.specs.proof.PackageViews.{placed};
     ghost use Rattle.aadl_instance.specs.proof.PortNumberTables.{number_in, AreNumbers};
 
-    /// Those of the types of a package.
+    /// Computes the table for the types of a package. Errors: out of memory.
     pub fn of(alloc: Global, wires: &PackageConnections<'_>) -> Result<PortNumbers, AllocError>
         ensures { IfOk result (λ numbers. AreNumbers (placed wires.now.uses.names.tree.now) numbers) }
     {
@@ -53,7 +54,7 @@ impl PortNumbers {
         Ok(())
     }
 
-    /// The number of a port of the type of a number.
+    /// Returns the number of a port of the type with a number.
     pub fn get(&self, of_type: Option<usize>, port: usize) -> usize
         ensures { result ≡ number_in self.now of_type port }
     {
@@ -82,7 +83,7 @@ fn row_of(alloc: Global, ports: &[Feature]) -> Result<Vec<usize>, AllocError>
     Ok(row)
 }
 
-/// How many ports go in, and how many out.
+/// The numbers of in ports and out ports so far.
 #[derive(Drop)]
 pub struct SeenPorts {
     pub inward: usize,
@@ -93,7 +94,7 @@ impl SeenPorts {
     ghost use Rattle.std.specs.Prelude.{◌≡◌, ◌<◌};
     ghost use Rattle.aadl_instance.specs.proof.PortNumberTables.{seen, with_port};
 
-    // Counts one more, and gives how many before it go as it does.
+    // Counts one more port, and returns the number of earlier ports with its direction.
     fn next(&mut self, direction: Direction) -> usize
         requires inward { self.old.inward < usize.MAX }
         requires outward { self.old.outward < usize.MAX }

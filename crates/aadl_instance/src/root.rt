@@ -14,7 +14,8 @@ use aadl_tree::{Category, Declaration, Implementation, PackageTree};
 use pals_base::Text;
 use std::alloc::{AllocError, Global};
 
-/// The number of the first system implementation of a name.
+/// Returns the number of the first system implementation with a name, or `None` if there is none. Errors: out
+/// of memory.
 pub fn root_number(
     alloc: Global,
     tree: &PackageTree,
@@ -41,7 +42,7 @@ fn first_root(
     Ok(None)
 }
 
-// Whether a declaration is the system implementation of a name.
+// Whether a declaration is the system implementation with a name.
 fn is_root(alloc: Global, declaration: &Declaration, name: &Text) -> Result<bool, AllocError>
     ensures { IfOk result (λ is. is ≡ spec.is_root name.now (declaration_view kept_place declaration.now)) }
 {

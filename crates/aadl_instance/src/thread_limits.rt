@@ -1,4 +1,4 @@
-//! Whether some thread has more of something than a thread may have.
+//! The limits of threads.
 ghost use Rattle.std.specs.Prelude.{◌≡◌, ◌↔◌, ◌<◌, ℕ, min, Contains, IsTrue};
 ghost use Rattle.aadl_tree.specs.proof.PackageViews.{placed};
 ghost use Rattle.aadl_uses.specs.ContainmentAndUse.{IsInUse};
@@ -11,19 +11,19 @@ use aadl_uses::PackageConnections;
 use indexmap::IndexSet;
 use pals_base::limits::{PORTS, STATES, VARIABLES};
 
-/// What a thread may have only a limited number of.
+/// A limited quantity of a thread.
 #[derive(Clone, Copy)]
 pub enum ThreadPart {
     /// In ports and out ports together.
     Ports,
-    /// Variables of its behaviour, without those of loops.
+    /// Variables of its behaviour, without loop variables.
     Variables,
     /// States of its behaviour.
     States,
 }
 
 impl ThreadPart {
-    // How many a thread may have.
+    // The limit of the quantity.
     fn most(self) -> usize
         ensures { result ≡ spec.most self }
     {
@@ -35,14 +35,14 @@ impl ThreadPart {
     }
 }
 
-/// Whether a thread that is in use has more of something than it may have.
+/// Returns whether some thread in use exceeds the limit of a quantity.
 pub fn has_too_many(
     wires: &PackageConnections<'_>,
     used: &IndexSet<usize>,
     part: ThreadPart,
 ) -> bool
     ensures used { IsTrue result ↔ HasTooMany (placed wires.now.uses.names.tree.now) used.now.keys part }
-    // of all that is in use below a root
+    // for the implementations in use below a root
     ensures below { (root : ℕ) → ((n : ℕ) → Contains used.now.keys n
         ↔ IsInUse (placed wires.now.uses.names.tree.now) root n)
         → IsTrue result
@@ -57,14 +57,14 @@ pub fn has_too_many(
     false
 }
 
-// Whether an implementation has more of something than a thread may have.
+// Whether an implementation exceeds the limit of a quantity.
 fn has_over(wires: &PackageConnections<'_>, number: usize, part: ThreadPart) -> bool
     ensures { IsTrue result ↔ (spec.most part < spec.count_at (placed wires.now.uses.names.tree.now) number part) }
 {
     count_up_to(wires, number, part, part.most() + 1) > part.most()
 }
 
-// How much of something an implementation has, up to a limit.
+// The quantity of an implementation, counted up to a limit.
 fn count_up_to(
     wires: &PackageConnections<'_>,
     number: usize,

@@ -1,4 +1,4 @@
--- Where the first `**}` of some bytes is.
+-- The position of the first `**}` in bytes.
 use Rattle.std.proofs.Common.{◌≡◌, ℕ, zero, suc, ◌+◌, ◌≤◌, Bool, true, false, cond, ◌&&◌, ◌==◌, ◌∙◌, sym, ap, subst}
 use Rattle.std.proofs.Common.{refl, List, [], ◌∷◌, ◌++◌, length, take, drop, arith, Option, Some, None, nat_eq}
 use Rattle.std.specs.Prelude.{codes}
@@ -14,7 +14,7 @@ pub none_parts : (b : Bool) (x : ℕ) (y : Option ℕ) → cond b (Some x) y ≡
 none_parts true x y e = absurd cc
 none_parts false x y e = (refl, e)
 
--- where a `**}` begins hangs on three bytes
+-- three bytes determine whether a `**}` begins
 starts_take : (c : ℕ) (s : List ℕ) (i : ℕ) → starts_with nat_eq (c ∷ s) (codes "**}") ≡ false
     → starts_with nat_eq (c ∷ take i s) (codes "**}") ≡ false
 starts_take c s zero e = and-false (42 == c)
@@ -50,7 +50,7 @@ none_take (c ∷ s) (suc i) n e =
     none_by (starts_with nat_eq (c ∷ take i s) (codes "**}")) n (close_from (n + 1) (take i s)) (starts_take c s i p.0)
     (none_take s i (n + 1) p.1)
 
--- the first `**}` is behind n bytes
+-- the first `**}` is after n bytes
 pub data Closes : List ℕ → ℕ → Type 0 where
   here : (s : List ℕ) → Closes (42 ∷ 42 ∷ 125 ∷ s) 0
   later : (c : ℕ) (s : List ℕ) (n : ℕ) → starts_with nat_eq (c ∷ s) (codes "**}") ≡ false → Closes s n
@@ -105,7 +105,7 @@ pub closes_size : (s : List ℕ) (n : ℕ) → Closes s n → n + 3 ≤ length s
 closes_size _ _ (here s) = omega arith
 closes_size _ _ (later c s n h more) = let e = closes_size s n more in omega arith
 
--- what stands there
+-- the bytes at that position
 pub closes_bytes : (s : List ℕ) (n : ℕ) → Closes s n → take 3 (drop n s) ≡ codes "**}"
 closes_bytes _ _ (here s) = refl
 closes_bytes _ _ (later c s n h more) = closes_bytes s n more
@@ -117,7 +117,7 @@ pub closes_front : (s : List ℕ) (n : ℕ) → Closes s n → take (n + 3) s �
 closes_front _ _ (here s) = refl
 closes_front _ _ (later c s n h more) = take_three n (c ∷ s) ∙ ap (λ l. c ∷ l) (closes_front s n more)
 
--- before the first `**}` is none
+-- there is no `**}` before the first one
 closes_before : (s : List ℕ) (j n : ℕ) → Closes s n → close_from j (take n s) ≡ None
 closes_before _ j _ (here s) = refl
 closes_before _ j _ (later c s n h more) =
@@ -127,7 +127,7 @@ closes_before _ j _ (later c s n h more) =
 pub none_before : (s : List ℕ) (n : ℕ) → close_from 0 s ≡ Some n → close_from 0 (take n s) ≡ None
 none_before s n e = closes_before s 0 n (closes_of s n e)
 
--- The first `**}` is where it is, whatever is behind it.
+-- The position of the first `**}` does not depend on the bytes after it.
 
 starts_kept : (c : ℕ) (s rest : List ℕ) (n : ℕ) → Closes s n → starts_with nat_eq (c ∷ s) (codes "**}") ≡ false
     → starts_with nat_eq (c ∷ (s ++ rest)) (codes "**}") ≡ false
@@ -151,7 +151,7 @@ closes_cut _ _ (here s) = here []
 closes_cut _ _ (later c s n h more) =
     later c (take n s ++ codes "**}") n (starts_cut c s n more h) (closes_cut s n more)
 
--- an annex that is not read ends where it ends, whatever is behind it
+-- the end of an annex that is not read does not depend on the bytes after it
 pub unread_ends : (b rest : List ℕ) (h : IsUnread b)
     → close_from 0 ((h.inner ++ codes "**}") ++ rest) ≡ Some (length h.inner)
 unread_ends b rest h =

@@ -1,4 +1,4 @@
--- Loops over bytes that measure digits, make a number of them or look for the end of an annex: one step.
+-- Loops over bytes that count digits, compute their number or search for the end of an annex: one step.
 use Rattle.std.proofs.Common.{◌≡◌, ℕ, suc, ◌+◌, ◌-◌, ◌*◌, ◌<◌, ◌≤◌, Bool, true, false, cond, ◌&&◌, ◌||◌, List, [], ◌∷◌}
 use Rattle.std.proofs.Common.{length, drop, get_or, arith, refl, drop-cons, add-one, Some, None, leb-true, nat_eq}
 use Rattle.std.proofs.Common.{nat_le}
@@ -18,7 +18,7 @@ pub close_step : (s : List ℕ) (i : ℕ) → i < length s →
     (close_from (i + 1) (drop (i + 1) s))
 close_step s i h = rw (drop-cons s i 0, add-one) refl
 
--- what a digit, or a byte that is none, makes of the number before it
+-- the effect of a digit, or of another byte, on the number before it
 abbrev pub more_by : Bool → ℕ → ℕ → ℕ
 more_by digit n d = cond digit (10 * n + (d - 48)) n
 
@@ -50,7 +50,7 @@ over : (n : ℕ) (b : Bool) → nat_le n most ≡ b → most < n → None ≡ co
 over n true e h = absurd (let g = leb-true n most e in omega arith)
 over n false e h = refl
 
--- a digit that makes the number too great, however the bytes go on
+-- a digit that makes the number too large, whatever bytes follow
 pub decimal_over : (s : List ℕ) (i n d : ℕ) → i < length s → decimal_from n (drop i s) ≡ decimal s
     → is_ascii_digit (get_or s i 0) ≡ true
     → d ≡ get_or s i 0 - 48 → most < 10 * n + d → None ≡ cond (nat_le (decimal s) most) (Some (pos (decimal s))) None

@@ -1,4 +1,4 @@
--- What a rule finds at the front of a text has at least one byte and ends within the text.
+-- The piece that a rule finds at the front of a text has at least one byte and ends within the text.
 use Rattle.std.proofs.Common.{inl, inr, ◌≡◌, ℕ, ◌+◌, ◌<◌, ◌≤◌, Bool, true, false, cond, ◌&&◌, ◌||◌, List, [], ◌∷◌}
 use Rattle.std.proofs.Common.{length, drop, take, get_or, arith, refl, sym, ap, Option, Some, None, nat_eq, nat_le}
 use Rattle.std.proofs.Common.{nat_lt}

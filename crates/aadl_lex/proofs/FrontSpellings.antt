@@ -1,5 +1,5 @@
--- What a rule takes from the front of a text is spelled as its class of tokens says. For the claim that tokens are
--- as written.
+-- The piece that a rule takes from the front of a text matches its class of tokens. For the law that tokens are as
+-- written.
 use Rattle.std.proofs.Common.{◌≡◌, ℕ, zero, suc, ◌+◌, ◌<◌, ◌≤◌, Bool, true, false, cond, ◌&&◌, ◌||◌, ◌==◌, ◌∙◌, sym, ap}
 use Rattle.std.proofs.Common.{ap₂, subst, refl, List, [], ◌∷◌, ◌++◌, length, map, take, drop, get_or, arith, Option}
 use Rattle.std.proofs.Common.{Some, None, nat_eq, nat_le}
@@ -34,7 +34,7 @@ use Rattle.aadl_lex.proofs.WordSpellings.{all_taken, run_is_word}
 length_taken : (p : ℕ → Bool) (s : List ℕ) → length (take (run p s) s) ≡ run p s
 length_taken p s = ap (λ n. length (take n s)) (length-prefix_len p s)
 
--- a byte that is there, between two parts
+-- an existing byte, between two parts
 parted_at : (s : List ℕ) (a b x : ℕ) → get_or s a 0 ≡ x → (x ≡ 0 → ⊥)
     → take (a + 1 + b) s ≡ take a s ++ x ∷ take b (drop (a + 1) s)
 parted_at [] a b x e some = absurd (some (sym e))
@@ -215,7 +215,7 @@ symbol_shape s some e =
     symbol_by s some (list_any (starts_with nat_eq s) symbols_of_three) (list_any (starts_with nat_eq s) symbols_of_two)
     (list_any (λ x. x == get_or s 0 0) symbols_of_one) refl refl refl e
 
--- What stands at a front is spelled so, where no `**}` is in a body that is read.
+-- The piece at a front matches its class, if a body that is read contains no `**}`.
 abbrev pub Shape : Reading → List ℕ → First → Type 0
 Shape r s (Skipped n) = Unit {0}
 Shape r s (Refused fault) = Unit {0}
@@ -266,7 +266,7 @@ first_shape r at s some =
     (second_so (starts_with nat_eq s (codes "{**")) _ both) refl)
     (λ _. shape_if r s (symbol_len s == 0) _ _ (λ _. tt) (λ long clear. symbol_shape s some long)))))))
 
--- a token that is no end of a body
+-- a token that does not end a body
 pub taken_spelled : (r : Reading) (s : List ℕ) (kind : TokenKind) (n : ℕ) → Shape r s (Taken kind n)
     → (r ≡ Inside → close_from 0 s ≡ None)
     → IsSpelled r kind (take n s) × ((b : List ℕ) → behind r kind b ≡ after r kind b)

@@ -1,4 +1,4 @@
--- The tokens of a text stand one behind the other within the text: the claim `tokens_in_order`.
+-- The tokens of a text are in order within the text: the law `tokens_in_order`.
 use Rattle.std.proofs.Common.{◌≡◌, ℕ, zero, suc, ◌+◌, ◌<◌, ◌≤◌, List, [], ◌∷◌, ◌++◌, length, drop, take, arith, subst}
 use Rattle.std.proofs.lemmas.List.{length-drop, length-take-le}
 use Rattle.std.specs.List.{All}
@@ -25,7 +25,7 @@ pub order_le : (from to : ℕ) (ts : List Token) → AreInOrder from to ts → f
 order_le from to [] h = h
 order_le from to (t ∷ ts) h = let rest = order_le t.end to ts h.2 in omega (arith, h.0, h.1)
 
--- what stands at a place lies within the rest of the text
+-- the piece at a position is within the rest of the text
 pub stands_within : (r : Reading) (text : List ℕ) (at : ℕ) (what : First) → at < length text
     → first r at (drop at text) ≡ what → IsWithin (length (drop at text)) what
 stands_within r text at what g e =

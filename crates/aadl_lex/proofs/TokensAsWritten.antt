@@ -1,4 +1,4 @@
--- The tokens of a text are spelled as their classes say: the claim `tokens_are_as_written`.
+-- The tokens of a text match their classes: the law `tokens_are_as_written`.
 use Rattle.std.proofs.Common.{◌≡◌, ℕ, zero, suc, ◌+◌, ◌-◌, ◌<◌, ◌≤◌, Bool, true, false, ◌∙◌, sym, ap, subst, refl, List}
 use Rattle.std.proofs.Common.{[], ◌∷◌, ◌++◌, append_assoc, append-nil, length, take, drop, arith, Some, None, nat_eq}
 use Rattle.std.specs.Prelude.{codes, if◌then◌else◌}
@@ -22,7 +22,7 @@ use Rattle.aadl_lex.proofs.TokenOrder.{stands_within}
 use Rattle.aadl_lex.proofs.AnnexEnds.{none_drop, none_before, closes_of, closes_bytes, starts_exact}
 use Rattle.aadl_lex.proofs.FrontSpellings.{Shape, first_shape, taken_spelled}
 
--- the shape of what stands at a place
+-- the shape of the piece at a position
 shape_at : (r : Reading) (text : List ℕ) (at : ℕ) (x : First) → at < length text → first r at (drop at text) ≡ x
     → Shape r (drop at text) x
 shape_at r text at x within e =
@@ -33,7 +33,7 @@ named : (b : Bool) → can_open (if b then AfterName else Outside) ≡ true
 named true = refl
 named false = refl
 
--- only the ends of a body that is read lead into it and out of it
+-- only the ends of a body that is read change the mode into it and out of it
 after_opens : (r : Reading) (kind : TokenKind) (b : List ℕ) → can_open (after r kind b) ≡ can_open r
 after_opens Inside kind b = refl
 after_opens Outside Word b = named (str_eq_ignore_ascii_case b (codes "behavior_specification"))
@@ -46,7 +46,7 @@ inside_is Inside e = refl
 inside_is Outside e = absurd cc
 inside_is AfterName e = absurd cc
 
--- the text is the front of another
+-- the text is a prefix of another
 record IsFront (text full : List ℕ) : Type 0 where
   is : text ≡ take (length text) full
   within : length text ≤ length full

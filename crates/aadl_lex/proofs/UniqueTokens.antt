@@ -1,4 +1,4 @@
--- A text has one list of tokens or one first fault, and never both: the claim `one_answer`.
+-- A text has one list of tokens or one first fault, but not both: the law `one_answer`.
 use Rattle.std.proofs.Common.{◌≡◌, ℕ, ◌+◌, ◌∙◌, List, ◌∷◌, ◌++◌, drop, take, arith, refl, sym, ap, subst}
 use Rattle.aadl_lex.specs.declared.token.Token.{Token}
 use Rattle.aadl_lex.specs.declared.token.TokenKind.{TokenKind}

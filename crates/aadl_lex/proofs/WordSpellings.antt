@@ -11,7 +11,7 @@ use Rattle.aadl_lex.specs.Rules.{is_in_word, run, is_word}
 take_run : (p : ℕ → Bool) (s : List ℕ) → take (run p s) s ≡ take_while p s
 take_run p s = ap (λ n. take n s) (length-prefix_len p s)
 
--- one more at the front of those that pass
+-- one more passing byte at the front
 taken_front : (n c : ℕ) (cs : List ℕ) → take (1 + n) (c ∷ cs) ≡ c ∷ take n cs
 taken_front n c cs = let e : 1 + n ≡ suc n = omega arith in ap (λ m. take m (c ∷ cs)) e
 

@@ -20,24 +20,24 @@ token kind at n = record { kind = kind; start = at; end = at + n }
 abbrev pub bytes_of : List ℕ → Token → List ℕ
 bytes_of text t = take (t.end - t.start) (drop t.start text)
 
--- From the byte `at` on the text has these tokens.
+-- From the byte `at` on, the text has these tokens.
 pub data Lexes : Reading → List ℕ → ℕ → List Token → Type 0 where
   ended : (r : Reading) (text : List ℕ) (at : ℕ) → length text ≤ at → Lexes r text at []
-  -- blanks and comments are passed over
+  -- blanks and comments are skipped
   skips : (r : Reading) (text : List ℕ) (at n : ℕ) (ts : List Token) → at < length text
       → first r at (drop at text) ≡ Skipped n
       → Lexes r text (at + n) ts → Lexes r text at ts
-  -- a token stands there, and the others behind it
+  -- a token at this position, and the tokens after it
   takes : (r : Reading) (text : List ℕ) (at : ℕ) (kind : TokenKind) (n : ℕ) (ts : List Token) → at < length text
       → first r at (drop at text) ≡ Taken kind n
       → Lexes (after r kind (take n (drop at text))) text (at + n) ts → Lexes r text at (token kind at n ∷ ts)
-  -- `{**` with the n bytes of a body stands there: the body's tokens are those of the text that ends with it
+  -- `{**` with a body of n bytes: the body's tokens are the tokens of the text that ends with the body
   reads : (r : Reading) (text : List ℕ) (at n : ℕ) (body ts : List Token) → at < length text
       → first r at (drop at text) ≡ Body n
       → Lexes Inside (take (at + 3 + n) text) (at + 3) body → Lexes Outside text (at + 3 + n + 3) ts
       → Lexes r text at (token AnnexOpen at 3 ∷ body ++ token AnnexClose (at + 3 + n) 3 ∷ ts)
 
--- To the tokens of a list were added those that the text has from the byte `at` on.
+-- A list grows by the tokens that the text has from the byte `at` on.
 pub record Adds (r : Reading) (text : List ℕ) (at : ℕ) (before after : List Token) : Type 0 where
   pub tokens : List Token
   pub added : after ≡ before ++ tokens
@@ -66,12 +66,12 @@ pub record AreTokensOf (text : List ℕ) (tokens : List Token) : Type 0 where
   pub utf8 : IsUtf8 text
   pub lexed : Lexes Outside text 0 tokens
 
--- This is the first fault of the text: that it is no UTF-8 goes before all others.
+-- This is the first fault of the text: `NotUtf8` precedes all others.
 pub data IsFaultOf : List ℕ → LexFault → Type 0 where
   not_utf8 : (text : List ℕ) → (IsUtf8 text → ⊥) → IsFaultOf text (NotUtf8 (utf8_valid_len text))
   not_lexed : (text : List ℕ) (fault : LexFault) → IsUtf8 text → Faults Outside text 0 fault → IsFaultOf text fault
 
--- The tokens stand one behind the other between two places, each of a byte at least.
+-- The tokens are in order between two positions and do not overlap, and each has at least one byte.
 abbrev pub AreInOrder : ℕ → ℕ → List Token → Type 0
 AreInOrder from to [] = from ≤ to
 AreInOrder from to (t ∷ ts) = (from ≤ t.start) × (t.start < t.end) × AreInOrder t.end to ts

@@ -1,4 +1,4 @@
-//! Why a text has no tokens.
+//! The reason why a text has no tokens.
 
 use std::alloc::{AllocError, AllocFailed};
 use thiserror::Error;
@@ -6,10 +6,10 @@ use thiserror::Error;
 /// The first fault of a text, each `at` a byte offset.
 #[derive(Clone, Copy, Debug, Error)]
 pub enum LexFault {
-    /// The bytes at `at` begin no UTF-8 character.
+    /// No UTF-8 character begins at `at`.
     #[error("NotUtf8")]
     NotUtf8 { at: usize },
-    /// The byte at `at` begins no token.
+    /// No token begins at `at`.
     #[error("BadByte")]
     BadByte { at: usize },
     /// The string that begins at `at` has no closing quote on its line.
@@ -24,7 +24,7 @@ pub enum LexFault {
     /// The word that begins at `at` has more than 64 bytes.
     #[error("LongName")]
     LongName { at: usize },
-    /// There was not enough memory.
+    /// Out of memory.
     #[error("Memory")]
     Memory,
 }

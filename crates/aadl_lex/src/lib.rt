@@ -1,7 +1,10 @@
-//! The tokens of a design text.
+//! The lexer: the tokens of a design text.
 //!
-//! A text is UTF-8. Blanks and comments part its tokens: words, whole numbers, reals, strings,
-//! symbols, and annexes. [`lex`] gives all tokens of a text, or its first fault from left to right.
+//! A text is UTF-8. Blanks and comments separate its tokens: words, whole numbers, reals, strings, symbols, and
+//! annexes. [`lex`] returns all tokens of a text, or its first fault from left to right.
+//!
+//! The laws state that each text has either one list of tokens or one first fault, that tokens are in order,
+//! and that the bytes of each token match its class. The lexer does not distinguish keywords from other words.
 #![tactic(auto)]
 
 ghost use Rattle.std.specs.Prelude.{ℕ, ◌≡◌, ◌≢◌, ◌+◌, ◌<◌, ◌≤◌, List, All, length, IfOk, IfErr, OnOk};
@@ -23,7 +26,7 @@ use std::alloc::Global;
 use std::str;
 pub use token::{NAME_BYTES, Token, TokenKind};
 
-/// The tokens of the text, or its first fault. That the text is no UTF-8 goes before all else.
+/// Returns the tokens of the text. Errors: its first fault; `NotUtf8` precedes all others.
 pub fn lex(alloc: Global, text: &[u8]) -> Result<Vec<Token>, LexFault>
     ensures tokens { IfOk result (λ tokens. AreTokensOf text.now tokens.items) }
     ensures fault { IfErr result (λ fault. fault ≢ LexFault.Memory → IsFaultOf text.now fault) }
@@ -39,7 +42,7 @@ pub fn lex(alloc: Global, text: &[u8]) -> Result<Vec<Token>, LexFault>
     Ok(tokens)
 }
 
-/// Adds the tokens from the byte `at` on.
+/// Appends the tokens from the byte `at` on.
 fn read(
     found: &mut Vec<Token>,
     text: &[u8],
@@ -73,25 +76,25 @@ fn read(
     Ok(())
 }
 
-/// A text has one list of tokens or one first fault, and never both.
+/// A text has one list of tokens or one first fault, but not both.
 pub fn one_answer()
     ensures tokens { (text : List ℕ) (ts us : List Token) → AreTokensOf text ts → AreTokensOf text us → ts ≡ us }
     ensures fault { (text : List ℕ) (f g : LexFault) → IsFaultOf text f → IsFaultOf text g → f ≡ g }
     ensures either { (text : List ℕ) (ts : List Token) (f : LexFault) → AreTokensOf text ts → ¬ IsFaultOf text f }
 {}
 
-/// The tokens of a text stand one behind the other in it, each of a byte at least.
+/// The tokens of a text are in order and do not overlap, and each has at least one byte.
 pub fn tokens_in_order()
     ensures order { (text : List ℕ) (ts : List Token) → AreTokensOf text ts → AreInOrder 0 (length text) ts }
     ensures within { (text : List ℕ) (ts : List Token) → AreTokensOf text ts
         → All (λ t. (t.start < t.end) × (t.end ≤ length text)) ts }
 {}
 
-/// Each token of a text is spelled as its class says: a word is a letter, and letters, digits and `_`
-/// behind it, [`NAME_BYTES`] at most; a whole number is digits with single `_` between them, of its
-/// value; a real is digits, a point and digits; a string is on one line, with no quote inside; a
-/// symbol is one of the thirty; an annex of another language ends at its first `**}`. A `{**` whose
-/// tokens follow stands behind the word `behavior_specification`, and ends at the first `**}`.
+/// The bytes of each token match its class. A word is a letter followed by letters, digits and `_`, at most
+/// [`NAME_BYTES`] bytes in total. A whole number is digits with single `_` between them, and has their value. A
+/// real is digits, a point and digits. A string is on one line and contains no quote. A symbol is one of the
+/// thirty. An annex of another language ends at its first `**}`. A `{**` whose tokens follow comes after the
+/// word `behavior_specification`, and its body ends at the first `**}`.
 pub fn tokens_are_as_written()
     ensures all { (text : List ℕ) (ts : List Token) → AreTokensOf text ts → AreSpelled text Outside ts }
     ensures word { (text : List ℕ) (ts : List Token) → AreTokensOf text ts → All (IsWordAt text) ts }

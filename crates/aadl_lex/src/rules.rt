@@ -1,4 +1,4 @@
-//! What stands at the front of a text, rule by rule.
+//! The rules of the lexer: the token at the front of a text.
 
 ghost use Rattle.std.specs.Prelude.{◌≡◌, ◌+◌, ◌<◌, ◌≤◌, length};
 ghost use Rattle.aadl_lex.specs.Rules as spec;
@@ -8,19 +8,19 @@ use crate::fault::LexFault;
 use crate::token::{NAME_BYTES, TokenKind};
 use crate::token_lengths;
 
-/// How a text is read at a place.
+/// The mode in which a text is read at a position.
 #[derive(Clone, Copy, PartialEq)]
 pub enum Reading {
-    /// Outside of annex bodies.
+    /// Outside annex bodies.
     Outside,
-    /// Outside, where the token before is the word `behavior_specification`.
+    /// Outside, directly after the word `behavior_specification`.
     AfterName,
-    /// In an annex body that is read as tokens.
+    /// Inside an annex body that is read as tokens.
     Inside,
 }
 
 impl Reading {
-    /// How the text is read behind a token of this kind and these bytes.
+    /// Returns the mode after a token of this class with these bytes.
     pub fn after(self, kind: TokenKind, token: &[u8]) -> Reading
         ensures { result ≡ spec.after self kind token.now }
     {
@@ -34,14 +34,14 @@ impl Reading {
     }
 }
 
-/// What stands at the front of a text.
+/// The piece at the front of a text.
 #[derive(Clone, Copy)]
 pub enum First {
-    /// A blank or a comment, by its number of bytes.
+    /// A blank or a comment, with its length in bytes.
     Skipped(usize),
-    /// A token, by its kind and its number of bytes.
+    /// A token, with its class and its length in bytes.
     Taken(TokenKind, usize),
-    /// `{**`, a body to be read as tokens, and `**}`, by the number of bytes of the body.
+    /// `{**`, a body that is read as tokens, and `**}`, with the length of the body in bytes.
     Body(usize),
     /// No token.
     Refused(LexFault),
@@ -110,7 +110,7 @@ fn symbol_first(text: &[u8], at: usize) -> First
     }
 }
 
-/// What stands at the front of the text, whose first byte is at `at` in the whole text.
+/// Returns the piece at the front of the text, whose first byte has the offset `at` in the whole text.
 #[tactic(auto, unfolding(crate::specs::Rules::first))]
 pub fn front(reading: Reading, text: &[u8], at: usize) -> First
     requires { 0 < length text.now }

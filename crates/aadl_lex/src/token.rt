@@ -1,14 +1,14 @@
 //! Tokens, and their classes.
 
-/// The most bytes of a word.
+/// The maximum length of a word, in bytes.
 pub const NAME_BYTES: usize = 64;
 
 /// The class of a token.
 #[derive(Clone, Copy, Debug)]
 pub enum TokenKind {
-    /// A letter, and letters, digits and `_` behind it; [`NAME_BYTES`] at most.
+    /// A letter followed by letters, digits and `_`; at most [`NAME_BYTES`] bytes.
     Word,
-    /// Digits with single `_` between them: the number that they say.
+    /// Digits with single `_` between them, and the number that they denote.
     Whole(i64),
     /// Digits, a point and digits.
     Real,
@@ -18,7 +18,7 @@ pub enum TokenKind {
     Symbol,
     /// The `{**` before an annex body whose tokens follow.
     AnnexOpen,
-    /// The `**}` behind such a body.
+    /// The `**}` after such a body.
     AnnexClose,
     /// An annex of another language, from its `{**` to its `**}`.
     Unread,
@@ -27,11 +27,11 @@ pub enum TokenKind {
 /// A token: the bytes of the text from `start` up to `end`.
 #[derive(Clone, Copy)]
 pub struct Token {
-    /// The token's class.
+    /// The class of the token.
     pub kind: TokenKind,
-    /// The offset of its first byte in the text.
+    /// The byte offset of its first byte in the text.
     pub start: usize,
-    /// The offset of the first byte behind it.
+    /// The byte offset after its last byte.
     pub end: usize,
 }
 
@@ -39,7 +39,7 @@ impl Token {
     ghost use Rattle.std.specs.Prelude.{◌≡◌, ◌+◌, ◌≤◌};
     ghost use Rattle.aadl_lex.specs.TokensAndFirstFaults.{token};
 
-    /// The token of this kind and of `len` bytes from `start` on.
+    /// Returns the token of this class with `len` bytes from `start` on.
     pub(crate) fn new(kind: TokenKind, start: usize, len: usize) -> Token
         requires { start + len ≤ usize.MAX }
         ensures { result ≡ token kind start len }

@@ -1,4 +1,4 @@
-//! How far the pieces at the front of a text reach.
+//! The lengths of the pieces at the front of a text.
 
 ghost use Rattle.std.specs.Prelude.{◌≡◌, ◌==◌, ◌+◌, ◌<◌, ◌≤◌, length, slice_index, nat_eq, Some, None, IfSome};
 ghost use Rattle.std.specs.Prelude.{if◌then◌else◌, nat_le, pos};
@@ -8,14 +8,14 @@ ghost use Rattle.aadl_lex.specs.Rules as spec;
 ghost use Rattle.aadl_lex.specs.Rules.{run, is_in_line, is_in_word, is_in_string, decimal, most, symbols_of_three};
 ghost use Rattle.aadl_lex.specs.Rules.{symbols_of_two, symbols_of_one};
 
-/// How many bytes a line at the front has, without its LF.
+/// Returns the length in bytes of the line at the front, without its LF.
 pub fn line_len(text: &[u8]) -> usize
     ensures { result ≡ run is_in_line text.now }
 {
     text.iter().take_while(|byte| **byte != b'\n').count()
 }
 
-/// How many bytes a word at the front has.
+/// Returns the length in bytes of the word at the front.
 pub fn word_len(text: &[u8]) -> usize
     ensures { result ≡ run is_in_word text.now }
 {
@@ -24,14 +24,14 @@ pub fn word_len(text: &[u8]) -> usize
         .count()
 }
 
-/// How many digits stand at the front.
+/// Returns the number of digits at the front.
 pub fn digits_len(text: &[u8]) -> usize
     ensures { result ≡ run is_ascii_digit text.now }
 {
     text.iter().take_while(|byte| byte.is_ascii_digit()).count()
 }
 
-/// How many bytes stand before the next quote or LF.
+/// Returns the number of bytes before the next quote or LF.
 pub fn string_len(text: &[u8]) -> usize
     ensures { result ≡ run is_in_string text.now }
 {
@@ -40,7 +40,7 @@ pub fn string_len(text: &[u8]) -> usize
         .count()
 }
 
-/// Whether a digit begins the text.
+/// Returns whether the text begins with a digit.
 fn begins_digit(text: &[u8]) -> bool
     ensures { result ≡ is_ascii_digit (slice_index text.now 0) }
 {
@@ -50,7 +50,7 @@ fn begins_digit(text: &[u8]) -> bool
     }
 }
 
-/// How many bytes a whole number at the front has.
+/// Returns the length in bytes of the whole number at the front.
 #[tactic(auto, using(crate::proofs::ByteScanLoops::whole_step))]
 pub fn whole_len(text: &[u8]) -> usize
     ensures value { result ≡ spec.whole_len text.now }
@@ -64,7 +64,7 @@ pub fn whole_len(text: &[u8]) -> usize
     text.len()
 }
 
-/// How many bytes stand before the first `**}`.
+/// Returns the number of bytes before the first `**}`.
 #[tactic(auto, using(crate::proofs::ByteScanLoops::close_step))]
 pub fn body_len(text: &[u8]) -> Option<usize>
     ensures value { result ≡ spec.body_len text.now }
@@ -79,7 +79,7 @@ pub fn body_len(text: &[u8]) -> Option<usize>
     None
 }
 
-/// How many bytes a real at the front has.
+/// Returns the length in bytes of the real at the front.
 pub fn real_len(text: &[u8]) -> Option<usize>
     ensures { result ≡ spec.real_len text.now }
 {
@@ -95,7 +95,7 @@ pub fn real_len(text: &[u8]) -> Option<usize>
 
 const MOST: u64 = 9_223_372_036_854_775_807;
 
-/// The number that the digits say, where it is a whole number of the language.
+/// Returns the number with these digits, if it is a whole number of the language.
 #[tactic(auto, using(crate::proofs::ByteScanLoops::decimal_step))]
 pub fn decimal(text: &[u8]) -> Option<i64>
     ensures { result ≡ (if nat_le (decimal text.now) most then Some (pos (decimal text.now)) else None) }
@@ -113,7 +113,7 @@ pub fn decimal(text: &[u8]) -> Option<i64>
     Some(value as i64)
 }
 
-// The symbols by their lengths: the longest one at the front is taken.
+// The symbols by their lengths; the lexer takes the longest one at the front.
 const SYMBOLS_OF_THREE: [[u8; 3]; 2] = [*b"+=>", *b"]->"];
 
 const SYMBOLS_OF_TWO: [[u8; 2]; 9] = [
@@ -143,7 +143,7 @@ fn begins_symbol_of_one(text: &[u8]) -> bool
     SYMBOLS_OF_ONE.contains(&text[0])
 }
 
-/// How many bytes the longest symbol at the front has, or 0 where there is none.
+/// Returns the length in bytes of the longest symbol at the front, or 0 if there is none.
 pub fn symbol_len(text: &[u8]) -> usize
     requires { 0 < length text.now }
     ensures { result ≡ spec.symbol_len text.now }

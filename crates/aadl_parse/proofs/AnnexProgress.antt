@@ -1,4 +1,4 @@
--- Each annex takes at least one terminal, so the loop that reads annexes gets on.
+-- Each annex takes at least one terminal, so the loop that parses annexes terminates.
 use Rattle.std.proofs.Common.{◌<◌, List, length}
 use Rattle.aadl_tree.specs.declared.annex.Annex.{Annex}
 use Rattle.aadl_tree.specs.Terminals.{PlacedTerminal}

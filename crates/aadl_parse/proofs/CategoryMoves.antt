@@ -1,4 +1,5 @@
--- What the machine does at a category: it takes it, and a declaration begins with it. For the parser of declarations.
+-- What the machine does at a category: it takes the category, and a declaration begins with it. For the parser of
+-- declarations.
 use Rattle.std.proofs.Common.{◌≡◌, [], ◌∷◌, refl}
 use Rattle.aadl_tree.specs.declared.declarations.Category.{Category}
 use Rattle.aadl_tree.specs.declared.declarations.Category.TheVariants as categories
@@ -7,7 +8,7 @@ use Rattle.aadl_tree.specs.Declarations.{category_mark}
 use Rattle.aadl_grammar.specs.proof.GrammarSymbols as s
 use Rattle.aadl_grammar.specs.proof.StackMachine.{takes, move}
 
--- a category of what may be declared, and one that has to come
+-- the moves of the symbol of categories, and of the symbol of declarations
 pub category_moves : (x : Category) → move s.category (mark (category_mark x)) ≡ takes []
 unfolding move
 category_moves categories.System = refl

@@ -1,4 +1,4 @@
--- The machine's fate of a package's terminals gives what parsing answers: its only tree, or its fault.
+-- The machine's fate of a package's terminals determines the result of parsing: its only tree, or its fault.
 use Rattle.std.proofs.Common.{◌≡◌, sym, ℕ, ◌<◌, ◌∙◌, ap, subst, List, [], ◌∷◌, length, arith}
 use Rattle.std.specs.Prelude.{IfErr, Result, Ok, Err}
 use Rattle.std.specs.Result.{IsErrAnd}
@@ -47,7 +47,7 @@ at_fault text tokens l end ss e a b f =
     faults text tokens l e (subst (λ (x : List PlacedTerminal). FailsAs (fate 0 (length text) (s.a_package ∷ []) x) e) b
     (subst (λ (n : ℕ). FailsAs (fate 0 n (s.a_package ∷ []) ss) e) a f))
 
--- a terminal is left behind the package
+-- a terminal follows the package
 pub left_fault : (text : List ℕ) (tokens : List Token) → AreTokensOf text tokens
     → (end : ℕ) (ss rest : List PlacedTerminal) (at : ℕ) → end ≡ length text → ss ≡ placed_terminals text tokens
     → fate 0 end (s.a_package ∷ []) ss ≡ fate 0 end [] rest → 0 < length rest → at ≡ place end rest

@@ -1,4 +1,4 @@
--- A text has one tree or one fault: what parsing answers is unique.
+-- A text has one tree or one fault: the result of parsing is unique.
 use Rattle.std.proofs.Common.{◌≡◌, ℕ, ap, subst, refl, List, [], length}
 use Rattle.std.specs.Prelude.{◌≢◌}
 use Rattle.aadl_lex.specs.declared.token.Token.{Token}
@@ -16,7 +16,7 @@ use Rattle.aadl_parse.specs.declared.text_fault.TextFault.{TextFault}
 use Rattle.aadl_parse.specs.declared.text_fault.TextFault.TheVariants.{Lex, Memory, Syntax, TooDeep}
 use Rattle.aadl_parse.specs.ParseResults.{IsFaultOfText}
 
--- no two faults
+-- two faults are equal
 same_fails : (text : List ℕ) (ts us : List Token) → ts ≡ us → (a b : ℕ)
     → FailsAt IsPackage 0 (length text) (placed_terminals text ts) a → FailsAt IsPackage 0 (length text) (placed_terminals text us) b → a ≡ b
 same_fails text ts us e a b f g =
@@ -54,7 +54,7 @@ one_text_fault text (Syntax p) (TooDeep q) m n a b =
 one_text_fault text (TooDeep p) (Syntax q) m n a b =
     absurd (never_both text b.tokens a.tokens (one_list text b.tokens a.tokens b.lexed a.lexed) q p b.fails a.deep)
 
--- no tree and a fault
+-- a tree and a fault exclude each other
 is_package : (text : List ℕ) (ts us : List Token) → ts ≡ us → (t : PackageTree ℕ)
     → Written (package_parts t) (placed_terminals text ts) [] → IsPackage (kinds_of (placed_terminals text us))
 is_package text ts us e t w =

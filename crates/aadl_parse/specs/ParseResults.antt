@@ -1,4 +1,4 @@
--- What parsing answers of a text: its only tree, or its fault with a place.
+-- The result of parsing a text: its only tree, or its fault with a position.
 use Rattle.std.specs.Prelude.{ℕ, ◌≡◌, ◌≢◌, List}
 use Rattle.std.specs.Str.{IsUtf8}
 use Rattle.aadl_lex.specs.TokensAndFirstFaults.{IsFaultOf}
@@ -15,14 +15,14 @@ pub record IsOnlyTreeOf (text : List ℕ) (tree : PackageTree ℕ) : Type 0 wher
   pub given : IsTreeOf text tree
   pub only : (other : PackageTree ℕ) → IsTreeOf text other → other ≡ tree
 
--- The text has no tree, and this is why. If there was not enough memory, no more is said than that the text is UTF-8.
+-- The text has no tree, and this is the reason. On an allocation failure, only that the text is UTF-8 is stated.
 abbrev pub IsFaultOfText : List ℕ → TextFault → Type 0
 IsFaultOfText text (Lex fault) = (fault ≢ lexical.Memory) × IsFaultOf text fault
 IsFaultOfText text (Syntax at) = StopsAt text at
 IsFaultOfText text (TooDeep at) = NestsAt text at
 IsFaultOfText text Memory = IsUtf8 text
 
--- the same fault, told of the text
+-- the fault of the tokens as a fault of the text
 abbrev pub of_parse : ParseFault → TextFault
 of_parse (parsing.Syntax at) = Syntax at
 of_parse (parsing.TooDeep at) = TooDeep at

@@ -1,4 +1,4 @@
-//! Reads the annexes of types and implementations.
+//! Parses the annexes of types and implementations.
 ghost use Rattle.std.specs.Prelude.{[], ◌∷◌, flat_map, map};
 ghost use Rattle.aadl_tree.specs.Annexes.{annex_parts, content_parts};
 ghost use Rattle.aadl_tree.specs.proof.AnnexViews.{annex_view, content_view};

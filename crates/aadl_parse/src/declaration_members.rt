@@ -1,4 +1,4 @@
-//! Parses features, subcomponents, connections, and the sections that have them.
+//! Parses features, subcomponents, connections, and their sections.
 ghost use Rattle.std.specs.Prelude.{[], ◌∷◌, flat_map, map, option_map, MatchOption};
 ghost use Rattle.aadl_tree.specs.declared.mark.Mark.TheVariants as k;
 ghost use Rattle.aadl_tree.specs.SpellingParts.{plain, parts_if, feature_section, subcomponent_section};
@@ -41,7 +41,7 @@ pub fn category(reader: &Reader<'_>, at: usize) -> Option<(Category, usize)>
     None
 }
 
-/// A category, which has to come.
+/// A category. Errors: `Syntax` if there is none.
 fn expect_category(reader: &Reader<'_>, at: usize) -> Parsed<Category>
     ensures { Parses reader.now AnyRoom (s.category ∷ []) (λ x. plain (category_mark x) ∷ []) at result }
 {

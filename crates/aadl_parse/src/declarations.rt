@@ -1,4 +1,4 @@
-//! Parses declarations: types and implementations, each from its category up to its end.
+//! Parses declarations: types and implementations, each from its category to its end.
 ghost use Rattle.std.specs.Prelude.{◌≡◌, [], ◌∷◌, flat_map, map};
 ghost use Rattle.aadl_tree.specs.Terminals.{mark};
 ghost use Rattle.aadl_tree.specs.SpellingParts.{token};
@@ -85,7 +85,7 @@ pub enum DeclarationRest {
     Implementation(ImplementationRest),
 }
 
-/// What stands behind the category of a declaration.
+/// Parses a declaration after its category.
 fn after_category(reader: &Reader<'_>, at: usize, room: usize) -> Parsed<DeclarationRest>
     ensures { Parses reader.now (Room room) (s.after_category ∷ []) rest_parts at result }
 {
@@ -125,7 +125,7 @@ fn after_category(reader: &Reader<'_>, at: usize, room: usize) -> Parsed<Declara
     Ok((DeclarationRest::Type(rest), end))
 }
 
-/// The declaration whose category stands at this place of the text.
+/// Returns the declaration whose category is at this place of the text.
 fn declared(at: usize, category: Category, rest: DeclarationRest) -> Declaration
     ensures { declaration_parts (declaration_view kept_place result) ≡ token (mark (category_mark category)) (at ∷ [])
         ∷ rest_parts rest }

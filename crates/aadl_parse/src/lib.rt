@@ -1,7 +1,9 @@
-//! Design texts, read into trees.
+//! The parser of design texts.
 //!
-//! [`parse`] gives the tree of a text, or its first lexical fault, or the fault at the least place
-//! among its tokens.
+//! [`parse`] returns the tree of a text, or its first lexical fault, or the first fault of its tokens. It is a
+//! recursive-descent parser; its recursion is bounded by the nesting limit. Its contract states that the tree
+//! is the only one of the text, and that otherwise the fault is the one that the grammar defines. It does not
+//! check names or types.
 #![tactic(auto)]
 
 ghost use Rattle.std.specs.Prelude.{ℕ, ◌≡◌, ◌≢◌, List, IfOk, IfErr};
@@ -24,7 +26,7 @@ use std::alloc::Global;
 pub use text_fault::TextFault;
 use whole_package::{PackageParts, package};
 
-/// The tree of the text, or why it has none.
+/// Returns the tree of the text. Errors: the first fault of the text.
 pub fn parse(alloc: Global, text: &[u8]) -> Result<PackageTree, TextFault>
     ensures tree { IfOk result (λ tree. IsOnlyTreeOf text.now (placed tree)) }
     ensures fault { IfErr result (IsFaultOfText text.now) }
@@ -62,7 +64,7 @@ pub fn parse(alloc: Global, text: &[u8]) -> Result<PackageTree, TextFault>
     })
 }
 
-/// A text has one tree or one fault, and never both.
+/// A text has one tree or one fault, but not both.
 pub fn one_answer()
     ensures tree { (text : List ℕ) (t u : Tree ℕ) → IsTreeOf text t → IsTreeOf text u → t ≡ u }
     ensures fault { (text : List ℕ) (f g : TextFault) → f ≢ TextFault.Memory → g ≢ TextFault.Memory

@@ -1,23 +1,23 @@
-//! Why a text has no tree.
+//! The reason why a text has no tree.
 
 use aadl_grammar::ParseFault;
 use aadl_lex::LexFault;
 use std::alloc::AllocError;
 use thiserror::Error;
 
-/// The first fault of the tokens, or the fault at the least place, each `at` a byte offset.
+/// The first lexical fault, or the first fault of the tokens; each `at` is a byte offset.
 #[derive(Clone, Copy, Debug, Error)]
 pub enum TextFault {
     /// The text has no tokens.
     #[error("{0}")]
     Lex(LexFault),
-    /// No text of the grammar goes on with the token at `at`, or ends there.
+    /// No text of the grammar continues with the token at `at` or, at the end of the text, ends there.
     #[error("Syntax")]
     Syntax { at: usize },
-    /// The opener at `at` makes the nesting 65.
+    /// The opener at `at` would increase the nesting to 65.
     #[error("TooDeep")]
     TooDeep { at: usize },
-    /// There was not enough memory.
+    /// Out of memory.
     #[error("Memory")]
     Memory,
 }

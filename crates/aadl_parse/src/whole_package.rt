@@ -1,4 +1,4 @@
-//! Reads a whole package: its name, what it imports, its declarations, and its end.
+//! Parses a whole package: its name, its imports, its declarations, and its end.
 ghost use Rattle.std.specs.Prelude.{[], ◌∷◌, flat_map, map};
 ghost use Rattle.aadl_tree.specs.declared.mark.Mark.TheVariants as k;
 ghost use Rattle.aadl_tree.specs.SpellingParts.{behind};

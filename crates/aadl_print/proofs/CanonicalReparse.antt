@@ -1,4 +1,4 @@
--- What is printed of a tree is read as the same tree and has no fault. For `is_read_back`.
+-- The printed text of a tree parses to the same tree and has no fault. For `is_read_back`.
 use Rattle.std.proofs.Common.{◌≡◌, ◌∙◌, ℕ, Bool, true, sym, ap, subst, List}
 use Rattle.std.specs.Prelude.{◌≢◌, IsTrue}
 use Rattle.std.proofs.Math.Bool.{Bool-set}
@@ -15,7 +15,7 @@ use Rattle.aadl_parse.specs.declared.text_fault.TextFault.TheVariants.{Memory}
 use Rattle.aadl_parse.specs.ParseResults.{IsFaultOfText}
 use Rattle.aadl_parse.proofs.UniqueParseResults.{tree_or_fault}
 
--- the canonical text does not hang on places
+-- the canonical text does not depend on places
 one_canon : (tree : SourceTree) → canon (placed tree) ≡ canon (meaning tree)
 one_canon tree = sym (canon_of (placed tree)) ∙ ap canon (package_tied no_place kept_place tree)
 

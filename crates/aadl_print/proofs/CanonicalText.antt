@@ -1,4 +1,4 @@
--- What the printer has written at its end is the canonical text of the tree.
+-- The final text of the printer is the canonical text of the tree.
 use Rattle.std.proofs.Common.{◌≡◌, ◌∙◌, ℕ, Bool, true, false, refl, ap, List, [], ◌∷◌, ◌++◌, append_assoc}
 use Rattle.std.specs.Prelude.{◌||◌, if◌then◌else◌}
 use Rattle.aadl_tree.specs.Terminals.{PlainTerminal}
@@ -9,7 +9,7 @@ use Rattle.aadl_tree.specs.Declarations.{PackageTree, package_parts}
 use Rattle.aadl_print.specs.declared.spacing.Spacing.TheVariants.{Nothing, Space, LineEnd}
 use Rattle.aadl_print.specs.proof.PrintedText.{Printed, gap_text, gap_behind, blank, put, printed}
 
--- terminals one behind the other
+-- terminals in sequence
 abbrev written : Printed → List PlainTerminal → Printed
 written before [] = before
 written before (kind ∷ ks) = written (put before kind) ks
@@ -55,7 +55,7 @@ printed_canon tree =
     ap (λ (p : Printed). p.text ++ line_end) (printed_kept blank (package_parts tree))
     ∙ written_canonical (kept (package_parts tree)) (λ e. absurd cc)
 
--- What is written of a whole tree, from nothing on, is its canonical text.
+-- The printed text of a whole tree is its canonical text.
 pub finished : {P : Type 0} (before after : Printed) (tree : PackageTree P) → before ≡ blank
     → after ≡ printed before (package_parts tree) → after.text ++ line_end ≡ canon tree
 finished before after tree none all =

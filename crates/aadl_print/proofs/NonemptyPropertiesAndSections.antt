@@ -1,4 +1,4 @@
--- Sections, and lists of properties, that are not empty have parts, and how they are written.
+-- Nonempty sections and lists of properties have parts; how they are printed.
 use Rattle.std.proofs.Common.{◌≡◌, ◌==◌, ℕ, false, refl, List, [], ◌∷◌, ◌++◌, length, map}
 use Rattle.std.specs.List.{flat_map}
 use Rattle.aadl_tree.specs.declared.mark.Mark.{Mark}
@@ -10,7 +10,7 @@ use Rattle.aadl_tree.specs.proof.ValueViews.{associations_view}
 use Rattle.aadl_tree.specs.Declarations.{section_parts}
 use Rattle.aadl_print.specs.proof.PrintedText.{Printed, printed, under}
 
--- A section is written as its word and what stands in it, or not at all.
+-- A section is printed as its keyword and its content, or not at all.
 pub printed_section : {P : Type 0} → (before : Printed) (s : Section) (ps : List (SpellingPart P))
     → printed before (section_parts s ps) ≡ printed before (under (section_mark s) ps)
 printed_section before s [] = refl
@@ -20,7 +20,7 @@ pub under_some : {P : Type 0} (word : Mark) (ps : List (SpellingPart P)) → (ps
 under_some word [] some = absurd (some refl)
 under_some word (p ∷ ps) some = refl
 
--- Things, each of which has a part, have one together.
+-- A nonempty list of items with parts has parts.
 pub some_parts : {A T P : Type 0} (parts : T → List (SpellingPart P)) (tree : A → T) → ((x : T) → parts x ≡ [] → ⊥)
     → (xs : List A) → false ≡ (length xs == 0) → flat_map parts (map tree xs) ≡ [] → ⊥
 some_parts parts tree some [] h e = absurd cc

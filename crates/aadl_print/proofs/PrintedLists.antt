@@ -1,4 +1,4 @@
--- A list that is written item by item is written as its parts, one behind the other.
+-- A list that is printed item by item is printed as its parts, in sequence.
 use Rattle.std.proofs.Common.{◌≡◌, ◌<◌, ◌≤◌, ◌+◌, ◌-◌, ℕ, ◌∙◌, sym, ap, refl, List, [], ◌∷◌, ◌++◌, length, take, drop}
 use Rattle.std.proofs.Common.{get_or, arith, suc}
 use Rattle.std.proofs.lemmas.List.{take_all, drop_all}
@@ -12,7 +12,7 @@ printed_append before [] b = refl
 printed_append before (token kind places ∷ a) b = printed_append (put before kind) a b
 printed_append before (may extra ∷ a) b = printed_append before a b
 
--- One turn of a loop writes the first of the things that are left.
+-- One iteration of a loop prints the first of the remaining items.
 pub next_written : {A P : Type 0} (parts : List A → List (SpellingPart P)) (here : A → List (SpellingPart P))
     → ((x : A) (xs : List A) → parts (x ∷ xs) ≡ here x ++ parts xs)
     → (xs : List A) (i : ℕ) (x : A) (whole before after : Printed) → i < length xs → x ≡ get_or xs i x
@@ -24,13 +24,13 @@ next_written parts here splits xs i x whole before after within is left written 
     ∙ printed_append before (here x) (parts (drop (i + 1) xs))
     ∙ ap (λ (p : Printed). printed p (parts (drop (i + 1) xs))) (sym written)
 
--- Behind the last turn nothing is left.
+-- After the last iteration no item remains.
 pub last_written : {A P : Type 0} (parts : List A → List (SpellingPart P)) (xs : List A) (i : ℕ) (whole now : Printed)
     → length xs ≤ i → parts [] ≡ [] → whole ≡ printed now (parts (drop i xs)) → now ≡ whole
 last_written parts xs i whole now past none left =
     sym (left ∙ ap (λ (l : List _). printed now (parts l)) (drop_all i xs past) ∙ ap (printed now) none)
 
--- A list that has a first item.
+-- A nonempty list.
 pub parted : {A : Type 0} (xs : List A) (x : A) → 1 ≤ length xs → x ≡ get_or xs 0 x
     → xs ≡ x ∷ take (length xs - 1) (drop 1 xs)
 parted [] x some is = absurd (omega arith)

@@ -1,4 +1,4 @@
-//! Writes the actions of behaviours.
+//! Prints the actions of behaviours.
 #![tactic(auto, using(crate::proofs::PrintedLists::printed_append))]
 
 ghost use Rattle.std.specs.Prelude.{◌≡◌, OnOk};
@@ -98,7 +98,7 @@ fn print_loop(printer: &mut Printer, turns: &Loop) -> Result<(), AllocError>
     print_block(printer, &turns.body)
 }
 
-/// Writes a block. It recurs as deep as the block is.
+/// Prints a block. The recursion is as deep as the block.
 #[cycle(action)]
 pub fn print_block(printer: &mut Printer, block: &Block) -> Result<(), AllocError>
     ensures { OnOk result (printer.new ≡ printed printer.old (block_parts (block_view no_place block.now))) }

@@ -1,4 +1,4 @@
-//! Writes annexes, and the declarations of a behaviour.
+//! Prints annexes, and the declarations of a behaviour.
 #![tactic(auto, using(crate::proofs::PrintedLists::printed_append))]
 
 ghost use Rattle.std.specs.Prelude.{◌≡◌, option_map, OnOk};
@@ -82,7 +82,7 @@ impl PrintItem for Guard {
     }
 }
 
-/// Writes a transition's label, which means nothing, and a colon behind it.
+/// Prints a transition's label, which has no meaning, and a colon after it.
 fn print_label(printer: &mut Printer, label: &Option<Identifier>) -> Result<(), AllocError>
     ensures { OnOk result (printer.new
         ≡ printed printer.old (parts_if label_parts (option_map (identifier_view no_place) label.now))) }

@@ -1,4 +1,4 @@
-//! Writes types, implementations, and what they declare.
+//! Prints types, implementations, and their members.
 #![tactic(auto, using(crate::proofs::PrintedLists::printed_append))]
 
 ghost use Rattle.std.specs.Prelude.{◌≡◌};

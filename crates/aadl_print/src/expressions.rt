@@ -1,4 +1,4 @@
-//! Writes the expressions of behaviours.
+//! Prints the expressions of behaviours.
 #![tactic(auto, using(crate::proofs::PrintedLists::printed_append))]
 
 ghost use Rattle.std.specs.Prelude.{◌≡◌, OnOk};
@@ -76,7 +76,7 @@ impl PrintItem for LeadingSign {
     }
 }
 
-/// Writes an expression. It recurs as deep as the expression is.
+/// Prints an expression. The recursion is as deep as the expression.
 #[cycle(expression)]
 pub fn print_expression(printer: &mut Printer, expression: &Expression) -> Result<(), AllocError>
     ensures { OnOk result (printer.new

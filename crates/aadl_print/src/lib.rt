@@ -1,6 +1,9 @@
-//! The canonical text of a tree: its terminals in the order of the grammar, spelled in one way, with
-//! a space, an end of line or nothing between two of them. Comments and what means nothing are left
-//! out.
+//! The printer: the canonical text of a tree. It consists of the tree's terminals in the order of the grammar,
+//! each in its canonical spelling, with a space, a line end or nothing between two of them. It has no comments
+//! and no constructs without meaning.
+//!
+//! [`print`] is proved to return the canonical text of the definition, and [`is_read_back`] proves that this
+//! text parses to the same tree. The crate does not preserve comments or layout.
 #![tactic(auto)]
 
 ghost use Rattle.std.specs.Prelude.{◌≡◌, IfOk, OnOk};
@@ -26,7 +29,7 @@ use printer::Printer;
 pub use round_trip::is_read_back;
 use std::alloc::{AllocError, Global};
 
-/// The canonical text of a tree. It fails only if there is not enough memory.
+/// Returns the canonical text of a tree. Errors: out of memory.
 pub fn print(alloc: Global, tree: &PackageTree) -> Result<Vec<u8>, AllocError>
     ensures { IfOk result (λ text. text.items ≡ canon (meaning tree.now)) }
 {

@@ -1,4 +1,4 @@
-//! Writes names and references.
+//! Prints names and references.
 #![tactic(auto, using(crate::proofs::PrintedLists::printed_append))]
 
 ghost use Rattle.std.specs.Prelude.{◌≡◌, map, flat_map, OnOk};
@@ -76,7 +76,7 @@ impl PrintItem for Identifiers {
     }
 }
 
-/// Writes the names of a package, each with `::` behind it.
+/// Prints the words of a package name, each with `::` after it.
 fn print_qualifiers(printer: &mut Printer, names: &[Identifier]) -> Result<(), AllocError>
     ensures { OnOk result (printer.new
         ≡ printed printer.old (flat_map qualifier_parts (map (identifier_view no_place) names.now))) }

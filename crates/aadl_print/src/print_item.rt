@@ -1,4 +1,4 @@
-//! Things that are written, and lists of them.
+//! Printable trees, and lists of them.
 #![tactic(auto, using(crate::proofs::PrintedLists::printed_append))]
 
 ghost use Rattle.std.specs.Prelude.{◌≡◌, ◌≢◌, List, [], map, flat_map, option_map, OnOk};
@@ -10,7 +10,7 @@ use crate::printer::Printer;
 use aadl_tree::Mark;
 use std::alloc::AllocError;
 
-/// What can be written: it stands for a tree, which is spelled by parts.
+/// A printable tree, which has a list of parts that spell it.
 pub trait PrintItem {
     ghost use Rattle.std.specs.Prelude.{List};
     ghost use Rattle.aadl_tree.specs.SpellingParts.{SpellingPart};
@@ -21,7 +21,7 @@ pub trait PrintItem {
 
     ghost parts: { Tree → List (SpellingPart (Unit {0})) };
 
-    /// Writes it.
+    /// Prints the tree.
     fn print(&self, printer: &mut Printer) -> Result<(), AllocError>
         ensures { OnOk result (printer.new ≡ printed printer.old (parts (tree self.now))) };
 }
@@ -38,7 +38,7 @@ impl<T: PrintItem> PrintItem for Box<T> {
     }
 }
 
-/// Writes one thing after another.
+/// Prints one item after another.
 pub fn print_all<T: PrintItem>(printer: &mut Printer, items: &[T]) -> Result<(), AllocError>
     ensures { OnOk result (printer.new ≡ printed printer.old (flat_map T.parts (map T.tree items.now))) }
 {
@@ -48,7 +48,7 @@ pub fn print_all<T: PrintItem>(printer: &mut Printer, items: &[T]) -> Result<(),
     Ok(())
 }
 
-/// Writes what is there, if anything is.
+/// Prints an optional item.
 pub fn print_option<T: PrintItem>(printer: &mut Printer, item: &Option<T>) -> Result<(), AllocError>
     ensures { OnOk result (printer.new ≡ printed printer.old (parts_if T.parts (option_map T.tree item.now))) }
 {
@@ -58,7 +58,7 @@ pub fn print_option<T: PrintItem>(printer: &mut Printer, item: &Option<T>) -> Re
     }
 }
 
-/// Writes what is there, if anything is, with a symbol before it.
+/// Prints a symbol and an item, if there is an item.
 pub fn print_behind<T: PrintItem>(
     printer: &mut Printer,
     before: Mark,
@@ -74,7 +74,7 @@ pub fn print_behind<T: PrintItem>(
     Ok(())
 }
 
-/// Writes one and more, with a symbol before each further one.
+/// Prints one or more items, with a symbol before each further one.
 pub fn print_chain<T: PrintItem>(
     printer: &mut Printer,
     separator: Mark,
@@ -92,7 +92,7 @@ pub fn print_chain<T: PrintItem>(
     Ok(())
 }
 
-/// Writes a keyword that stands there or does not.
+/// Prints an optional keyword.
 pub fn print_if(printer: &mut Printer, keyword: Mark, stands: bool) -> Result<(), AllocError>
     ensures { OnOk result (printer.new ≡ printed printer.old (marked_if {P = Unit {0}} keyword stands)) }
 {
@@ -102,7 +102,7 @@ pub fn print_if(printer: &mut Printer, keyword: Mark, stands: bool) -> Result<()
     Ok(())
 }
 
-/// Writes a list of declarations of an annex behind its word, if it stands there.
+/// Prints an optional list of declarations of an annex after its keyword.
 pub fn print_declared<T: PrintItem>(
     printer: &mut Printer,
     word: Mark,
@@ -119,7 +119,7 @@ pub fn print_declared<T: PrintItem>(
     Ok(())
 }
 
-/// Writes a section behind its word; nothing where it is empty.
+/// Prints a section after its keyword; nothing if the section is empty.
 pub fn print_section<T: PrintItem>(
     printer: &mut Printer,
     word: Mark,

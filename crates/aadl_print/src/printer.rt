@@ -1,4 +1,4 @@
-//! The text that is being written.
+//! The text under construction.
 ghost use Rattle.std.specs.Prelude.{◌≡◌, OnOk};
 ghost use Rattle.aadl_tree.specs.Terminals.{word, whole, real, quoted, unread, mark};
 
@@ -8,7 +8,7 @@ use itoa::Buffer;
 use std::alloc::{AllocError, Global};
 use std::marker::Model;
 
-/// The text of the terminals so far. Contracts see it with what stands behind the last one.
+/// The text of the terminals so far. The model also has the spacing after the last terminal.
 #[derive(Drop)]
 pub struct Printer {
     text: Vec<u8>,
@@ -28,7 +28,7 @@ impl Printer {
     ghost use Rattle.aadl_tree.specs.CanonicalText.{line_end};
     ghost use Rattle.aadl_print.specs.proof.PrintedText.{blank, put};
 
-    /// A printer that has written nothing. It takes no memory.
+    /// Creates an empty printer. Does not allocate.
     pub fn new(alloc: Global) -> Printer
         ensures { result ≡ blank }
     {
@@ -38,7 +38,7 @@ impl Printer {
         }
     }
 
-    /// Writes a keyword or a symbol.
+    /// Prints a keyword or a symbol.
     #[tactic(auto, unfolding(crate::specs::proof::PrintedText::put))]
     pub fn mark(&mut self, next: Mark) -> Result<(), AllocError>
         ensures { OnOk result (self.new ≡ put self.old (mark next)) }
@@ -51,7 +51,7 @@ impl Printer {
         Ok(())
     }
 
-    /// Writes a word, a real, a string or an annex of another language, byte for byte.
+    /// Prints a word, a real, a string or an annex of another language, byte for byte.
     #[tactic(auto, unfolding(crate::specs::proof::PrintedText::put))]
     pub fn verbatim(&mut self, bytes: &[u8]) -> Result<(), AllocError>
         ensures word { OnOk result (self.new ≡ put self.old (word bytes.now)) }
@@ -65,7 +65,7 @@ impl Printer {
         Ok(())
     }
 
-    /// Writes a whole number, in decimal digits.
+    /// Prints a whole number, in decimal digits.
     #[tactic(auto, unfolding(crate::specs::proof::PrintedText::put))]
     pub fn whole(&mut self, value: i64) -> Result<(), AllocError>
         ensures { OnOk result (self.new ≡ put self.old (whole value)) }
@@ -77,7 +77,7 @@ impl Printer {
         Ok(())
     }
 
-    /// The whole text, which ends with an end of line.
+    /// Returns the whole text, which ends with a line end. Errors: out of memory.
     pub fn finish(self) -> Result<Vec<u8>, AllocError>
         ensures { IfOk result (λ text. text.items ≡ self.text ++ line_end) }
     {

@@ -1,4 +1,4 @@
-//! The round trip of a tree: what the printer writes for it is read as that tree again.
+//! The round trip of a tree: the printed text of a tree parses to the same tree.
 ghost use Rattle.std.specs.Prelude.{IsTrue, IfOk};
 
 use crate::print;
@@ -6,8 +6,8 @@ use aadl_parse::{TextFault, parse};
 use aadl_tree::{PackageTree, same};
 use std::alloc::{AllocError, Global};
 
-/// Whether the text that [`print`] writes for a tree is read by [`parse`] as a tree that is the same.
-/// It always is.
+/// Returns whether the text that [`print`] returns for a tree parses, by [`parse`], to the same tree. The
+/// result is always true. Errors: out of memory.
 pub fn is_read_back(alloc: Global, tree: &PackageTree) -> Result<bool, AllocError>
     ensures { IfOk result IsTrue }
 {

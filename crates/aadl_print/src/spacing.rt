@@ -1,11 +1,11 @@
-//! What stands between two terminals.
+//! The spacing between two terminals.
 ghost use Rattle.std.specs.Prelude.{◌≡◌};
 ghost use Rattle.aadl_tree.specs.Terminals.{mark};
 ghost use Rattle.aadl_tree.specs.CanonicalText.{holds_left};
 
 use aadl_tree::Mark;
 
-/// What stands behind a terminal, where the next one lets it.
+/// The spacing after a terminal, unless the next one suppresses it.
 #[derive(Clone, Copy)]
 pub enum Spacing {
     Nothing,
@@ -16,7 +16,7 @@ pub enum Spacing {
 impl Spacing {
     ghost use Rattle.aadl_print.specs.proof.PrintedText.{gap_text, gap_behind};
 
-    /// Its bytes.
+    /// Returns its bytes.
     pub fn text(self) -> &'static [u8]
         ensures { result.now ≡ gap_text self }
     {
@@ -27,7 +27,7 @@ impl Spacing {
         }
     }
 
-    /// What stands behind a keyword or a symbol.
+    /// Returns the spacing after a keyword or a symbol.
     pub fn behind(last: Mark) -> Spacing
         ensures { result ≡ gap_behind (mark last) }
     {
@@ -48,7 +48,7 @@ impl Spacing {
     }
 }
 
-/// Whether nothing stands before a keyword or a symbol.
+/// Returns whether a keyword or a symbol suppresses the spacing before it.
 pub fn stands_close(next: Mark) -> bool
     ensures { result ≡ holds_left (mark next) }
 {

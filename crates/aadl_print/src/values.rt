@@ -1,4 +1,4 @@
-//! Writes properties and their values.
+//! Prints properties and their values.
 #![tactic(auto, using(crate::proofs::PrintedLists::printed_append))]
 
 ghost use Rattle.std.specs.Prelude.{◌≡◌, map, OnOk};
@@ -17,7 +17,7 @@ use aadl_tree::{
 };
 use std::alloc::AllocError;
 
-/// How a sign is written.
+/// Returns the symbol of a sign.
 pub fn sign_mark(sign: Sign) -> Mark
     ensures { result ≡ sign_mark sign }
 {
@@ -89,7 +89,7 @@ impl PrintItem for Quantity {
     }
 }
 
-/// Writes the paths that a property applies to, if there are any.
+/// Prints the paths that a property applies to, if there are any.
 fn print_applies(printer: &mut Printer, paths: &[Path]) -> Result<(), AllocError>
     ensures { OnOk result (printer.new
         ≡ printed printer.old (applies_parts (map (path_view no_place) paths.now))) }
@@ -102,7 +102,7 @@ fn print_applies(printer: &mut Printer, paths: &[Path]) -> Result<(), AllocError
     print_chain(printer, Mark::Comma, first, rest)
 }
 
-/// Writes a value. It recurs as deep as the value is.
+/// Prints a value. The recursion is as deep as the value.
 #[cycle(value)]
 pub fn print_value(printer: &mut Printer, value: &Value) -> Result<(), AllocError>
     ensures { OnOk result (printer.new ≡ printed printer.old (value_parts (value_view no_place value.now))) }
@@ -178,7 +178,7 @@ fn print_associations(printer: &mut Printer, associations: &[Association]) -> Re
     Ok(())
 }
 
-/// Writes properties in braces; nothing where there are none.
+/// Prints properties in braces; nothing if there are none.
 pub fn print_properties(printer: &mut Printer, properties: &[Association]) -> Result<(), AllocError>
     ensures { OnOk result (printer.new
         ≡ printed printer.old (properties_parts (associations_view no_place properties.now))) }
@@ -191,7 +191,7 @@ pub fn print_properties(printer: &mut Printer, properties: &[Association]) -> Re
     printer.mark(Mark::BraceClose)
 }
 
-/// Writes the section of the properties of a type or an implementation; nothing where there are none.
+/// Prints the section of the properties of a type or an implementation; nothing if there are none.
 pub fn print_own_properties(
     printer: &mut Printer,
     properties: &[Association],

@@ -1,5 +1,5 @@
--- Which variant an action is, by the plain action that it stands for: an assignment, a send, a choice or a loop. For
--- the comparison of actions.
+-- The variant of an action is determined by its plain action: an assignment, a send, a choice or a loop. For the
+-- comparison of actions.
 use Rattle.std.proofs.Common.{◌≡◌, ◌∙◌, ap, sym, Box, Global}
 use Rattle.aadl_tree.specs.declared.names.Identifier.{Identifier}
 use Rattle.aadl_tree.specs.declared.expressions.Expression.{Expression}

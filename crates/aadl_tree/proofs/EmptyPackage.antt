@@ -1,4 +1,4 @@
--- The tokens and the tree of a package without declarations: the claim `small_package_is_read`.
+-- The tokens and the tree of a package without declarations: the law `small_package_is_read`.
 use Rattle.std.proofs.Common.{◌≡◌, ℕ, zero, suc, Bool, true, false, ◌∙◌, ap, subst, refl, List, [], ◌∷◌, ◌++◌, arith}
 use Rattle.std.specs.Prelude.{nat_lt}
 use Rattle.std.specs.List.{list_all}

@@ -1,4 +1,4 @@
--- The terminals that spell an example transition, and its canonical text: the claim `counting_is_spelled`.
+-- The terminals that spell an example transition, and its canonical text: the law `counting_is_spelled`.
 use Rattle.std.proofs.Common.{◌≡◌, [], ◌∷◌, refl, inl, inr}
 use Rattle.std.specs.Fmt.{digits}
 use Rattle.aadl_tree.specs.declared.mark.Mark.TheVariants as k

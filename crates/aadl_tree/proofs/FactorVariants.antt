@@ -1,4 +1,4 @@
--- Which factor of an expression a plain factor stands for: absolute, negated or bare. For the comparison of
+-- The variant of a factor is determined by its plain factor: absolute, negated or bare. For the comparison of
 -- expressions.
 use Rattle.std.proofs.Common.{◌≡◌, ◌∙◌, ℕ, ap, sym, Box, Global}
 use Rattle.aadl_tree.specs.declared.expressions.Factor.{Factor, Abs, Not, Plain}

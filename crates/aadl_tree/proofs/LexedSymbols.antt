@@ -1,4 +1,4 @@
--- Each symbol that a text is lexed into is a symbol of the grammar. For the claim `marks_are_read`.
+-- Each symbol token of a text is a symbol of the grammar. For the law `marks_are_read`.
 use Rattle.std.proofs.Common.{◌≡◌, Bool, true, false, ◌||◌, ◌∙◌, ℕ, List, [], ◌∷◌, ap, refl}
 use Rattle.std.specs.Prelude.{is_some}
 use Rattle.std.specs.List.{list_all, list_any}

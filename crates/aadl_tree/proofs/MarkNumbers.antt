@@ -1,4 +1,4 @@
--- Two keywords or symbols are the same if their numbers are. For `Mark::is`.
+-- Two keywords or symbols are equal if their numbers are. For `Mark::is`.
 use Rattle.std.proofs.Common.{◌≡◌, ℕ, ◌∙◌, sym, ap, refl, List, [], ◌∷◌, get_or}
 use denote.Enum.Declared.{tag_of}
 use Rattle.aadl_tree.specs.declared.mark.Mark.{Mark}

@@ -1,4 +1,4 @@
--- A keyword or symbol is found among those that begin with its first byte. For the look-up of marks.
+-- A search for a keyword or symbol succeeds among the ones that begin with its first byte. For the look-up of marks.
 use Rattle.std.proofs.Common.{◌≡◌, ◌==◌, ◌<◌, ℕ, Bool, true, false, cond, refl, ap, sym, List, [], ◌∷◌, length, Some}
 use Rattle.std.proofs.Common.{None, zero, suc, arith}
 use Rattle.std.specs.Prelude.{slice_index, ◌↔◌, IsTrue}
@@ -17,7 +17,7 @@ kept p x xs ys true false e h same = absurd (let bad = h refl in cc)
 kept p x xs ys false true e h same = rw e same
 kept p x xs ys false false e h same = same
 
--- what is left out is never found
+-- a search ignores elements that never match
 find_kept : {A : Type 0} (p q : A → Bool) (xs : List A) → ((x : A) → p x ≡ true → q x ≡ true)
     → find p xs ≡ find p (filter q xs)
 find_kept p q [] h = refl
@@ -67,7 +67,7 @@ unspelled_by a b found true test wrong e =
     absurd (let yes = test.1 ((bytes_eq-Decides (str_to_ascii_lowercase a) (str_to_ascii_lowercase b)).0 e) in cc)
 unspelled_by a b found false test wrong e = refl
 
--- what is not the same whatever the case of its letters
+-- bytes that differ even without regard to case
 pub unspelled : (a b : List ℕ) (found : Bool) → IsTrue found ↔ (str_to_ascii_lowercase a ≡ str_to_ascii_lowercase b)
     → found ≡ false → str_eq_ignore_ascii_case a b ≡ false
 unspelled a b found test wrong = unspelled_by a b found (str_eq_ignore_ascii_case a b) test wrong refl

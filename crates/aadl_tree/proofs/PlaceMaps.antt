@@ -1,5 +1,5 @@
--- Plain trees with their places mapped are the trees that are made with the mapped places, by kinds of trees. For
--- the claim that places can be dropped.
+-- Mapping the places of plain trees gives the plain trees with mapped places, by kinds of trees. For the law that
+-- places can be dropped.
 pub mod Names
 pub mod Values
 pub mod Expressions

@@ -1,4 +1,4 @@
--- Which operand of an expression a plain operand stands for: a number, a truth value, a name or a group. For the
+-- The variant of an operand is determined by its plain operand: a number, a Boolean, a name or a group. For the
 -- comparison of expressions.
 use Rattle.std.proofs.Common.{◌≡◌, ◌∙◌, ℕ, ℤ, Bool, Box, Global, ap, sym}
 use Rattle.aadl_tree.specs.declared.names.Identifier.{Identifier}

@@ -1,5 +1,5 @@
--- Spellings of parts: one behind the other, by the parts that the canonical text keeps, and of terminals in their
--- places. For the claims `kept_is_spelled` and `parts_are_spelled_in_turn`.
+-- Spellings of parts: concatenation, the parts that the canonical text retains, and terminals at their places. For
+-- the laws `kept_is_spelled` and `parts_are_spelled_in_turn`.
 use Rattle.std.proofs.Common.{◌≡◌, ℕ, ◌∙◌, sym, ap, subst, refl, List, [], ◌∷◌, ◌++◌, inl, inr}
 use Rattle.aadl_tree.specs.Terminals.{PlainTerminal, PlacedTerminal, kinds_of}
 use Rattle.aadl_tree.specs.SpellingParts.{SpellingPart, token, may, extra_kinds, Spells, HaveKinds, Written, kept}

@@ -1,4 +1,4 @@
--- Which variant a value is, by the plain value that it stands for. For the comparison of values.
+-- The variant of a value is determined by its plain value. For the comparison of values.
 use Rattle.std.proofs.Common.{◌≡◌, ◌∙◌, ℕ, List, Option, Vec, Global, Box, ap, sym}
 use Rattle.aadl_tree.specs.declared.names.Path.{Path}
 use Rattle.aadl_tree.specs.declared.names.Reference.{Reference}

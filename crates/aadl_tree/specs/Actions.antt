@@ -1,4 +1,4 @@
--- Actions as plain trees, and what they are spelled by.
+-- Actions as plain trees, and the parts that spell them.
 use Rattle.std.specs.Prelude.{List, [], ◌∷◌, ◌++◌}
 use Rattle.aadl_tree.specs.declared.actions.Bound.{Bound}
 use Rattle.aadl_tree.specs.Terminals.{whole, mark}
@@ -17,7 +17,7 @@ mutual
   pub data Actions (P : Type 0) : Type 0 where
     actions : Action P → Mores P → Actions P
 
-  -- the actions behind the first one
+  -- the actions after the first one
   pub data Mores (P : Type 0) : Type 0 where
     no_mores : Mores P
     more : Action P → Mores P → Mores P
@@ -54,7 +54,7 @@ abbrev mutual
       ∷ (plain k.ParenOpen ∷ (identifier_parts x ++ (plain k.Colon ∷ (reference_parts type ++ (plain k.In
       ∷ (bound_parts low ++ (plain k.Range ∷ (bound_parts high ++ (plain k.ParenClose ∷ block_parts body)))))))))
 
-  -- A `;` behind the last action means nothing.
+  -- A `;` after the last action has no meaning.
   pub actions_parts : {P : Type 0} → Actions P → List (SpellingPart P)
   actions_parts (actions first rest) = action_parts first ++ (mores_parts rest ++ may last_semicolon ∷ [])
 

@@ -1,4 +1,4 @@
--- Annexes and behaviours as plain trees, and what they are spelled by.
+-- Annexes and behaviours as plain trees, and the parts that spell them.
 use Rattle.std.specs.Prelude.{ℕ, Bool, List, [], ◌∷◌, ◌++◌, flat_map, Option}
 use Rattle.aadl_tree.specs.declared.mark.Mark.{Mark}
 use Rattle.aadl_tree.specs.Terminals.{mark, unread}
@@ -75,7 +75,7 @@ transition_parts x =
     ++ (identifier_parts x.source ++ (plain k.GuardOpen ∷ (parts_if guard_parts x.guard ++ (plain k.GuardClose
     ∷ (identifier_parts x.target ++ (parts_if block_parts x.effect ++ plain k.Semicolon ∷ []))))))
 
--- a word of the annex, and what is declared behind it
+-- a keyword of the annex, and the declarations after it
 abbrev pub declared_parts : {P A : Type 0} → Mark → (A → List (SpellingPart P)) → List A → List (SpellingPart P)
 declared_parts m parts xs = plain m ∷ flat_map parts xs
 

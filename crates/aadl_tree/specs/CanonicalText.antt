@@ -1,4 +1,4 @@
--- The canonical text of terminals, and so of a tree.
+-- The canonical text of terminals and of a tree.
 use Rattle.std.specs.Prelude.{ℕ, Bool, true, false, ◌||◌, codes, List, [], ◌∷◌, ◌++◌, if◌then◌else◌}
 use Rattle.std.specs.Fmt.{signed_decimal}
 use Rattle.aadl_tree.specs.KeywordsAndSymbols.{mark_text}
@@ -7,7 +7,7 @@ use Rattle.aadl_tree.specs.SpellingParts.{kept}
 use Rattle.aadl_tree.specs.Declarations.{PackageTree, package_parts}
 use Rattle.aadl_tree.specs.declared.mark.Mark.TheVariants as k
 
--- Keywords stand in lower case, whole numbers in decimal digits, all else as it is spelled.
+-- Keywords are written in lower case, whole numbers in decimal digits, and all other terminals as they are spelled.
 abbrev pub kind_text : PlainTerminal → List ℕ
 kind_text (word bytes) = bytes
 kind_text (whole n) = signed_decimal n
@@ -17,7 +17,7 @@ kind_text (unread bytes) = bytes
 kind_text (mark m) = mark_text m
 kind_text (other bytes) = bytes
 
--- No space stands before it.
+-- No space precedes it.
 abbrev pub holds_left : PlainTerminal → Bool
 holds_left (mark k.Semicolon) = true
 holds_left (mark k.Comma) = true
@@ -29,7 +29,7 @@ holds_left (mark k.Tick) = true
 holds_left (mark k.Bang) = true
 holds_left _ = false
 
--- No space stands behind it; so none stands between `!` and `(`.
+-- No space follows it; so there is no space between `!` and `(`.
 abbrev pub holds_right : PlainTerminal → Bool
 holds_right (mark k.ParenOpen) = true
 holds_right (mark k.Scope) = true
@@ -38,7 +38,7 @@ holds_right (mark k.Tick) = true
 holds_right (mark k.Bang) = true
 holds_right _ = false
 
--- LF stands behind it in the place of a space: `;`, `public`, `{**`, and the words that open a section.
+-- LF follows it instead of a space: `;`, `public`, `{**`, and the keywords that open a section.
 abbrev pub ends_line : PlainTerminal → Bool
 ends_line (mark k.Semicolon) = true
 ends_line (mark k.Public) = true
@@ -55,11 +55,11 @@ ends_line _ = false
 abbrev pub line_end : List ℕ
 line_end = 10 ∷ []
 
--- what stands between two terminals
+-- the bytes between two terminals
 abbrev pub between : PlainTerminal → PlainTerminal → List ℕ
 between left right = if holds_right left || holds_left right then [] else if ends_line left then line_end else codes " "
 
--- the text behind a terminal; it ends with LF
+-- the text after a terminal; it ends with LF
 abbrev pub text_behind : PlainTerminal → List PlainTerminal → List ℕ
 text_behind left [] = line_end
 text_behind left (right ∷ ks) = between left right ++ (kind_text right ++ text_behind right ks)

@@ -1,4 +1,4 @@
--- Types, implementations and what they declare, as plain trees, and what they are spelled by.
+-- Types, implementations and their members as plain trees, and the parts that spell them.
 use Rattle.std.specs.Prelude.{List, [], ◌∷◌, ◌++◌, flat_map, Option}
 use Rattle.aadl_tree.specs.declared.mark.Mark.{Mark}
 use Rattle.aadl_tree.specs.declared.declarations.Category.{Category}
@@ -82,7 +82,7 @@ abbrev pub direction_mark : Direction → Mark
 direction_mark directions.In = k.In
 direction_mark directions.Out = k.Out
 
--- A section: its word, and what it has. Where it has nothing, a text may say so: `none ;`.
+-- A section: its keyword and its items. If it has no items, a text may contain `none ;` instead.
 abbrev pub section_parts : {P : Type 0} → Section → List (SpellingPart P) → List (SpellingPart P)
 section_parts section [] = may (empty_section section) ∷ []
 section_parts section (p ∷ ps) = plain (section_mark section) ∷ (p ∷ ps)

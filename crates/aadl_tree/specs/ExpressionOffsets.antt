@@ -1,4 +1,4 @@
--- Where the first token of an expression stands, or of a part of it.
+-- The position of the first token of an expression, or of a part of one.
 use Rattle.std.specs.Prelude.{Option, Some, None}
 use Rattle.aadl_tree.specs.Expressions.{LeadingSign, Primary, number, truth, named, group, Factor, absolute, negated}
 use Rattle.aadl_tree.specs.Expressions.{bare, Term, term, Sum, total, Relation, single, compared, Expression}
@@ -18,7 +18,7 @@ factor_at (bare x) = primary_at x
 abbrev pub term_at : {P : Type 0} → Term P → P
 term_at (term first rest) = factor_at first
 
--- the sign's place, where there is one
+-- the place of the sign, if there is one
 abbrev pub signed_at : {P : Type 0} → Option (LeadingSign P) → P → P
 signed_at None at = at
 signed_at (Some sign) at = sign.at

@@ -1,4 +1,4 @@
--- Expressions as plain trees, and what they are spelled by.
+-- Expressions as plain trees, and the parts that spell them.
 use Rattle.std.specs.Prelude.{ℤ, Bool, true, false, List, [], ◌∷◌, ◌++◌, Option}
 use Rattle.aadl_tree.specs.declared.mark.Mark.{Mark}
 use Rattle.aadl_tree.specs.declared.expressions.Sign.{Sign}

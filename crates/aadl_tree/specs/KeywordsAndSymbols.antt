@@ -1,4 +1,4 @@
--- Keywords and symbols: how each is written, and where a word is a keyword.
+-- Keywords and symbols: the text of each, and the contexts in which a word is a keyword.
 use Rattle.std.specs.Prelude.{ℕ, Bool, true, false, codes, List, [], ◌∷◌, Option}
 use Rattle.std.specs.List.{find}
 use Rattle.std.specs.Str.{bytes_eq, str_eq_ignore_ascii_case}
@@ -87,14 +87,14 @@ mark_text k.Tick = codes "'"
 mark_text k.AnnexOpen = codes "{**"
 mark_text k.AnnexClose = codes "**}"
 
--- the keywords of the declarations, outside of behaviour annexes
+-- the keywords of declarations, outside behaviour annexes
 abbrev pub keywords_outside : List Mark
 keywords_outside =
     k.Package ∷ k.Public ∷ k.With ∷ k.End ∷ k.System ∷ k.Process ∷ k.Thread ∷ k.Features ∷ k.Properties ∷
     k.Implementation ∷ k.Subcomponents ∷ k.Connections ∷ k.Nothing ∷ k.In ∷ k.Out ∷ k.Data ∷ k.Port ∷
     k.Annex ∷ k.Constant ∷ k.Applies ∷ k.To ∷ k.Reference ∷ k.Classifier ∷ []
 
--- the keywords inside a behaviour annex: the words of each form that can stand there, properties too
+-- the keywords inside a behaviour annex: the words of every construct that can occur there, including properties
 abbrev pub keywords_inside : List Mark
 keywords_inside =
     k.Variables ∷ k.States ∷ k.Transitions ∷ k.Constant ∷ k.Applies ∷ k.To ∷ k.Reference ∷ k.Classifier ∷
@@ -113,7 +113,7 @@ symbols =
     k.BracketClose ∷ k.Plus ∷ k.Minus ∷ k.Star ∷ k.Slash ∷ k.Equal ∷ k.NotEqual ∷ k.Less ∷ k.LessOrEqual ∷
     k.Greater ∷ k.GreaterOrEqual ∷ k.Assign ∷ k.Bang ∷ k.Tick ∷ []
 
--- the keyword that a word is, inside or outside, whatever its case
+-- the keyword that a word is, inside or outside a behaviour annex, in any case
 abbrev pub keyword_of : Bool → List ℕ → Option Mark
 keyword_of inside word = find (λ m. str_eq_ignore_ascii_case word (mark_text m)) (keywords inside)
 

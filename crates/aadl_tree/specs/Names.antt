@@ -1,4 +1,4 @@
--- Names and references as plain trees. Each word keeps its place, of the type P.
+-- Names and references as plain trees. Each word has a place, of the type P.
 use Rattle.std.specs.Prelude.{ℕ, Bool, List, [], ◌∷◌, ◌++◌, flat_map, Option, Some, None}
 use Rattle.std.specs.Str.{str_eq_ignore_ascii_case}
 use Rattle.aadl_tree.specs.Terminals.{word}
@@ -58,7 +58,7 @@ same_name a b = str_eq_ignore_ascii_case a b
 abbrev pub identifiers : {P : Type 0} → Identifiers P → List (Identifier P)
 identifiers x = x.first ∷ x.rest
 
--- what is listed, where a list is there at all
+-- the items of an optional list
 abbrev pub listed_in : {X : Type 0} → Option (List X) → List X
 listed_in None = []
 listed_in (Some xs) = xs

@@ -1,4 +1,4 @@
--- What a tree is spelled by, part for part, and which terminals spell it.
+-- The parts that spell a tree, and the terminals that spell the parts.
 use Rattle.std.specs.Prelude.{ℕ, ◌≡◌, ◌⊎◌, Bool, true, false, List, [], ◌∷◌, ◌++◌, flat_map, Option, Some, None}
 use Rattle.aadl_tree.specs.declared.mark.Mark.{Mark}
 use Rattle.aadl_tree.specs.Terminals.{PlainTerminal, mark, PlacedTerminal}
@@ -17,7 +17,7 @@ section_mark subcomponent_section = k.Subcomponents
 section_mark connection_section = k.Connections
 section_mark property_section = k.Properties
 
--- What a text may have and no tree keeps: a section of `none ;`, and a `;` behind the last action.
+-- Constructs that a text may have but no tree stores: a section of `none ;`, and a `;` after the last action.
 pub data Extra : Type 0 where
   empty_section : Section → Extra
   last_semicolon : Extra
@@ -30,28 +30,28 @@ extra_kinds last_semicolon = mark k.Semicolon ∷ []
 pub data SpellingPart (P : Type 0) : Type 0 where
   -- a terminal, with the places that the tree keeps of it
   token : PlainTerminal → List P → SpellingPart P
-  -- what a text may have here, and means nothing
+  -- an optional construct without meaning
   may : Extra → SpellingPart P
 
 -- a keyword or a symbol without a place
 abbrev pub plain : {P : Type 0} → Mark → SpellingPart P
 plain m = token (mark m) []
 
--- a keyword that stands there or does not
+-- an optional keyword
 abbrev pub marked_if : {P : Type 0} → Mark → Bool → List (SpellingPart P)
 marked_if m true = plain m ∷ []
 marked_if m false = []
 
--- the parts of something that stands there or does not
+-- the parts of an optional value
 abbrev pub parts_if : {P A : Type 0} → (A → List (SpellingPart P)) → Option A → List (SpellingPart P)
 parts_if parts None = []
 parts_if parts (Some x) = parts x
 
--- the parts of something behind a keyword or a symbol
+-- the parts of a value after a keyword or a symbol
 abbrev pub behind : {P A : Type 0} → Mark → (A → List (SpellingPart P)) → A → List (SpellingPart P)
 behind m parts x = plain m ∷ parts x
 
--- one and more, with a symbol before each further one
+-- one or more, with a symbol before each further one
 abbrev pub chained : {P A : Type 0} → Mark → (A → List (SpellingPart P)) → A → List A → List (SpellingPart P)
 chained m parts first rest = parts first ++ flat_map (behind m parts) rest
 
@@ -73,7 +73,7 @@ HaveKinds [] ss rest = ss ≡ rest
 HaveKinds (kind ∷ ks) ss rest =
     (s : PlacedTerminal) × (more : List PlacedTerminal) × (ss ≡ s ∷ more) × (s.kind ≡ kind) × HaveKinds ks more rest
 
--- The terminals up to the rest spell the parts, and stand in their places.
+-- The terminals up to the rest spell the parts and are at the parts' places.
 abbrev pub Written : List (SpellingPart ℕ) → List PlacedTerminal → List PlacedTerminal → Type 0
 Written [] ss rest = ss ≡ rest
 Written (token kind places ∷ ps) ss rest =
@@ -81,7 +81,7 @@ Written (token kind places ∷ ps) ss rest =
 Written (may extra ∷ ps) ss rest =
     Written ps ss rest ⊎ ((more : List PlacedTerminal) × HaveKinds (extra_kinds extra) ss more × Written ps more rest)
 
--- the terminals of the canonical text: all but those that mean nothing
+-- the terminals of the canonical text: all except the meaningless ones
 abbrev pub kept : {P : Type 0} → List (SpellingPart P) → List PlainTerminal
 kept [] = []
 kept (token kind places ∷ ps) = kind ∷ kept ps

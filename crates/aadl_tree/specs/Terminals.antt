@@ -1,4 +1,4 @@
--- The terminals of the grammar, and those of a text's tokens.
+-- The terminals of the grammar, and the terminals of a text's tokens.
 use Rattle.std.specs.Prelude.{ℕ, ℤ, Bool, true, false, List, [], ◌∷◌, map, Option, Some, None}
 use Rattle.aadl_lex.specs.declared.token.Token.{Token}
 use Rattle.aadl_lex.specs.declared.token.TokenKind.{TokenKind}
@@ -10,7 +10,7 @@ use Rattle.aadl_tree.specs.declared.mark.Mark.TheVariants as k
 
 -- a terminal
 pub data PlainTerminal : Type 0 where
-  -- a word that is no keyword
+  -- a word other than a keyword
   word : List ℕ → PlainTerminal
   -- a whole number, by its value
   whole : ℤ → PlainTerminal
@@ -20,7 +20,7 @@ pub data PlainTerminal : Type 0 where
   unread : List ℕ → PlainTerminal
   -- a keyword or a symbol
   mark : Mark → PlainTerminal
-  -- bytes that are no symbol; no text has such a token
+  -- bytes that are not a symbol; no text has such a token
   other : List ℕ → PlainTerminal
 
 abbrev pub word_kind : List ℕ → Option Mark → PlainTerminal
@@ -45,18 +45,18 @@ class_kind inside class.Unread bytes = unread bytes
 abbrev pub kind_of : Bool → List ℕ → Token → PlainTerminal
 kind_of inside text t = class_kind inside t.kind (bytes_of text t)
 
--- whether what stands behind a token is inside
+-- whether the text after a token is inside a behaviour annex
 abbrev pub inside_behind : Bool → TokenKind → Bool
 inside_behind inside class.AnnexOpen = true
 inside_behind inside class.AnnexClose = false
 inside_behind inside _ = inside
 
--- a terminal, and where it stands in the text
+-- a terminal and its place in the text
 pub record PlacedTerminal : Type 0 where
   pub kind : PlainTerminal
   pub at : ℕ
 
--- the terminals of tokens in their places, from inside or outside on
+-- the terminals of tokens at their places, starting inside or outside a behaviour annex
 abbrev pub spots_from : Bool → List ℕ → List Token → List PlacedTerminal
 spots_from inside text [] = []
 spots_from inside text (t ∷ ts) =

@@ -1,4 +1,4 @@
--- Which tree the grammar gives for a text or a behaviour, and where it gives none.
+-- The tree that the grammar assigns to a text or a behaviour, and the positions at which it assigns none.
 use Rattle.std.specs.Prelude.{ℕ, true, List, [], length}
 use Rattle.aadl_lex.specs.declared.token.Token.{Token}
 use Rattle.aadl_lex.specs.TokensAndFirstFaults.{AreTokensOf}
@@ -9,26 +9,26 @@ use Rattle.aadl_tree.specs.Declarations.{PackageTree, package_parts}
 use Rattle.aadl_tree.specs.PackagesBehavioursAndNesting.{IsPackage, IsShallow}
 use Rattle.aadl_tree.specs.TerminalFaults.{FailsAt, DeepAt}
 
--- The tree of a text: its tokens spell it, in their places, and are nowhere nested too deep.
+-- The tree of a text: its tokens spell the tree, at their places, and are within the nesting limit.
 pub record IsTreeOf (text : List ℕ) (tree : PackageTree ℕ) : Type 0 where
   pub tokens : List Token
   pub lexed : AreTokensOf text tokens
   pub written : Written (package_parts tree) (placed_terminals text tokens) []
   pub shallow : IsShallow 0 (kinds_of (placed_terminals text tokens))
 
--- The text is no text of the grammar from this place on.
+-- No text of the grammar continues from this place on.
 pub record StopsAt (text : List ℕ) (at : ℕ) : Type 0 where
   pub tokens : List Token
   pub lexed : AreTokensOf text tokens
   pub fails : FailsAt IsPackage 0 (length text) (placed_terminals text tokens) at
 
--- At this place of the text the nesting gets too deep.
+-- The opener at this place of the text exceeds the nesting limit.
 pub record NestsAt (text : List ℕ) (at : ℕ) : Type 0 where
   pub tokens : List Token
   pub lexed : AreTokensOf text tokens
   pub deep : DeepAt IsPackage 0 (placed_terminals text tokens) at
 
--- The tokens of a behaviour by itself stand in an opened annex, so one opener is open before them.
+-- The tokens of a behaviour by itself are inside an opened annex, so one opener is open before them.
 abbrev pub outer_nesting : ℕ
 outer_nesting = 1
 

@@ -1,4 +1,4 @@
--- Properties and their values as plain trees, and what they are spelled by.
+-- Properties and their values as plain trees, and the parts that spell them.
 use Rattle.std.specs.Prelude.{ℕ, ℤ, Bool, List, [], ◌∷◌, ◌++◌, Option}
 use Rattle.aadl_tree.specs.declared.mark.Mark.{Mark}
 use Rattle.aadl_tree.specs.declared.expressions.Sign.{Sign}
@@ -38,7 +38,7 @@ mutual
     no_values : Values P
     value : Value P → Values P → Values P
 
-  -- a property: its name and operator, whether `constant` stands there, its value, and the paths that it applies to
+  -- a property: its name and operator, whether it is `constant`, its value, and the paths that it applies to
   pub data Association (P : Type 0) : Type 0 where
     association : Name P → AssociationOperator → Bool → Value P → List (Path P) → Association P
 

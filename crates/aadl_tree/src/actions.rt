@@ -3,7 +3,7 @@
 use crate::expressions::Expression;
 use crate::names::{Identifier, Reference};
 
-/// What a transition does.
+/// An action of a transition.
 #[cycle(action)]
 pub enum Action {
     /// `id ":=" expression`
@@ -16,9 +16,9 @@ pub enum Action {
         port: Identifier,
         value: Expression,
     },
-    /// The first actions whose test is true.
+    /// Executes the actions of the first true test.
     If(Box<Choice>),
-    /// The actions once for each number of a range.
+    /// Executes the actions once for each number of a range.
     For(Box<Loop>),
 }
 
@@ -37,7 +37,7 @@ impl Drop for Action {
     }
 }
 
-/// Actions one after another, with `;` between them.
+/// Actions in sequence, separated by `;`.
 #[cycle(action)]
 pub struct Actions {
     pub first: Action,
@@ -92,7 +92,7 @@ impl Drop for Elsif {
 /// `"for" "(" id ":" reference "in" bound ".." bound ")" block`
 #[cycle(action)]
 pub struct Loop {
-    /// Where `for` stands.
+    /// The byte offset of `for`.
     pub at: usize,
     pub variable: Identifier,
     pub data_type: Reference,
@@ -122,7 +122,7 @@ pub struct Block {
     pub actions: Option<Box<Actions>>,
 }
 
-/// An end of a loop's range: `[ "-" ] whole`.
+/// A bound of a loop's range: `[ "-" ] whole`.
 #[derive(Clone, Copy, PartialEq)]
 pub struct Bound {
     pub negative: bool,

@@ -7,7 +7,7 @@ use crate::values::Association;
 
 /// `"annex" id ( unread | "{**" behaviour "**}" ) ";"`
 pub struct Annex {
-    /// Where `annex` stands.
+    /// The byte offset of `annex`.
     pub at: usize,
     pub language: Identifier,
     pub content: AnnexContent,
@@ -23,9 +23,9 @@ impl Drop for Annex {
     }
 }
 
-/// What stands in an annex.
+/// The content of an annex.
 pub enum AnnexContent {
-    /// An annex of another language, byte for byte from its `{**` to its `**}`.
+    /// The bytes of an annex of another language, from its `{**` to its `**}`.
     Unread(Vec<u8>),
     /// A behaviour.
     Behaviour(AnnexTree),
@@ -93,7 +93,7 @@ impl Drop for StateDeclaration {
 
 /// `[ id ":" ] id "-[" [ guard ] "]->" id [ block ] ";"`
 pub struct Transition {
-    /// It has no meaning.
+    /// The label, which has no meaning.
     pub label: Option<Identifier>,
     pub source: Identifier,
     pub guard: Option<Guard>,
@@ -113,13 +113,13 @@ impl Drop for Transition {
     }
 }
 
-/// When a transition is taken.
+/// The condition of a transition.
 pub enum Guard {
     /// `"on" "dispatch"`
     Dispatch,
     /// `"otherwise"`
     Otherwise,
-    /// Where the expression is true.
+    /// The transition is enabled if the expression is true.
     When(Expression),
 }
 

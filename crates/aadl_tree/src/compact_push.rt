@@ -1,9 +1,10 @@
-//! A push on a list that takes room for one item first and doubles it when it is full.
+//! Appends to a list whose capacity starts at one item and doubles when the list is full.
 ghost use Rattle.std.specs.Prelude.{◌≡◌, [], ◌∷◌, ◌++◌, OnOk};
 
 use std::alloc::AllocError;
 
-/// Adds an item. A list without room doubles it, from one item on: one of one item has room for one.
+/// Appends an item. A full list doubles its capacity; an empty one gets room for one item. Errors: out of
+/// memory.
 pub fn push_compact<T: Drop>(list: &mut Vec<T>, item: T) -> Result<(), AllocError>
     ensures { OnOk result (list.new.items ≡ list.old.items ++ item ∷ []) }
 {

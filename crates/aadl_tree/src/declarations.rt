@@ -1,10 +1,10 @@
-//! Types, implementations, and what they declare.
+//! Types, implementations, and their members.
 
 use crate::annex::Annex;
 use crate::names::{Identifier, Name, Reference};
 use crate::values::Association;
 
-/// What kind of component it is.
+/// The category of a component.
 #[derive(Clone, Copy, PartialEq)]
 pub enum Category {
     System,
@@ -12,7 +12,7 @@ pub enum Category {
     Thread,
 }
 
-/// Which way a port goes.
+/// The direction of a port.
 #[derive(Clone, Copy, PartialEq)]
 pub enum Direction {
     In,
@@ -48,7 +48,7 @@ impl Drop for Declaration {
 
 /// `category id [ features ] [ properties ] { annex } "end" id ";"`
 pub struct TypeDeclaration {
-    /// Where the category stands.
+    /// The byte offset of the category.
     pub at: usize,
     pub category: Category,
     pub name: Identifier,
@@ -75,7 +75,7 @@ impl Drop for TypeDeclaration {
 /// `category "implementation" id "." id [ subcomponents ] [ connections ] [ properties ] { annex }
 /// "end" id "." id ";"`
 pub struct Implementation {
-    /// Where the category stands.
+    /// The byte offset of the category.
     pub at: usize,
     pub category: Category,
     pub name: ImplementationName,
@@ -101,7 +101,7 @@ impl Drop for Implementation {
     }
 }
 
-/// The name of an implementation, behind its type: `id "." id`.
+/// The name of an implementation: its type, and its own name after it: `id "." id`.
 pub struct ImplementationName {
     pub component_type: Identifier,
     pub implementation: Identifier,
@@ -173,7 +173,7 @@ impl Drop for Connection {
     }
 }
 
-/// An own port, or a subcomponent and its port: `id [ "." id ]`.
+/// A port of the implementation itself, or a subcomponent and its port: `id [ "." id ]`.
 pub struct ConnectionEnd {
     pub first: Identifier,
     pub second: Option<Identifier>,

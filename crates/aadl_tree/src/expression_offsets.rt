@@ -1,4 +1,4 @@
-//! Where expressions stand: the offset of their first token.
+//! The positions of expressions: the byte offset of the first token.
 ghost use Rattle.std.specs.Prelude.{◌≡◌};
 ghost use Rattle.aadl_tree.specs.proof.ExpressionViews.{primary_view, factor_view, term_view, sum_view, relation_view};
 ghost use Rattle.aadl_tree.specs.proof.ExpressionViews.{expression_view};
@@ -8,7 +8,7 @@ ghost use Rattle.aadl_tree.specs.proof.PlaceMaps.{kept_place};
 use crate::expressions::{Expression, Factor, Primary, Relation, Sum, Term};
 
 impl Expression {
-    /// Where its first token stands.
+    /// Returns the byte offset of its first token.
     pub fn at(&self) -> usize
         ensures { result ≡ expression_at (expression_view kept_place self.now) }
     {
@@ -17,7 +17,7 @@ impl Expression {
 }
 
 impl Relation {
-    /// Where its first token stands.
+    /// Returns the byte offset of its first token.
     pub fn at(&self) -> usize
         ensures { result ≡ relation_at (relation_view kept_place self.now) }
     {
@@ -26,7 +26,7 @@ impl Relation {
 }
 
 impl Sum {
-    /// Where its first token stands.
+    /// Returns the byte offset of its first token.
     pub fn at(&self) -> usize
         ensures { result ≡ sum_at (sum_view kept_place self.now) }
     {
@@ -38,7 +38,7 @@ impl Sum {
 }
 
 impl Term {
-    /// Where its first token stands.
+    /// Returns the byte offset of its first token.
     pub fn at(&self) -> usize
         ensures { result ≡ term_at (term_view kept_place self.now) }
     {
@@ -47,7 +47,7 @@ impl Term {
 }
 
 impl Factor {
-    /// Where its first token stands.
+    /// Returns the byte offset of its first token.
     pub fn at(&self) -> usize
         ensures { result ≡ factor_at (factor_view kept_place self.now) }
     {
@@ -59,7 +59,7 @@ impl Factor {
 }
 
 impl Primary {
-    /// Where its first token stands.
+    /// Returns the byte offset of its first token.
     pub fn at(&self) -> usize
         ensures { result ≡ primary_at (primary_view kept_place self.now) }
     {

@@ -1,4 +1,4 @@
-//! Expressions of behaviours. Operators of one rank stand in one list, from left to right.
+//! Expressions of behaviours. Operators of one precedence level are in one list, from left to right.
 
 use crate::names::Identifier;
 
@@ -9,7 +9,7 @@ pub enum Sign {
     Minus,
 }
 
-/// An operator between relations.
+/// An operator between relations: a logical operator.
 #[derive(Clone, Copy, PartialEq)]
 pub enum LogicOperator {
     And,
@@ -19,7 +19,7 @@ pub enum LogicOperator {
     OrElse,
 }
 
-/// An operator between sums.
+/// An operator between sums: a comparison.
 #[derive(Clone, Copy, PartialEq)]
 pub enum RelationOperator {
     Equal,
@@ -30,7 +30,7 @@ pub enum RelationOperator {
     GreaterOrEqual,
 }
 
-/// An operator between factors.
+/// An operator between factors: a multiplicative operator.
 #[derive(Clone, Copy, PartialEq)]
 pub enum MultiplyOperator {
     Times,
@@ -39,7 +39,7 @@ pub enum MultiplyOperator {
     Rem,
 }
 
-/// Relations with `and`, `or`, `xor`, `and then` or `or else` between them.
+/// Relations separated by `and`, `or`, `xor`, `and then` or `or else`.
 #[cycle(expression)]
 pub struct Expression {
     pub first: Relation,
@@ -53,7 +53,7 @@ impl Drop for Expression {
     }
 }
 
-/// A sum, or two that are compared.
+/// A sum, or a comparison of two sums.
 #[cycle(expression)]
 pub struct Relation {
     pub left: Sum,
@@ -67,15 +67,15 @@ impl Drop for Relation {
     }
 }
 
-/// The sign before a sum's first term. Its place has 32 bits, so that it takes 8 bytes.
+/// The sign before the first term of a sum. Its offset has 32 bits, so that it takes 8 bytes.
 #[derive(Clone, Copy)]
 pub struct LeadingSign {
-    /// Where it stands.
+    /// Its byte offset.
     pub at: u32,
     pub sign: Sign,
 }
 
-/// Terms with `+` or `-` between them. A sign at the front is the first term's.
+/// Terms separated by `+` or `-`. A sign at the front belongs to the first term.
 #[cycle(expression)]
 pub struct Sum {
     pub sign: Option<LeadingSign>,
@@ -94,7 +94,7 @@ impl Drop for Sum {
     }
 }
 
-/// Factors with `*`, `/`, `mod` or `rem` between them.
+/// Factors separated by `*`, `/`, `mod` or `rem`.
 #[cycle(expression)]
 pub struct Term {
     pub first: Factor,
@@ -108,7 +108,7 @@ impl Drop for Term {
     }
 }
 
-/// An operand, with `abs`, `not` or nothing before it; `at` is the keyword's place.
+/// An operand, optionally after `abs` or `not`; `at` is the byte offset of this keyword.
 #[cycle(expression)]
 pub enum Factor {
     Abs { at: usize, operand: Box<Primary> },
@@ -127,14 +127,14 @@ impl Drop for Factor {
     }
 }
 
-/// An operand; `at` is the place of its first token.
+/// An operand; `at` is the byte offset of its first token.
 #[cycle(expression)]
 pub enum Primary {
     /// A whole number.
     Whole { at: usize, value: i64 },
     /// `true` or `false`.
     Truth { at: usize, value: bool },
-    /// A variable or a port; or whether a port is fresh: `id [ "'" "fresh" ]`.
+    /// A variable or a port, or whether a port is fresh: `id [ "'" "fresh" ]`.
     Named { name: Identifier, fresh: bool },
     /// An expression in parentheses.
     Group { at: usize, inner: Box<Expression> },

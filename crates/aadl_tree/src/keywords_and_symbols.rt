@@ -1,4 +1,4 @@
-//! The text of each keyword and symbol, and which of them a word or some bytes are.
+//! The text of each keyword and symbol, and the recognition of words and bytes as keywords and symbols.
 ghost use Rattle.std.specs.Prelude.{◌≡◌, ◌↔◌, IsTrue, true, false};
 ghost use Rattle.std.specs.List.{find};
 ghost use Rattle.std.specs.Str.{bytes_eq, str_eq_ignore_ascii_case};
@@ -9,7 +9,7 @@ ghost use Rattle.aadl_tree.specs.proof.MarksByFirstByte.{keywords_from, symbols_
 use crate::mark::Mark;
 
 impl Mark {
-    /// Its bytes: a keyword in lower case, or a symbol.
+    /// Returns its bytes: a keyword in lower case, or a symbol.
     pub fn text(self) -> &'static [u8]
         ensures { result.now ≡ mark_text self }
     {
@@ -96,15 +96,14 @@ impl Mark {
         }
     }
 
-    /// Whether it is this one.
+    /// Returns whether the two are equal.
     pub fn is(self, other: Mark) -> bool
         ensures { IsTrue result ↔ (self ≡ other) }
     {
         self as u8 == other as u8
     }
 
-    /// The keyword that a word is inside a behaviour annex or outside, whatever the case of its
-    /// letters.
+    /// Returns the keyword that a word is, inside or outside a behaviour annex. Ignores case.
     pub fn keyword(inside: bool, word: &[u8]) -> Option<Mark>
         ensures { result ≡ spec.keyword_of inside word.now }
     {
@@ -120,7 +119,7 @@ impl Mark {
         spelled_as(marks, word)
     }
 
-    /// The symbol that the bytes are.
+    /// Returns the symbol with these bytes.
     pub fn symbol(bytes: &[u8]) -> Option<Mark>
         ensures { result ≡ spec.symbol_of bytes.now }
     {
@@ -131,7 +130,7 @@ impl Mark {
     }
 }
 
-/// The first of the keywords that a word is, whatever the case of its letters.
+/// Returns the first of these keywords that a word is. Ignores case.
 #[tactic(auto, using(crate::proofs::ListSearch::find_step))]
 fn spelled_as(marks: &[Mark], word: &[u8]) -> Option<Mark>
     ensures { result ≡ find (λ m. str_eq_ignore_ascii_case word.now (mark_text m)) marks.now }
@@ -144,7 +143,7 @@ fn spelled_as(marks: &[Mark], word: &[u8]) -> Option<Mark>
     None
 }
 
-/// The first of the symbols that the bytes are.
+/// Returns the first of these symbols with these bytes.
 #[tactic(auto, using(crate::proofs::ListSearch::find_step))]
 fn written_as(marks: &[Mark], bytes: &[u8]) -> Option<Mark>
     ensures { result ≡ find (λ m. bytes_eq bytes.now (mark_text m)) marks.now }
@@ -157,7 +156,7 @@ fn written_as(marks: &[Mark], bytes: &[u8]) -> Option<Mark>
     None
 }
 
-/// The keywords outside of behaviour annexes that begin with a small letter.
+/// Returns the keywords outside behaviour annexes that begin with a lower-case letter.
 #[tactic(auto, unfolding(crate::specs::proof::MarksByFirstByte::keywords_from))]
 fn keywords_outside(letter: u8) -> &'static [Mark]
     ensures { result.now ≡ keywords_from false letter }
@@ -186,7 +185,7 @@ fn keywords_outside(letter: u8) -> &'static [Mark]
     }
 }
 
-/// The keywords inside behaviour annexes that begin with a small letter.
+/// Returns the keywords inside behaviour annexes that begin with a lower-case letter.
 #[tactic(auto, unfolding(crate::specs::proof::MarksByFirstByte::keywords_from))]
 fn keywords_inside(letter: u8) -> &'static [Mark]
     ensures { result.now ≡ keywords_from true letter }
@@ -210,7 +209,7 @@ fn keywords_inside(letter: u8) -> &'static [Mark]
     }
 }
 
-/// The symbols that begin with a byte.
+/// Returns the symbols that begin with a byte.
 #[tactic(auto, unfolding(crate::specs::proof::MarksByFirstByte::symbols_from))]
 fn symbols_from(byte: u8) -> &'static [Mark]
     ensures { result.now ≡ symbols_from byte }

@@ -1,4 +1,4 @@
-//! Laws of the grammar's definitions. Each function does nothing; its contract is proved.
+//! Laws of the grammar's definitions. Each law is the contract of a function that does nothing.
 ghost use Rattle.std.specs.Prelude.{◌≡◌, ◌↔◌, ℕ, List, [], ◌∷◌, ◌++◌, Some, None, codes, true, false, map, IsTrue};
 ghost use Rattle.std.specs.Prelude.{is_some};
 ghost use Rattle.aadl_lex.specs.proof.TokenSpellings.{IsSymbol};
@@ -19,8 +19,8 @@ ghost use Rattle.aadl_tree.specs.proof.ExampleSpellings.{counting, counting_kind
 ghost use Rattle.aadl_tree.specs.proof.ExampleTokensAndTerminals.{annex_text, annex_tokens, choice_kinds};
 ghost use Rattle.aadl_tree.specs.proof.EmptyPackage.{package_text, package_tokens, small_package, printed_text};
 
-/// Each keyword and each symbol is read as itself, where it is one, whatever the case of its letters.
-/// Each symbol that a text can have is one of the grammar.
+/// Each keyword is recognised in any case, in the contexts in which it is a keyword, and each symbol is
+/// recognised. Each symbol token of a text is a symbol of the grammar.
 pub fn marks_are_read()
     ensures inside { map (λ m. keyword_of true (mark_text m)) keywords_inside ≡ map Some keywords_inside }
     ensures outside { map (λ m. keyword_of false (mark_text m)) keywords_outside ≡ map Some keywords_outside }
@@ -33,8 +33,7 @@ pub fn marks_are_read()
         ≡ None ∷ None ∷ None ∷ [] }
 {}
 
-/// A word can be a keyword inside a behaviour annex and none outside. An `if` is open up to the
-/// `if` of its end.
+/// A word can be a keyword inside a behaviour annex but not outside. An `if` is open up to the `if` of its end.
 pub fn terminals_depend_on_their_place()
     ensures kinds { kinds_of (placed_terminals annex_text annex_tokens)
         ≡ word (codes "on") ∷ word (codes "behavior_specification") ∷ mark k.AnnexOpen
@@ -44,8 +43,8 @@ pub fn terminals_depend_on_their_place()
     ensures closed { nesting 0 (choice_kinds ++ mark k.If ∷ []) ≡ 0 }
 {}
 
-/// A transition of the two counters is spelled by the terminals of its text, a `;` behind its last
-/// action or not, and this is its canonical text.
+/// The terminals of its text spell a transition of the two counters, with or without a `;` after the last
+/// action, and this is its canonical text.
 pub fn counting_is_spelled()
     ensures plain { Spells (transition_parts counting) (counting_kinds []) [] }
     ensures ended { Spells (transition_parts counting) (counting_kinds (mark k.Semicolon ∷ [])) [] }
@@ -53,7 +52,7 @@ pub fn counting_is_spelled()
     ensures canonical { canonical (kept (transition_parts counting)) ≡ counting_text }
 {}
 
-/// Parts one behind the other are spelled, and written, one behind the other.
+/// The spelling of concatenated parts is the concatenation of their spellings, and so is their canonical text.
 pub fn parts_are_spelled_in_turn()
     ensures spelled { (a b : List (SpellingPart ℕ)) (ks rest : List PlainTerminal)
         → Spells (a ++ b) ks rest ↔ ((mid : List PlainTerminal) × Spells a ks mid × Spells b mid rest) }
@@ -61,22 +60,22 @@ pub fn parts_are_spelled_in_turn()
         → Written (a ++ b) ss rest ↔ ((mid : List PlacedTerminal) × Written a ss mid × Written b mid rest) }
 {}
 
-/// A package of nothing, whose text has a keyword in capitals and a comment: its tokens, its tree
-/// with its places, and its canonical text.
+/// An empty package whose text has a keyword in capitals and a comment: its tokens, its tree with its places,
+/// and its canonical text.
 pub fn small_package_is_read()
     ensures tokens { AreTokensOf package_text package_tokens }
     ensures tree { IsTreeOf package_text small_package }
     ensures canonical { canon small_package ≡ printed_text }
 {}
 
-/// A tree's places may be looked at later: what a tree stands for with places that a map makes is what
-/// the map makes of the tree with its own places. So its meaning is the tree without places.
+/// The model of a tree with mapped places is the image, under the map, of the model with its own places. So the
+/// meaning of a tree is the tree without places.
 pub fn places_can_be_dropped()
     ensures moved { (f : ℕ → ℕ) (tree : SourceTree) → package_to f (placed tree) ≡ package_view f tree }
     ensures dropped { (tree : SourceTree) → package_to no_place (placed tree) ≡ meaning tree }
 {}
 
-/// What the canonical text keeps of a tree spells it; and what is written in its places is spelled.
+/// The terminals that the canonical text retains spell the tree; and terminals at a tree's places spell it.
 pub fn kept_is_spelled()
     ensures kept { (ps : List (SpellingPart ℕ)) (rest : List PlainTerminal) → Spells ps (kept ps ++ rest) rest }
     ensures written { (ps : List (SpellingPart ℕ)) (ss rest : List PlacedTerminal)

@@ -1,10 +1,14 @@
-//! The grammar of a design text: its terminals, its trees, and the tokens that spell a tree.
+//! The grammar of a design text: its terminals, its trees, and the parts that spell each tree.
 //!
-//! A text is a package of types and implementations, whose behaviour annexes have a grammar of
-//! their own. The trees here keep what a text means and where its parts stand. What the canonical
-//! text leaves out (comments, sections of `none;`, a `;` behind the last action) is in no tree.
+//! A text is a package of types and implementations; behaviour annexes have a grammar of their own. The trees
+//! here store the meaning of a text and the byte offsets of its parts. They do not store comments, sections of
+//! `none ;`, or a `;` after the last action, and the canonical text omits these too.
 //!
-//! Trees of several lists have a `drop` of their own: to let one go is one call where it was held.
+//! The definitions in `specs/` are the grammar that all contracts cite: which trees a text has, what its
+//! canonical text is, and where a text without a tree has its first fault. The crate compares trees, but does
+//! not parse or print them.
+//!
+//! Trees with several lists implement `Drop` by hand, so that dropping one is a single call in its owner.
 #![tactic(auto)]
 
 pub mod actions;

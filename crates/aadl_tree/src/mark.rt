@@ -1,6 +1,6 @@
 //! The keywords and symbols of the grammar, as one enumeration.
 
-/// A keyword or a symbol of the grammar. Their numbers are in the order of this list.
+/// A keyword or a symbol of the grammar. Their numbers follow the order of this list.
 #[derive(Clone, Copy)]
 pub enum Mark {
     /// `package`

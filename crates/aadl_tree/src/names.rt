@@ -1,20 +1,20 @@
-//! Names and references. Each word keeps its place, the offset of its first byte in the text.
+//! Names and references. Each word stores its place, the byte offset of its first byte in the text.
 ghost use Rattle.std.specs.Prelude.{IsTrue};
 ghost use Rattle.aadl_lex.specs.Rules.{is_word};
 
 use crate::spelling::Spelling;
 
-/// A word that is no keyword, spelled as in the text.
+/// A word other than a keyword, spelled as in the text.
 #[derive(Drop)]
 pub struct Identifier {
-    /// Where it stands.
+    /// Its byte offset.
     pub at: usize,
-    /// A letter, and letters, digits and `_` behind it; [`aadl_lex::NAME_BYTES`] at most.
+    /// A letter followed by letters, digits and `_`; at most [`aadl_lex::NAME_BYTES`] bytes.
     pub spelling: Spelling,
     pub ghost word: { IsTrue (is_word spelling) },
 }
 
-/// A name of words with `::` between them: `id { "::" id }`.
+/// A name: words separated by `::`: `id { "::" id }`.
 pub struct Name {
     pub first: Identifier,
     pub rest: Vec<Identifier>,
@@ -26,7 +26,7 @@ impl Drop for Name {
     }
 }
 
-/// A way through components: `id { "." id }`.
+/// A path through components: `id { "." id }`.
 pub struct Path {
     pub first: Identifier,
     pub rest: Vec<Identifier>,
@@ -52,7 +52,7 @@ impl Drop for Identifiers {
 
 /// A reference to a type or an implementation: `{ id "::" } id [ "." id ]`.
 pub struct Reference {
-    /// The names of the type's package, where they stand before it.
+    /// The words of the type's package, if the reference names it.
     pub qualifiers: Vec<Identifier>,
     /// The type.
     pub type_name: Identifier,

@@ -1,4 +1,4 @@
 //! The limit of nesting.
 
-/// The most openers that can be open at one place of a text.
+/// The maximum number of openers that are open at the same time.
 pub const GREATEST_NESTING: usize = 64;

@@ -8,8 +8,8 @@ ghost use Rattle.aadl_tree.specs.proof.PlaceMaps.{kept_place};
 use crate::declarations::{Declaration, With};
 use crate::names::Name;
 
-/// `"package" name "public" { with } { declaration } "end" name ";"`, as the grammar gives it for
-/// some text within the greatest nesting.
+/// A whole text: `"package" name "public" { with } { declaration } "end" name ";"`. Invariant: it is the tree
+/// of some text within the nesting limit.
 pub struct PackageTree {
     pub name: Name,
     pub withs: Vec<With>,

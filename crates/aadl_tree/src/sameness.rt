@@ -1,4 +1,4 @@
-//! Whether two trees mean the same, wherever they stand in a text.
+//! Whether two trees have the same meaning, at any places.
 ghost use Rattle.std.specs.Prelude.{◌≡◌, ◌↔◌, IsTrue};
 ghost use Rattle.aadl_tree.specs.proof.PackageViews.{meaning};
 
@@ -18,7 +18,7 @@ pub use lists_and_options::{same_items, same_option};
 pub use same_meaning::Same;
 pub use values::{same_associations, same_value};
 
-/// Whether two trees are the same except for their places. Names are compared as they are spelled.
+/// Returns whether two trees are equal except for their places. Names are compared by their spelling.
 pub fn same(a: &PackageTree, b: &PackageTree) -> bool
     ensures { IsTrue result ↔ (meaning a.now ≡ meaning b.now) }
 {

@@ -1,11 +1,11 @@
-//! How a word is spelled.
+//! The spelling of a word.
 ghost use Rattle.std.specs.Prelude.{◌≡◌, length, IfOk};
 
 use arrayvec::ArrayString;
 use std::alloc::{AllocError, Global};
 use std::marker::Model;
 
-// Where the bytes of a word stand.
+// The storage of a word's bytes.
 #[derive(Drop)]
 pub(crate) enum SpellingBytes {
     // in the value itself
@@ -13,8 +13,8 @@ pub(crate) enum SpellingBytes {
     Allocated(String),
 }
 
-/// The bytes of a word. Up to 16 stand in the value itself, so that most names of a text take no
-/// allocation. Contracts see the bytes.
+/// The bytes of a word. Up to 16 bytes are stored in the value itself, so most names of a text need no
+/// allocation. The model is the bytes.
 #[derive(Drop)]
 pub struct Spelling {
     bytes: SpellingBytes,
@@ -30,7 +30,7 @@ impl Model for Spelling {
 }
 
 impl Spelling {
-    /// The spelling of a word.
+    /// Stores a word. Errors: out of memory.
     pub fn from_str(alloc: Global, word: &str) -> Result<Spelling, AllocError>
         ensures { IfOk result (λ spelling. spelling ≡ word.now) }
     {
@@ -41,7 +41,7 @@ impl Spelling {
         Ok(Spelling { bytes })
     }
 
-    /// The word as a `str`.
+    /// Returns the word as a `str`.
     pub fn as_str(&self) -> &str
         ensures value { result.now ≡ self.now }
     {
@@ -51,7 +51,7 @@ impl Spelling {
         }
     }
 
-    /// The word's bytes.
+    /// Returns the word's bytes.
     pub fn as_bytes(&self) -> &[u8]
         ensures value { result.now ≡ self.now }
         ensures len { length result.now ≡ length self.now }
@@ -59,7 +59,7 @@ impl Spelling {
         self.as_str().as_bytes()
     }
 
-    /// How many bytes the word has.
+    /// Returns the length of the word in bytes.
     pub fn len(&self) -> usize
         ensures { result ≡ length self.now }
     {

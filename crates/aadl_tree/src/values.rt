@@ -3,7 +3,7 @@
 use crate::expressions::Sign;
 use crate::names::{Identifier, Name, Path, Reference};
 
-/// How a property gets its value. Both mean the same.
+/// The operator of a property. Both operators have the same meaning.
 #[derive(Clone, Copy, PartialEq)]
 pub enum AssociationOperator {
     /// `=>`
@@ -12,16 +12,16 @@ pub enum AssociationOperator {
     Appends,
 }
 
-/// A property with its value:
-/// `name ( "=>" | "+=>" ) [ "constant" ] value [ "applies" "to" path { "," path } ] ";"`.
+/// A property and its value: `name ( "=>" | "+=>" ) [ "constant" ] value [ "applies" "to" path { "," path } ]
+/// ";"`.
 #[cycle(value)]
 pub struct Association {
     pub name: Name,
     pub operator: AssociationOperator,
-    /// Whether `constant` stands before the value. It means nothing.
+    /// Whether `constant` is before the value. It has no meaning.
     pub constant: bool,
     pub value: Value,
-    /// The paths that it applies to; none where it applies to what it stands in.
+    /// The paths that the property applies to. Without paths it applies to its owner.
     pub applies_to: Vec<Path>,
 }
 
@@ -38,7 +38,7 @@ impl Drop for Association {
     }
 }
 
-/// The value of a property. What few values have is boxed, so that one takes 48 bytes.
+/// The value of a property. Rare contents are boxed, so that a value takes 48 bytes.
 #[cycle(value)]
 pub enum Value {
     /// `"(" [ value { "," value } ] ")"`
@@ -53,7 +53,7 @@ pub enum Value {
     Classifier(Box<Reference>),
     /// A name.
     Named(Box<Reference>),
-    /// A number with its unit, or a range of two: `number [ id ] [ ".." number [ id ] ]`.
+    /// A number with its unit, or a range of two such numbers: `number [ id ] [ ".." number [ id ] ]`.
     Number {
         low: Quantity,
         high: Option<Box<Quantity>>,

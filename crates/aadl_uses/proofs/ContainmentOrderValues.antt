@@ -1,4 +1,4 @@
--- Values that a loop gives to declarations in the order of containment: those of the first ones are right.
+-- Values that a loop assigns to declarations in a containment order: the values of the first ones are correct.
 use Rattle.std.proofs.Common.{◌≡◌, ℕ, ◌+◌, ◌<◌, ◌≤◌, List, length, Some, None, get_or, set, slice_get, sym, ap, ◌∙◌}
 use Rattle.std.proofs.Common.{subst, arith, inl, inr, ◌⊎◌, get_or-set_other, get_or-set_same}
 use Rattle.std.proofs.lemmas.Bool.{cases_order, cases_lt}
@@ -8,7 +8,7 @@ use Rattle.list_lemmas.proofs.ElementPositions.{slice_get-from_Contains, Contain
 use Rattle.aadl_uses.specs.proof.ContainmentGraphs.{Graph, below_in}
 use Rattle.aadl_uses.specs.proof.ContainmentOrders.{IsSequence, IsOrder}
 
--- values in the places of declarations; those of the first `at` declarations of a sequence are known to be right
+-- a value for each declaration; the values of the first `at` declarations of a sequence are correct
 pub record FrontOf {X : Type 0} (Right : ℕ → X → Type 0) (d : X) (g : Graph) (keys : List ℕ) (at : ℕ)
     (values : List X) : Type 0 where
   pub size : length values ≡ length g
@@ -20,12 +20,12 @@ no_front Right d g keys values size = record { size = size; known = λ k n lt e.
 
 module _ {X : Type 0} (Right : ℕ → X → Type 0) (d : X) (g : Graph) (keys : List ℕ) (at : ℕ) (values : List X)
     (front : FrontOf Right d g keys at values) where
-  -- what the next one contains is known
+  -- the values of the declarations that the next one contains are correct
   pub front_known : (n : ℕ) → IsSequence g keys → slice_get keys at ≡ Some n → (s m : ℕ) → below_in g n s ≡ Some m
       → Right m (get_or values m d)
   front_known n sequence here s m e = let j = sequence.behind at n s m here e in front.known j.0 m j.1 j.2
 
-  -- the next one is right as it is, or there is none
+  -- the value of the next one is already correct, or there is no next one
   pub front_same : ((n : ℕ) → slice_get keys at ≡ Some n → Right n (get_or values n d))
       → FrontOf Right d g keys (at + 1) values
   front_same as_is = record { size = front.size; known = λ k n lt e. by k n e (cases_lt k at) lt }

@@ -1,4 +1,5 @@
--- Sequences in which each declaration stands behind those that it contains, and why they can go on to all.
+-- Sequences in which each declaration follows the declarations that it contains, and why such a sequence can be
+-- extended to all declarations.
 use Rattle.std.proofs.Common.{◌≡◌, ◌⊎◌, inl, inr, ℕ, zero, suc, ◌<◌, ◌≤◌, ◌+◌, Bool, true, false, ◌&&◌, ◌||◌, nat_eq}
 use Rattle.std.proofs.Common.{List, [], ◌∷◌, ◌++◌, Option, Some, None, length, get_or, slice_get, Contains, refl, sym}
 use Rattle.std.proofs.Common.{ap, subst, ◌∙◌, arith}
@@ -51,7 +52,7 @@ distinct_more : (n : ℕ) (xs : List ℕ) → list_any (nat_eq n) xs ≡ false �
 unfolding IsDistinct
 distinct_more n xs e d = (each_other n xs e, d)
 
--- different numbers below a number are no more than that
+-- a list of distinct numbers below n has at most n elements
 few : (xs : List ℕ) (n : ℕ) → IsDistinct nat_eq xs → ((q : ℕ) → Contains xs q → q < n) → length xs ≤ n
 few xs n d below = length-le_from_distinct_below xs n d (λ q e. below q (of_any xs q e))
 
@@ -220,7 +221,7 @@ placed_more g at old mid new so_far placed = record {
     by m lt h (inr k) = let same : m ≡ at = omega arith in here m same (placed.tried (subst (λ k. k < length g) same h))
 
 -- ---- the whole
--- where each declaration that is not in a list misses something, and none leads back, all are in it
+-- if each declaration outside a list has a target outside it, and none leads back, the list has all declarations
 module _ (g : Graph) (xs : List ℕ) (within : IsWithin g) (acyclic : (n s : ℕ) → LeadsBack g n s → ⊥)
     (stuck : (n : ℕ) → n < length g → Contains xs n ⊎ Misses g n xs) where
   stuck_at : (n : ℕ) → n < length g → (Contains xs n → ⊥) → Misses g n xs
@@ -230,7 +231,7 @@ module _ (g : Graph) (xs : List ℕ) (within : IsWithin g) (acyclic : (n s : ℕ
       by (inl h) = absurd (out h)
       by (inr h) = h
 
-  -- a way through declarations that are not in the list, the last of which stands first
+  -- a path through declarations outside the list, in reverse order
   abbrev IsShort : ℕ → ℕ → List ℕ → Type 0
   IsShort left u seen =
       u < length g → (Contains xs u → ⊥) → IsDistinct nat_eq (u ∷ seen)
@@ -277,7 +278,7 @@ module _ (g : Graph) (xs : List ℕ) (within : IsWithin g) (acyclic : (n s : ℕ
       same : (q : ℕ) → Contains (n ∷ []) q → n ≡ q
       same q h = one q (Contains-cons_cases n [] q h)
 
--- a round over all declarations places one, unless all are there
+-- an iteration over all declarations places one, unless all are placed
 pub one_more : (g : Graph) (old new : List ℕ) → IsWithin g → ((n s : ℕ) → LeadsBack g n s → ⊥) → IsSequence g old
     → length old < length g → ArePlaced g (length g) old new → length old < length new
 one_more g old new within acyclic sequence fewer placed = by (cases_lt (length old) (length new))
@@ -306,7 +307,7 @@ one_more g old new within acyclic sequence fewer placed = by (cases_lt (length o
     by (inl h) = h
     by (inr h) = absurd (nothing h)
 
--- as many as there are declarations are all of them
+-- a list of distinct declarations of full length has all of them
 pub all_placed : (g : Graph) (xs : List ℕ) → IsSequence g xs → length g ≤ length xs → IsOrder g xs
 all_placed g xs sequence full = record {
   sequence = sequence;

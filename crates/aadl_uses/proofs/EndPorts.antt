@@ -1,5 +1,4 @@
--- The port that an end of a connection names, with one word or two, by look-ups of ports and subcomponents that were
--- made before.
+-- The port that an end of a connection names, with one word or two, from earlier look-ups of ports and subcomponents.
 use Rattle.std.proofs.Common.{◌≡◌, ℕ, List, Option, Some, None, slice_get, option_map, sym, ap, ◌∙◌}
 use Rattle.std.specs.Option.{option_and_then}
 use Rattle.std.proofs.lemmas.Option.{none-some, same_Some}
@@ -22,7 +21,7 @@ member_is name x (Some (implementation y)) e =
 
 module _ (tree : PackageTree ℕ) (n : ℕ) (x : Implementation ℕ) (end : ConnectionEnd ℕ)
     (is : implementation_at tree n ≡ Some x) where
-  -- what an end with one word, and one with two, names
+  -- the ports that an end with one word and an end with two words name
   one : end.second ≡ None → end_port tree x end ≡ option_map Own (port_named (ports_at tree (Some x)) end.first.spelling)
   unfolding end_port
   one none = ap (end_port_by tree x end.first) none

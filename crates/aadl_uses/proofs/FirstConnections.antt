@@ -1,4 +1,4 @@
--- The first connection into each port: its table, the loop that fills it, and which connections are second ones.
+-- The first connection into each port: its table, the loop that fills it, and the connections that are not first.
 use Rattle.std.proofs.Common.{◌≡◌, ◌↔◌, ℕ, zero, suc, ◌+◌, ◌<◌, ◌≤◌, Bool, true, false, cond, ◌&&◌, nat_eq, List, []}
 use Rattle.std.proofs.Common.{◌∷◌, ◌++◌, length, drop, get_or, Option, Some, None, IsTrue, refl, sym, ap, ◌∙◌, arith}
 use Rattle.std.proofs.Common.{add-one, drop-cons}
@@ -83,8 +83,8 @@ pub last_first : (wires : List ConnectionPorts) (i : ℕ) (now whole : Option �
 last_first wires i now whole test past so_far = none_more now
     ∙ (ap (λ (l : List ConnectionPorts). option_or now (position_from test i l)) (sym (none_left wires i past)) ∙ so_far)
 
--- ---- the first of those that pass
--- it passes, and none before it does
+-- ---- the first element that passes
+-- it passes, and no earlier one does
 pub record FirstAt (wires : List ConnectionPorts) (target : NumberedPort) (k n : ℕ) : Type 0 where
   pub index : ℕ
   pub is : n ≡ k + index
@@ -104,7 +104,7 @@ first_at [] target k n e = absurd (none-some n e)
 first_at (w ∷ ws) target k n e =
     first_by w ws target k n (is_port target w.target) refl (first_at ws target (k + 1) n) e
 
--- where one passes, the first stands there or before it
+-- if an element passes, the first one is at its position or before it
 before_by : (w : ConnectionPorts) (ws : List ConnectionPorts) (target : NumberedPort) (k j : ℕ) (b : Bool) → is_port target w.target ≡ b
     → target_in (w ∷ ws) j ≡ Some target
     → ((i : ℕ) → target_in ws i ≡ Some target
@@ -124,7 +124,7 @@ first_before [] target k j h = absurd (none_past j target h)
 first_before (w ∷ ws) target k j h =
     before_by w ws target k j (is_port target w.target) refl h (λ i g. first_before ws target (k + 1) i g)
 
--- ---- second ones
+-- ---- connections that are not first
 
 second_to : (wires : List ConnectionPorts) (number : ℕ) (target : NumberedPort) → target_in wires number ≡ Some target
     → (o : Option ℕ) → first_into wires target ≡ o

@@ -1,5 +1,5 @@
--- The first subcomponent that leads back to where it stands, and so closes a cycle, among those that were looked at
--- one after another.
+-- The first subcomponent that leads back to the declaration that contains it, and so closes a cycle, among those
+-- tested so far.
 use Rattle.std.proofs.Common.{◌≡◌, ◌⊎◌, inl, inr, ℕ, ◌<◌, ◌≤◌, ◌+◌, true, false, List, [], ◌∷◌, ◌++◌, Option, Some}
 use Rattle.std.proofs.Common.{None, length, get_or, take, Contains, refl, sym, ap, subst, ◌∙◌, arith, Result, Ok, Err}
 use Rattle.std.proofs.Common.{IfOk}
@@ -25,7 +25,7 @@ pub kept_as_is : {X : Type 0} (o : Option X) → o ≡ option_and_then (λ x. So
 kept_as_is None = refl
 kept_as_is (Some x) = refl
 
--- the first step of a way stands last in its path
+-- the first step of a path is the last of its list
 first_step : (g : Graph) (from s : ℕ) (path : List ℕ)
     → reached_by g from (path ++ s ∷ []) ≡ option_and_then (λ m. reached_by g m path) (below_in g from s)
 first_step g from s [] = kept_as_is (below_in g from s)
@@ -53,7 +53,7 @@ closes_from tree n s sub is back = record {
       ∙ (ap (option_and_then (λ m. reached_by (containment tree) m back.2.0)) back.1 ∙ back.2.1));
 }
 
--- where no subcomponent closes a cycle, none leads back
+-- if no subcomponent closes a cycle, none leads back
 pub no_way_back : (tree : PackageTree ℕ) → ((fault : PackageFault) → IsRecursive tree fault → ⊥) → (n s : ℕ)
     → LeadsBack (containment tree) n s → ⊥
 no_way_back tree none n s back =
@@ -79,7 +79,7 @@ sooner_by tree at None late f = absurd (true_false late)
     true_false e = grind arith
 sooner_by tree at (Some fault) late f = (f, grind (arith, nat_tests))
 
--- it stands behind what was found
+-- it is after the result so far
 pub sooner_late : (tree : PackageTree ℕ) (old : Option PackageFault) (n s : ℕ) (sub : Subcomponent ℕ)
     → sub_at tree n s ≡ Some sub
     → is_sooner sub.name.at old ≡ false → IsSooner tree old n s old

@@ -1,4 +1,4 @@
--- A search through a graph: what is found so far, and what was looked at.
+-- A search through a graph: the declarations found so far, and those already visited.
 use Rattle.std.proofs.Common.{◌≡◌, ◌⊎◌, inl, inr, ◌↔◌, ℕ, ◌<◌, ◌≤◌, ◌+◌, Bool, true, false, nat_eq, if◌then◌else◌, List}
 use Rattle.std.proofs.Common.{[], ◌∷◌, ◌++◌, Option, Some, None, length, get_or, slice_get, Contains, refl, sym, ap}
 use Rattle.std.proofs.Common.{subst, ◌∙◌, arith}
@@ -42,7 +42,7 @@ added_none ks = record {
 }
 
 module _ (ts : List (Option ℕ)) (old mid : List ℕ) (so_far : AreAdded ts old mid) where
-  -- a target that names none
+  -- a target that is not declared
   pub added_skip : AreAdded (ts ++ None ∷ []) old mid
   added_skip = record {
     more = so_far.more;
@@ -56,7 +56,7 @@ module _ (ts : List (Option ℕ)) (old mid : List ℕ) (so_far : AreAdded ts old
       by n (inl h) = so_far.all n h
       by n (inr h) = absurd (none-some n h)
 
-  -- a target that names a declaration
+  -- a target that is declared
   pub added_more : (k : ℕ) (new : List ℕ) → new ≡ insert_key nat_eq mid k → IsDistinct nat_eq new
       → AreAdded (ts ++ Some k ∷ []) old new
   added_more k new is differ = record {
@@ -82,7 +82,7 @@ module _ (ts : List (Option ℕ)) (old mid : List ℕ) (so_far : AreAdded ts old
           subst (Contains (insert_key nat_eq mid k)) (same_Some k n h) (Contains-insert_key nat_eq eqb-true mid k)
 
 -- ---- the whole search
--- from a declaration, with what the first `at` of those that were found name
+-- from a declaration, with the targets of the first `at` found declarations
 pub record Searched (g : Graph) (from at : ℕ) (keys : List ℕ) : Type 0 where
   pub start : Contains keys from
   pub sound : (n : ℕ) → Contains keys n → IsReached g from n
@@ -114,7 +114,7 @@ searched_first g from keys e d = record {
     by n (inr h) = ap Some h
 
 module _ (g : Graph) (from at : ℕ) (keys : List ℕ) (so_far : Searched g from at keys) where
-  -- past the last one nothing is looked at
+  -- after the last one the search ends
   pub searched_past : slice_get keys at ≡ None → Searched g from (at + 1) keys
   searched_past none = record {
     start = so_far.start;

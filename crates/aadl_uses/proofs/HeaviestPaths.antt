@@ -1,4 +1,4 @@
--- The heaviest of the paths that begin with the first subcomponents, and of all.
+-- The heaviest of the paths that begin with the first subcomponents, and the heaviest of all.
 use Rattle.std.proofs.Common.{◌≡◌, ℕ, ◌+◌, ◌<◌, ◌≤◌, max, min, Bool, true, false, List, [], ◌∷◌, length, Option, Some}
 use Rattle.std.proofs.Common.{None, option_map, get_or, refl, sym, ap, ◌∙◌, subst, arith, inl, inr, ◌⊎◌}
 use Rattle.std.specs.Option.{option_map_or}
@@ -46,7 +46,7 @@ module _ (limit : ℕ) (g : Graph) (marks : List Bool) (weights : List (List ℕ
       by (inr (inr more)) = let f = h.first in absurd (omega (arith, f, more))
 
   module _ (k : ℕ) (e : below_in g n i ≡ Some k) where
-    -- what goes through this one weighs at most as the heaviest of them
+    -- a path through this subcomponent weighs at most as much as the heaviest of them
     within : (v : ℕ) (p q : List ℕ) → IsHeaviest limit g marks weights k (Some v) → p ≡ i ∷ q → IsMarkedAt g marks k q
         → min limit (path_weight g weights n p) ≤ min limit (weight_of weights n i + v)
     within v p q b is m =
@@ -137,7 +137,7 @@ module _ (limit : ℕ) (g : Graph) (marks : List Bool) (weights : List (List ℕ
   kept None = refl
   kept (Some x) = refl
 
-  -- one more subcomponent, by what it names
+  -- one more subcomponent, by its target
   pub heaviest_more : (found : List (Option ℕ)) (target o : Option ℕ) → below_in g n i ≡ target
       → AreWeighed limit g marks weights found n → IsGreatestOf (Begun g marks n i) (path_weight g weights n) limit o
       → IsGreatestOf (Begun g marks n (i + 1)) (path_weight g weights n) limit

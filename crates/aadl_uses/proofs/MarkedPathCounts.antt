@@ -1,5 +1,5 @@
--- Marked declarations are counted subcomponent by subcomponent: what stands below a declaration stands below its
--- first subcomponents, or below one of the next.
+-- Marked declarations are counted subcomponent by subcomponent: a path from a declaration begins with one of its
+-- first subcomponents or with one of the next.
 use Rattle.std.proofs.Common.{◌≡◌, ℕ, ◌+◌, ◌<◌, ◌≤◌, Bool, true, false, ◌&&◌, ◌||◌, nat_eq, nat_lt, min, List, [], ◌∷◌}
 use Rattle.std.proofs.Common.{◌++◌, length, map, Option, Some, None, get_or, slice_get, refl, sym, ap, ◌∙◌, subst}
 use Rattle.std.proofs.Common.{arith, inl, inr, ◌⊎◌}
@@ -39,7 +39,7 @@ ordered_append before (x ∷ xs) ys a b c =
     (AllByRecursion-append (λ y. before x y ≡ true) xs ys a.0 c.0, ordered_append before xs ys a.1 b c.1)
 
 -- ---- paths
--- the path of the declaration itself, and those that begin with one of the first subcomponents
+-- the empty path, and the paths that begin with one of the first subcomponents
 abbrev pub starts : ℕ → List ℕ → Type 0
 starts i [] = Unit {0}
 starts i (s ∷ path) = s < i
@@ -78,7 +78,7 @@ all_later i (s ∷ p) [] h = tt
 all_later i (s ∷ p) (y ∷ ys) h = (less_first i s p y h, all_later i (s ∷ p) ys h)
 
 module _ (g : Graph) (marks : List Bool) (n i : ℕ) where
-  -- what stands below a subcomponent stands below the declaration, one level deeper
+  -- a path from a subcomponent's target is a path from the declaration, one level deeper
   pub deeper : (k : ℕ) (p : List ℕ) → below_in g n i ≡ Some k → IsMarkedAt g marks k p → Begun g marks n (i + 1) (i ∷ p)
   deeper k p e t = record {
     marked =
@@ -140,7 +140,7 @@ module _ (g : Graph) (marks : List Bool) (n i : ℕ) where
     complete = λ p h. complete_at k xs ys e a b p h;
   }
 
-  -- one that names nothing
+  -- a subcomponent without a target
   nothing_at : (s : ℕ) (p : List ℕ) → below_in g n i ≡ None → Begun g marks n (i + 1) (s ∷ p)
       → (s ≡ i) ⊎ ((s < i) ⊎ (i < s)) → Begun g marks n i (s ∷ p)
   nothing_at s p e h (inl same) =
@@ -162,7 +162,7 @@ module _ (g : Graph) (marks : List Bool) (n i : ℕ) where
   }
 
 -- ---- counts
--- The count so far: of the declaration itself, and of the paths that begin with the first subcomponents.
+-- The count so far: the declaration itself, and the paths that begin with the first subcomponents.
 pub record CountedSome (limit : ℕ) (g : Graph) (marks : List Bool) (n i count : ℕ) : Type 0 where
   pub paths : List (List ℕ)
   pub listed : AreListed (Begun g marks n i) path_before paths
@@ -172,7 +172,7 @@ capped_same : (limit a x : ℕ) → a ≡ min limit x → min limit (a + 0) ≡ 
 capped_same limit a x e = omega arith
 
 module _ (limit : ℕ) (g : Graph) (marks : List Bool) (n i : ℕ) where
-  -- by what the next subcomponent names
+  -- by the target of the next subcomponent
   pub counted_more : (counts : List ℕ) (target : Option ℕ) (a b : ℕ) → below_in g n i ≡ target
       → ((m : ℕ) → below_in g n i ≡ Some m → Counted limit g marks m (get_or counts m 0))
       → CountedSome limit g marks n i a → b ≡ min limit (a + count_of counts target)

@@ -7,7 +7,7 @@ use Rattle.aadl_uses.specs.proof.MarkedPathCounts.{IsMarkedAt}
 use Rattle.aadl_uses.specs.proof.OrderedLists.{AreListed}
 use Rattle.aadl_uses.specs.ThreadsBelow.{path_before}
 
--- ---- paths behind others
+-- ---- paths appended to others
 -- one more
 pub paths_more : {V W : Type 0} (f : V → List ℕ) (h : W → List ℕ) (old new : List V) (ys : List W) (i : ℕ) (v : V)
     (y : W) (start : List (List ℕ)) → i < length ys → y ≡ get_or ys i y
@@ -26,7 +26,7 @@ pub paths_all : {V W : Type 0} (f : V → List ℕ) (h : W → List ℕ) (new : 
 paths_all f h new ys i start past before = before ∙ ap (λ l. start ++ map h l) (take_all i ys past)
 
 -- ---- declarations, in order
--- where it is in use, these are the paths from a declaration
+-- if the declaration is in use, these are the paths from it
 abbrev pub IsListedIn : Graph → List Bool → List ℕ → ℕ → List (List ℕ) → Type 0
 IsListedIn g marks used n paths = Contains used n → AreListed (IsMarkedAt g marks n) path_before paths
 

@@ -1,4 +1,4 @@
--- The containment of a package, as a graph of numbers, agrees with what its subcomponents name.
+-- The containment of a package, as a graph of numbers, agrees with the declarations that its subcomponents name.
 use Rattle.std.proofs.Common.{◌≡◌, ◌↔◌, ℕ, zero, suc, ◌<◌, Bool, true, false, List, [], ◌∷◌, ◌++◌, map, Option, Some}
 use Rattle.std.proofs.Common.{None, option_map, length, get_or, slice_get, Contains, refl, sym, ap, subst, ◌∙◌, arith}
 use Rattle.std.proofs.Common.{if◌then◌else◌, codes, Result, Ok, Err, IfOk}
@@ -55,7 +55,7 @@ in_use_by tree root n keys same = (
       (u.0, standing-same tree root u.0 ∙ u.1),
 )
 
--- ---- references name what is declared
+-- ---- references name declarations
 
 named_within : (tree : PackageTree ℕ) (x : Reference ℕ) (o : Option (Identifier ℕ)) (m : ℕ) → named_by tree x o ≡ Some m
     → m < length tree.declarations
@@ -80,7 +80,7 @@ within tree n s m e =
     (λ sub h f. let least = referred_within tree sub.classifier m f in
     let same = length-map tree.declarations (targets_in tree) in omega arith)
 
--- ---- what calls give
+-- ---- results of calls
 pub ok_items : {T E X : Type 0} (items : T → X) (r : Result T E) (a b : X) → a ≡ b → IfOk r (λ x. items x ≡ a)
     → IfOk r (λ x. items x ≡ b)
 ok_items items (Ok x) a b e is = is ∙ e

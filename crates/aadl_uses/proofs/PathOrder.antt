@@ -1,4 +1,4 @@
--- Paths are in order one way alone: no two stand before each other, and none before itself.
+-- The order of paths is strict: no two paths precede each other, and none precedes itself.
 use Rattle.std.proofs.Common.{◌≡◌, ℕ, Bool, true, false, ◌&&◌, ◌||◌, nat_eq, nat_lt, List, [], ◌∷◌, refl, arith}
 use Rattle.std.proofs.lemmas.Bool.{false≢true, false_from_ne_true}
 use Rattle.std.proofs.lemmas.Bool.Decides.{nat_tests}

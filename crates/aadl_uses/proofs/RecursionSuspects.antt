@@ -1,5 +1,5 @@
--- What the levels of declarations tell of subcomponents that lead back to where they stand: all that do so are
--- suspects.
+-- Consequences of the levels of declarations: every subcomponent that leads back to the declaration that contains it
+-- is a suspect.
 use Rattle.std.proofs.Common.{◌≡◌, ◌⊎◌, inl, inr, ◌↔◌, ℕ, ◌<◌, ◌≤◌, ◌+◌, Bool, true, false, ◌||◌, nat_eq, nat_le, List}
 use Rattle.std.proofs.Common.{[], ◌∷◌, ◌++◌, Option, Some, length, get_or, Contains, refl, sym, ap, subst, ◌∙◌, arith}
 use Rattle.std.specs.Option.{option_and_then}
@@ -19,7 +19,7 @@ none_in_nothing : (g : Graph) (n s m : ℕ) → targets_in g n ≡ [] → below_
 none_in_nothing g n s m e b =
     Contains-nil (Some m) (subst (λ (l : List (Option ℕ)). Contains l (Some m)) e (below_target g n s m b))
 
--- what has a subcomponent is declared
+-- a number with a subcomponent is a declaration
 pub declared : (g : Graph) (n s m : ℕ) → below_in g n s ≡ Some m → n < length g
 declared g n s m b = by (cases_lt n (length g))
   where
@@ -27,7 +27,7 @@ declared g n s m b = by (cases_lt n (length g))
     by (inl h) = h
     by (inr h) = absurd (none_in_nothing g n s m (get_or_past g n [] h) b)
 
--- where levels never rise along subcomponents
+-- if levels never rise along subcomponents
 module _ (g : Graph) (levels : List ℕ)
     (flat : (n : ℕ) → n < length g → list_any (is_above levels (level_in levels n)) (targets_in g n) ≡ false) where
   falls : (n s m : ℕ) → below_in g n s ≡ Some m → level_in levels m ≤ level_in levels n
@@ -89,7 +89,7 @@ module _ (g : Graph) (levels : List ℕ) (any : Bool) (n at : ℕ) (old new : Li
       by s e (inl h) = so_far.all s h e
       by s e (inr h) = absurd (true≢false (sym e ∙ ap (λ k. is_suspect levels any n (below_in g n k)) h ∙ clear))
 
--- past the last subcomponent there is none
+-- after the last subcomponent there is none
 pub suspects_past : (g : Graph) (levels : List ℕ) (any : Bool) (n s : ℕ) → length (targets_in g n) ≤ s
     → is_suspect levels any n (below_in g n s) ≡ true → ⊥
 suspects_past g levels any n s past e =
@@ -131,7 +131,7 @@ suspects_all g levels any at found flat past all n s back =
     let here = declared g n s back.0 back.1 in
     all n s (omega arith) (suspected g levels any n s flat back)
 
--- a search from what a subcomponent names tells whether it leads back
+-- a search from the target of a subcomponent determines whether the subcomponent leads back
 pub leads_by : (g : Graph) (n s m : ℕ) (keys : List ℕ) (b : Bool) → Some m ≡ below_in g n s
     → ((k : ℕ) → Contains keys k ↔ IsReached g m k) → b ≡ list_any (nat_eq n) keys → (b ≡ true) ↔ LeadsBack g n s
 leads_by g n s m keys b e found is = (

@@ -1,5 +1,5 @@
--- The first subcomponents along a path from a root, and one more: what stands at their end, its name with dots, and
--- the subcomponents on the way.
+-- The first subcomponents along a path from a root, and one more: the implementation at their end, its dotted name,
+-- and the subcomponents on the path.
 use Rattle.std.proofs.Common.{◌≡◌, ℕ, ◌+◌, ◌<◌, ◌≤◌, true, List, [], ◌∷◌, ◌++◌, length, take, drop, reverse, codes}
 use Rattle.std.proofs.Common.{Option, Some, None, is_some, get_or, refl, sym, ap, ◌∙◌, arith, append_assoc}
 use Rattle.std.specs.Option.{option_and_then}
@@ -28,7 +28,7 @@ module _ (tree : PackageTree ℕ) (root : ℕ) where
   none_stays [] ys e = e
   none_stays (x ∷ xs) ys e = ap (option_and_then (λ n. below tree n x)) (none_stays xs ys e)
 
-  -- where a part of a path leads nowhere, the whole does
+  -- if a part of a path leads nowhere, the whole path does
   pub none_all : (path : List ℕ) (i : ℕ) → number_at_path tree root (reverse (take i path)) ≡ None
       → number_at_path tree root (reverse path) ≡ None
   none_all path i e =
@@ -57,7 +57,7 @@ module _ (tree : PackageTree ℕ) (root : ℕ) where
       → number_at_path tree root (reverse (take i path)) ≡ Some here → number_at_path tree root (reverse path) ≡ Some here
   all_standing path i here past stands = ap (λ p. number_at_path tree root (reverse p)) (sym (take_all i path past)) ∙ stands
 
--- what has no subcomponent leads nowhere
+-- a declaration without this subcomponent leads nowhere
 pub none_below : (tree : PackageTree ℕ) (n s : ℕ) → sub_at tree n s ≡ None → below tree n s ≡ None
 none_below tree n s e = ap (option_and_then (λ sub. referred tree sub.classifier)) e
 
@@ -65,7 +65,7 @@ pub leads : (o : Option ℕ) → is_some o ≡ true → o ≡ None → ⊥
 leads None some e = true≢false (sym some)
 leads (Some n) some e = none-some n (sym e)
 
--- ---- names with dots
+-- ---- dotted names
 behind : (x : List ℕ) (ns : List (List ℕ)) (y : List ℕ)
     → dotted_names (x ∷ ns ++ y ∷ []) ≡ dotted_names (x ∷ ns) ++ codes "." ++ y
 behind x [] y = refl
@@ -129,7 +129,7 @@ module _ (tree : PackageTree ℕ) (root : ℕ) (path : List ℕ) (i s here : ℕ
       ∙ (reverse-append (record { declaration = here; sub = s } ∷ []) (subs_along tree root (reverse (take i path)))
       ∙ ap (λ l. l ++ record { declaration = here; sub = s } ∷ []) (sym along.subs_are)))
 
-  -- one more subcomponent, the first one or behind a dot
+  -- one more subcomponent, the first one or after a dot
   pub along_more : (next : ℕ) (names_new : List ℕ) (subs_new : List SubAt) → Some next ≡ below tree here s
       → names_new ≡ spelled_path tree root (reverse (take (i + 1) path))
       → subs_new ≡ subs ++ record { declaration = here; sub = s } ∷ []

@@ -1,4 +1,4 @@
--- The count of marked declarations is that of threads, and tells whether there are more than a limit.
+-- The count of marked declarations is the count of threads, and determines whether there are more than a limit.
 use Rattle.std.proofs.Common.{◌≡◌, ◌⊎◌, inl, inr, ◌↔◌, ℕ, zero, suc, ◌<◌, ◌≤◌, ◌+◌, Bool, true, false, nat_lt, min}
 use Rattle.std.proofs.Common.{List, [], ◌∷◌, ◌++◌, map, reverse, Option, Some, None, length, get_or, slice_get}
 use Rattle.std.proofs.Common.{AllPairs, Contains, refl, sym, ap, subst, ◌∙◌, arith, Result, Ok, Err, IfOk}
@@ -42,14 +42,14 @@ stands_reversed g n (s ∷ path) =
     ap (stands_at g n) (reverse-append (s ∷ []) path) ∙
     (stands_end g n s (reverse path) ∙ ap (option_and_then (λ k. below_in g k s)) (stands_reversed g n path))
 
--- what stands at a path, the outermost first, stands at its reverse
+-- the declaration at a path, the outermost first, is at its reverse
 stands_at-same : (tree : PackageTree ℕ) (n : ℕ) (p : List ℕ)
     → stands_at (containment tree) n p ≡ number_at_path tree n (reverse p)
 stands_at-same tree n p =
     sym (ap (stands_at (containment tree) n) (reverse-reverse p))
     ∙ (stands_reversed (containment tree) n (reverse p) ∙ standing-same tree n (reverse p))
 
--- ---- marks are those of threads
+-- ---- the marks of threads
 mark_at : (ds : List (Declaration ℕ)) (n : ℕ)
     → get_or (map is_thread_declaration ds) n false ≡ is_thread_in (implementation_in (slice_get ds n))
 mark_at [] zero = refl
@@ -108,7 +108,7 @@ pairs_by (p ∷ ps) o =
 declared : (tree : PackageTree ℕ) (n : ℕ) → n < length tree.declarations → n < length (containment tree)
 declared tree n lt = let same = length-map tree.declarations (targets_in tree) in omega arith
 
--- the paths to what is marked, the innermost first, are those of threads
+-- the paths to marked declarations, the innermost first, are the paths to threads
 pub threads_listed : (tree : PackageTree ℕ) (n : ℕ) (paths : List (List ℕ))
     → AreListed (IsMarkedAt (containment tree) (thread_marks tree) n) path_before paths
     → Lists (IsThreadAt tree n) PathBefore (map reverse paths)
@@ -132,7 +132,7 @@ threads_counted tree limit n count c = record {
   count_is = c.count_is ∙ ap (min limit) (sym (length-map c.paths reverse));
 }
 
--- ---- no list in order is longer than that of all
+-- ---- a list in order is not longer than the list of all
 head_before : {X : Type 0} (R : X → X → Type 0) (x z : X) (xs : List X) → AllPairs R (x ∷ xs) → Contains xs z → R x z
 head_before R x z xs a h = let lt = h.1 in subst (R x) h.2 (a 0 (suc h.0) z (omega arith) (omega arith))
 
@@ -208,7 +208,7 @@ module _ (tree : PackageTree ℕ) (n limit count : ℕ) (counted : AreCounted tr
   pub more_threads : (limit < count) ↔ MoreThan limit (IsThreadAt tree n) PathBefore
   more_threads = (more_from, more_by)
 
--- ---- what calls give
+-- ---- results of calls
 pub ok_order : {T E : Type 0} (keys : T → List ℕ) (r : Result T E) (tree : PackageTree ℕ) (g : Graph)
     → g ≡ containment tree
     → IfOk r (λ x. IsOrder g (keys x)) → IfOk r (λ x. IsOrder (containment tree) (keys x))

@@ -1,4 +1,4 @@
--- The paths that are listed are those of all threads below a root.
+-- The listed paths are the paths to all threads below a root.
 use Rattle.std.proofs.Common.{◌≡◌, ◌↔◌, ℕ, ◌<◌, Bool, List, ◌∷◌, length, map, reverse, Some, Contains, Result, Ok, Err}
 use Rattle.std.proofs.Common.{IfOk, sym, ap, ◌∙◌, subst}
 use Rattle.std.specs.Option.{option_and_then}
@@ -14,7 +14,7 @@ use Rattle.aadl_uses.specs.proof.MarkedPathCounts.{IsMarkedAt}
 use Rattle.aadl_uses.specs.proof.OrderedLists.{AreListed}
 use Rattle.aadl_uses.specs.proof.MarkedPathLists.{paths_from, IsClosed}
 
--- ---- what is in use
+-- ---- declarations in use
 pub closed_by : (tree : PackageTree ℕ) (root : ℕ) (g : Graph) (used : List ℕ) → g ≡ containment tree
     → ((n : ℕ) → Contains used n ↔ IsInUse tree root n) → IsClosed g used
 closed_by tree root g used e same = λ n s m h b.

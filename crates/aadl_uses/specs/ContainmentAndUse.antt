@@ -1,4 +1,4 @@
--- Which implementation contains which, and which implementations are in use.
+-- The containment relation between implementations, and the implementations in use.
 use Rattle.std.specs.Prelude.{◌≡◌, ℕ, List, [], ◌∷◌, Option, Some, slice_get}
 use Rattle.std.specs.Option.{option_and_then}
 use Rattle.aadl_tree.specs.Declarations.{Subcomponent, Implementation, PackageTree}

@@ -1,4 +1,4 @@
--- What the connections of a package join: ports by their numbers, where the ends are declared.
+-- The ports that the connections of a package join, by number, if both ends are declared.
 use Rattle.std.specs.Prelude.{ℕ, List, [], map, Option, Some, None}
 use Rattle.aadl_tree.specs.Declarations.{Connection, Implementation, PackageTree}
 use Rattle.aadl_names.specs.NameResolution.{implementation_at, end_port}

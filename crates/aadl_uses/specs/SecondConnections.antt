@@ -1,4 +1,4 @@
--- Connections into a port into which one that stands before them goes.
+-- Connections with the same target port as an earlier connection.
 use Rattle.std.specs.Prelude.{◌≡◌, ℕ, ◌<◌, List, Option, Some, slice_get}
 use Rattle.std.specs.Option.{option_and_then}
 use Rattle.aadl_names.specs.declared.numbered_port.NumberedPort.{NumberedPort}
@@ -8,7 +8,7 @@ use Rattle.aadl_uses.specs.declared.connections_by_target.ConnectionPorts.{Conne
 abbrev pub target_in : List ConnectionPorts → ℕ → Option NumberedPort
 target_in wires n = option_and_then (λ wire. wire.target) (slice_get wires n)
 
--- a connection goes into a port into which one goes that stands before it
+-- a connection with the same target port as an earlier one
 pub record IsDuplicate (wires : List ConnectionPorts) (second : ℕ) : Type 0 where
   pub first : ℕ
   pub target : NumberedPort

@@ -1,4 +1,4 @@
--- Where threads stand, and the paths by which they are known.
+-- The threads below a root, and their paths.
 use Rattle.std.specs.Prelude.{ℕ, List, [], ◌∷◌, ◌++◌, codes, reverse, Option, Some, None}
 use Rattle.std.specs.Option.{option_and_then}
 use Rattle.aadl_tree.specs.Declarations.{Subcomponent, Implementation, PackageTree}
@@ -7,7 +7,7 @@ use Rattle.aadl_uses.specs.ThreadsBelow.{IsThreadOf}
 use Rattle.aadl_uses.specs.declared.thread_locations.SubAt.{SubAt}
 use Rattle.aadl_uses.specs.declared.thread_locations.ThreadAt.{ThreadAt}
 
--- some thread's implementation and path have P
+-- the implementation and the path of some thread satisfy P
 abbrev pub ThreadWith : PackageTree ℕ → ℕ → (Implementation ℕ → List ℕ → Type 0) → Type 0
 ThreadWith tree root P = (path : List ℕ) × (x : Implementation ℕ) × IsThreadOf tree root path x × P x path
 

@@ -1,17 +1,17 @@
--- Threads below an implementation, each by the path of subcomponents that leads to it, and how many there are.
+-- Threads below an implementation, each by the path of subcomponents that leads to it, and their number.
 use Rattle.std.specs.Prelude.{◌≡◌, ℕ, ◌<◌, true, List, length, reverse, Some, All, AllPairs, Contains, Bool, false}
 use Rattle.std.specs.Prelude.{◌&&◌, ◌||◌, nat_eq, nat_lt, [], ◌∷◌}
 use Rattle.aadl_tree.specs.Declarations.{Implementation, PackageTree}
 use Rattle.aadl_names.specs.NameResolution.{is_thread}
 use Rattle.aadl_uses.specs.ContainmentAndUse.{component_at}
 
--- a list of all that have P, each once, in an order
+-- a list of all elements that satisfy P, each once, in the given order
 pub record Lists {X : Type 0} (P : X → Type 0) (Before : X → X → Type 0) (xs : List X) : Type 0 where
   pub each : All P xs
   pub in_order : AllPairs Before xs
   pub complete : (x : X) → P x → Contains xs x
 
--- more than n have P
+-- more than n elements satisfy P
 pub record MoreThan {X : Type 0} (n : ℕ) (P : X → Type 0) (Before : X → X → Type 0) : Type 0 where
   pub some : List X
   pub each : All P some

@@ -1,4 +1,4 @@
-//! The connections of one declaration, found by the ports into which they go.
+//! The connections of one declaration, indexed by their target port.
 ghost use Rattle.std.specs.Prelude.{◌≡◌, ◌↔◌, None, Some, IfOk, OnOk, IsTrue, if◌then◌else◌};
 ghost use Rattle.std.specs.Option.{option_or};
 ghost use Rattle.aadl_names.specs.declared.numbered_port.NumberedPort.{NumberedPort};
@@ -12,17 +12,17 @@ use pals_base::ItemList;
 use std::alloc::{AllocError, Global};
 use std::marker::Model;
 
-/// A connection, by the ports that it joins, where they are declared.
+/// A connection, as the ports that it joins in their declarations.
 #[derive(Clone, Copy)]
 pub struct ConnectionPorts {
     pub source: Option<NumberedPort>,
     pub target: Option<NumberedPort>,
 }
 
-/// The connections of a declaration. Contracts see their list.
+/// The connections of a declaration. The model is their list.
 pub struct Connections {
     wires: ItemList<ConnectionPorts>,
-    // of those that go into one port, the first
+    // the first connection into each port
     firsts: IndexMap<NumberedPort, usize>,
 }
 
@@ -52,7 +52,7 @@ impl Model for Connections {
 }
 
 impl Connections {
-    /// Connections in their order.
+    /// Builds the index of these connections, which keep their order. Errors: out of memory.
     pub fn of(alloc: Global, wires: ItemList<ConnectionPorts>) -> Result<Connections, AllocError>
         ensures { IfOk result (λ connections. connections ≡ wires) }
     {
@@ -60,21 +60,21 @@ impl Connections {
         Ok(Connections { wires, firsts })
     }
 
-    /// The connections in their order.
+    /// Returns the connections in order.
     pub fn as_slice(&self) -> &[ConnectionPorts]
         ensures { result.now ≡ self.now }
     {
         self.wires.as_slice()
     }
 
-    /// The number of the first one that goes into a port.
+    /// Returns the number of the first connection into a port.
     pub fn first_into(&self, target: NumberedPort) -> Option<usize>
         ensures { result ≡ inner.first_into self.now target }
     {
         self.firsts.get(&target).copied()
     }
 
-    /// Whether a connection goes into a port into which one before it goes.
+    /// Returns whether a connection has the same target as an earlier one.
     pub fn is_second(&self, number: usize) -> bool
         ensures { IsTrue result ↔ spec.IsDuplicate self.now number }
     {
@@ -95,7 +95,7 @@ fn target_at(wires: &[ConnectionPorts], number: usize) -> Option<NumberedPort>
     }
 }
 
-// Whether there is a number, and it is below another.
+// Whether there is a first number, and it is below the other.
 fn is_before(first: Option<usize>, number: usize) -> bool
     ensures { result ≡ inner.is_before first number }
 {
@@ -120,7 +120,7 @@ fn firsts_of(
     Ok(firsts)
 }
 
-// Adds the number of a connection into a port, unless one goes into it.
+// Adds the number of a connection into a port, unless the port already has one.
 fn add_first(
     firsts: &mut IndexMap<NumberedPort, usize>,
     target: Option<NumberedPort>,

@@ -1,10 +1,10 @@
-//! Which declarations contain which.
+//! The containment relation between declarations.
 
 use std::alloc::{AllocError, Global};
 use std::marker::Model;
 
-/// For each declaration, by its number, what its subcomponents name: the number of a declaration,
-/// or none. Contracts see the lists of these.
+/// For each declaration, by its number, the declarations that its subcomponents name: each a number, or `None`
+/// if the name is not declared. The model is the list of these lists.
 #[derive(Drop)]
 pub struct Containment {
     rows: Vec<Vec<Option<usize>>>,
@@ -23,7 +23,7 @@ impl Containment {
     ghost use Rattle.std.specs.Prelude.{◌≡◌, ◌++◌, ◌∷◌, [], length, OnOk, OnErr};
     ghost use Rattle.aadl_uses.specs.proof.ContainmentGraphs as spec;
 
-    /// The containment of no declarations. It takes no memory.
+    /// Returns the containment of an empty list of declarations. Does not allocate.
     pub fn new(alloc: Global) -> Containment
         ensures { result ≡ [] }
     {
@@ -32,7 +32,7 @@ impl Containment {
         }
     }
 
-    /// Adds a declaration, with what its subcomponents name.
+    /// Adds a declaration with the targets of its subcomponents. Errors: out of memory.
     pub fn push(&mut self, targets: Vec<Option<usize>>) -> Result<(), AllocError>
         ensures ok { OnOk result (self.new ≡ self.old ++ targets.items ∷ []) }
         ensures err { OnErr result (self.new ≡ self.old) }
@@ -41,14 +41,14 @@ impl Containment {
         Ok(())
     }
 
-    /// How many declarations there are.
+    /// Returns the number of declarations.
     pub fn len(&self) -> usize
         ensures { result ≡ length self.now }
     {
         self.rows.len()
     }
 
-    /// What the subcomponents of a declaration name, in order.
+    /// Returns the declarations that the subcomponents of a declaration name, in order.
     pub fn targets(&self, number: usize) -> &[Option<usize>]
         ensures { result.now ≡ spec.targets_in self.now number }
     {
@@ -58,7 +58,7 @@ impl Containment {
         }
     }
 
-    /// What a subcomponent of a declaration names.
+    /// Returns the declaration that a subcomponent of a declaration names.
     pub fn below(&self, number: usize, sub: usize) -> Option<usize>
         ensures { result ≡ spec.below_in self.now number sub }
     {

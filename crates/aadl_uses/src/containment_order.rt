@@ -1,4 +1,4 @@
-//! Declarations in an order in which each stands behind those that it contains.
+//! An order of declarations in which each follows the declarations that it contains.
 ghost use Rattle.std.specs.Prelude.{◌≡◌, ℕ, length, IfOk, OnOk};
 ghost use Rattle.std.specs.List.{list_all};
 ghost use Rattle.aadl_uses.specs.proof.ContainmentGraphs.{IsWithin, LeadsBack};
@@ -10,7 +10,8 @@ use crate::declaration_levels::finished;
 use indexmap::IndexSet;
 use std::alloc::{AllocError, Global};
 
-/// All declarations, each behind those that its subcomponents name. None contains itself.
+/// Returns all declarations, each after the declarations that its subcomponents name. Precondition: no
+/// declaration contains itself. Errors: out of memory.
 pub fn order(alloc: Global, graph: &Containment) -> Result<IndexSet<usize>, AllocError>
     requires within { IsWithin graph.now }
     requires acyclic { (n s : ℕ) → ¬ LeadsBack graph.now n s }
@@ -26,7 +27,7 @@ pub fn order(alloc: Global, graph: &Containment) -> Result<IndexSet<usize>, Allo
     Ok(order)
 }
 
-// Places declarations in the order of a guess, which is right where none contains itself.
+// Places declarations in the order of a guess, which is a valid order if no declaration contains itself.
 fn place_guessed(
     alloc: Global,
     order: &mut IndexSet<usize>,
@@ -51,7 +52,7 @@ fn place_each(order: &mut IndexSet<usize>, graph: &Containment) -> Result<(), Al
     Ok(())
 }
 
-// Places a declaration, if all that its subcomponents name is placed.
+// Places a declaration if all targets of its subcomponents are placed.
 fn place(order: &mut IndexSet<usize>, graph: &Containment, number: usize) -> Result<(), AllocError>
     ensures { OnOk result (IsPlaced graph.now number order.old.keys order.new.keys) }
 {
@@ -61,7 +62,7 @@ fn place(order: &mut IndexSet<usize>, graph: &Containment, number: usize) -> Res
     Ok(())
 }
 
-// Whether all that targets name is placed.
+// Whether all targets are placed.
 fn are_there(order: &IndexSet<usize>, targets: &[Option<usize>]) -> bool
     ensures { result ≡ list_all (spec.is_there order.now.keys) targets.now }
 {

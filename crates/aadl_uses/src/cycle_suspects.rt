@@ -1,4 +1,4 @@
-//! Subcomponents that may lead back to where they stand, and whether one of them does.
+//! Subcomponents that may lead back to the declaration that contains them, and the test whether one does.
 ghost use Rattle.std.specs.Prelude.{◌≡◌, ◌<◌, ◌↔◌, ℕ, length, false, true, IsTrue, IfOk, OnOk, Contains};
 ghost use Rattle.std.specs.List.{list_any};
 ghost use Rattle.aadl_uses.specs.proof.ContainmentGraphs.{targets_in, IsWithin, LeadsBack};
@@ -10,8 +10,8 @@ use crate::declaration_levels::levels;
 use crate::reached_declarations::reached;
 use std::alloc::{AllocError, Global};
 
-/// All subcomponents that lead back to where they stand, and perhaps others: each by the number of its
-/// declaration and its own number there.
+/// Returns candidates for cycles: all subcomponents that lead back to the declaration that contains them, and
+/// possibly others. Each is the number of its declaration and its own number there. Errors: out of memory.
 pub fn suspects(alloc: Global, graph: &Containment) -> Result<Vec<(usize, usize)>, AllocError>
     ensures { IfOk result (λ found. (n s : ℕ) → LeadsBack graph.now n s → Contains found.items (n, s)) }
 {
@@ -24,7 +24,7 @@ pub fn suspects(alloc: Global, graph: &Containment) -> Result<Vec<(usize, usize)
     Ok(found)
 }
 
-/// Whether a subcomponent leads back to where it stands.
+/// Returns whether a subcomponent leads back to the declaration that contains it. Errors: out of memory.
 pub fn leads_back(
     alloc: Global,
     graph: &Containment,
@@ -51,7 +51,7 @@ fn level_of(levels: &[usize], number: usize) -> usize
     }
 }
 
-// Whether a subcomponent names a declaration above a level.
+// Whether a subcomponent names a declaration of a higher level.
 fn is_above(levels: &[usize], level: usize, target: Option<usize>) -> bool
     ensures { result ≡ spec.is_above levels.now level target }
 {
@@ -61,7 +61,7 @@ fn is_above(levels: &[usize], level: usize, target: Option<usize>) -> bool
     }
 }
 
-// Whether some subcomponent of a declaration names one of a greater level.
+// Whether some subcomponent of a declaration names a declaration of a higher level.
 fn rises_from(graph: &Containment, levels: &[usize], number: usize) -> bool
     ensures { result ≡ list_any (spec.is_above levels.now (spec.level_in levels.now number))
         (targets_in graph.now number) }
@@ -73,7 +73,7 @@ fn rises_from(graph: &Containment, levels: &[usize], number: usize) -> bool
         .any(|target| is_above(levels, level, *target))
 }
 
-// Whether some declaration contains one of a greater level.
+// Whether some declaration contains a declaration of a higher level.
 fn rises(graph: &Containment, levels: &[usize]) -> bool
     ensures { result ≡ false
         → (n : ℕ) → n < length graph.now → list_any (spec.is_above levels.now (spec.level_in levels.now n))

@@ -1,30 +1,30 @@
-//! Levels of declarations by depth-first search: those that lead to one another share one; its users test what it
-//! gives.
+//! Levels of declarations by depth-first search. Declarations that lead to one another share a level. No
+//! contract states this: the callers test the result.
 
 use crate::containment::Containment;
 use std::alloc::{AllocError, Global};
 
-// What is known of a declaration.
+// The state of a declaration in the search.
 #[derive(Clone, Copy)]
 enum VisitMark {
     New,
-    // It has this place among the open ones.
+    // It is open, at this position of the list of open declarations.
     Open(usize),
     // It has this level.
     Done(usize),
 }
 
-// A walk along subcomponents, which comes to each declaration once.
+// A depth-first search along subcomponents, which visits each declaration once.
 #[derive(Drop)]
 struct Walk {
     marks: Vec<VisitMark>,
-    // the declarations without a level, as they were met
+    // the visited declarations without a level, in the order of the visit
     open: Vec<usize>,
-    // where on that list each group of declarations that lead to one another begins
+    // the positions in `open` at which the groups of declarations that lead to one another begin
     groups: Vec<usize>,
-    // declarations whose subcomponents are not all looked at, each with the next one's number
+    // declarations whose subcomponents are not all visited, each with the number of the next subcomponent
     calls: Vec<(usize, usize)>,
-    // the declarations that have a level, as they got it
+    // the declarations with a level, in the order in which they received it
     finished: Vec<usize>,
     level: usize,
 }
@@ -51,7 +51,7 @@ impl Walk {
         }
     }
 
-    // Comes to a declaration for the first time.
+    // Visits a declaration for the first time.
     fn enter(&mut self, number: usize) -> Result<(), AllocError> {
         let at = self.open.len();
         self.mark(number, VisitMark::Open(at));
@@ -61,7 +61,7 @@ impl Walk {
         Ok(())
     }
 
-    // Joins the groups from a place on.
+    // Joins the groups from a position on.
     fn join(&mut self, at: usize) {
         for _turn in 0..u64::MAX {
             match self.groups.last() {
@@ -82,7 +82,7 @@ impl Walk {
         Ok(())
     }
 
-    // Gives the declarations of the last group their level, if it begins with this one.
+    // Gives the declarations of the last group their level if the group begins with this one.
     fn leave(&mut self, number: usize) -> Result<(), AllocError> {
         let Some(begin) = self.groups.last().copied() else {
             return Ok(());
@@ -104,7 +104,7 @@ impl Walk {
         Ok(())
     }
 
-    // One step; whether there was one.
+    // Performs one step; returns whether there was one.
     fn step(&mut self, graph: &Containment) -> Result<bool, AllocError> {
         let Some((number, next)) = self.calls.pop() else {
             return Ok(false);
@@ -121,7 +121,7 @@ impl Walk {
         Ok(true)
     }
 
-    // Goes on until nothing is left to look at.
+    // Continues until everything is visited.
     fn finish(&mut self, graph: &Containment) -> Result<(), AllocError> {
         for _turn in 0..u64::MAX {
             if !self.step(graph)? {
@@ -132,8 +132,9 @@ impl Walk {
     }
 }
 
-/// A level for each declaration. Declarations that lead to one another should have one level, and
-/// others a greater one than those that they lead to; nothing is promised.
+/// Returns a level for each declaration. Intended: declarations that lead to one another share a level, and any
+/// other declaration has a higher level than the declarations that it leads to. No contract states this.
+/// Errors: out of memory.
 pub fn levels(alloc: Global, graph: &Containment) -> Result<Vec<usize>, AllocError> {
     let walk = walked(alloc, graph)?;
     let mut levels = Vec::new(alloc);
@@ -143,14 +144,14 @@ pub fn levels(alloc: Global, graph: &Containment) -> Result<Vec<usize>, AllocErr
     Ok(levels)
 }
 
-/// Declarations as they got their levels. Each should stand behind those that it leads to, unless these
-/// lead back; nothing is promised.
+/// Returns the declarations in the order in which they received their levels. Intended: each follows the
+/// declarations that it leads to, unless these lead back. No contract states this. Errors: out of memory.
 pub fn finished(alloc: Global, graph: &Containment) -> Result<Vec<usize>, AllocError> {
     let walk = walked(alloc, graph)?;
     Ok(walk.finished)
 }
 
-// A walk that has come to each declaration.
+// A search that has visited each declaration.
 fn walked(alloc: Global, graph: &Containment) -> Result<Walk, AllocError> {
     let mut walk = Walk::new(alloc, graph.len())?;
     for number in 0..graph.len() {

@@ -1,6 +1,12 @@
-//! A package with its names looked up, once: what subcomponents name, the types of implementations, and the ports that
-//! connections join, all by numbers. Above them: what is in use, whether an implementation contains itself, and the
-//! threads below a root: where each stands, and by which path it is known.
+//! A package whose names are looked up once, and what follows from these look-ups. Subcomponents, the types of
+//! implementations and the ports that connections join are all numbers: the indices of declarations, features
+//! and connections in the text.
+//!
+//! From these numbers the crate computes the declarations in use below a root, the first implementation that
+//! contains itself, the connections by their target, and the threads below a root with their paths. Each result
+//! is proved equal to its definition on the tree of the package.
+//!
+//! The crate does not check names, types or connections, and does not build the instance model.
 #![tactic(auto)]
 
 pub mod connections_by_target;

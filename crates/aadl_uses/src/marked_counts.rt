@@ -1,4 +1,5 @@
-//! How many marked declarations there are below others, counted up to a limit on declarations alone.
+//! The number of marked declarations below each declaration, up to a limit, by an induction along a containment
+//! order.
 ghost use Rattle.std.specs.Prelude.{◌≡◌, ◌+◌, ◌<◌, ℕ, min, length, slice_index, slice_index_or, slice_set, false, IfOk};
 ghost use Rattle.aadl_uses.specs.proof.MarkedPathCounts as spec;
 ghost use Rattle.aadl_uses.specs.proof.MarkedPathCounts.{AreCounted, Counted};
@@ -8,8 +9,8 @@ use crate::containment::Containment;
 use indexmap::IndexSet;
 use std::alloc::{AllocError, Global};
 
-/// How many places there are below each declaration at which a marked one stands, its own among them;
-/// the limit where there are more.
+/// Returns, for each declaration, the number of paths to marked declarations, including the empty path; `limit`
+/// if there are more. Errors: out of memory.
 pub fn counts_below(
     alloc: Global,
     graph: &Containment,
@@ -43,7 +44,7 @@ fn zeros(alloc: Global, len: usize) -> Result<Vec<usize>, AllocError>
     Ok(counts)
 }
 
-// Puts a count in the place of another.
+// Replaces a count by another.
 fn put(counts: &mut Vec<usize>, number: usize, count: usize)
     requires { number < length counts.old.items }
     ensures { counts.new.items ≡ slice_set counts.old.items number count }
@@ -51,7 +52,7 @@ fn put(counts: &mut Vec<usize>, number: usize, count: usize)
     counts[number] = count;
 }
 
-// The count of a declaration, by those of what it contains.
+// The count of a declaration, from the counts of the declarations that it contains.
 fn count_below(
     graph: &Containment,
     marks: &[bool],
@@ -80,7 +81,7 @@ fn own_count(marks: &[bool], number: usize, limit: usize) -> usize
     }
 }
 
-// The count of what a subcomponent names.
+// The count of the declaration that a subcomponent names.
 fn count_of(counts: &[usize], target: Option<usize>) -> usize
     ensures { result ≡ spec.count_of counts.now target }
 {
@@ -93,7 +94,7 @@ fn count_of(counts: &[usize], target: Option<usize>) -> usize
     }
 }
 
-/// The sum of two counts, or the limit where it is above.
+/// Returns the sum of two counts, or the limit if the sum exceeds it.
 pub fn add_up_to(limit: usize, a: usize, b: usize) -> usize
     ensures { result ≡ min limit (a + b) }
 {

@@ -1,4 +1,4 @@
-//! A package with its connections.
+//! A package and its connections.
 ghost use Rattle.std.specs.Prelude.{◌≡◌, ◌↔◌, IfOk, IsTrue, map, option_map, option_copied, slice_get};
 ghost use Rattle.std.proofs.Props.{props};
 ghost use Rattle.aadl_tree.specs.proof.PackageViews.{placed};
@@ -21,7 +21,7 @@ use std::alloc::{AllocError, Global};
 
 /// A package with the ports of its implementations, and its connections.
 pub struct PackageConnections<'t> {
-    /// What the subcomponents of the package name.
+    /// The package with its names looked up.
     pub uses: Uses<'t>,
     connections: ItemList<Connections>,
     ghost of_connections: { connections ≡ map (wires_in (placed uses.names.tree.now))
@@ -38,7 +38,7 @@ impl Drop for PackageConnections<'_> {
 }
 
 impl<'t> PackageConnections<'t> {
-    /// The connections of a package.
+    /// Looks up the connections of a package. Errors: out of memory.
     pub fn of(alloc: Global, uses: Uses<'t>) -> Result<PackageConnections<'t>, AllocError>
         ensures { IfOk result (λ wires. wires.uses.names.tree.now ≡ uses.entry.names.tree.now) }
     {
@@ -47,7 +47,7 @@ impl<'t> PackageConnections<'t> {
         Ok(PackageConnections { uses, connections })
     }
 
-    /// The connections of a declaration, in order.
+    /// Returns the connections of a declaration, in order.
     pub fn wires(&self, number: usize) -> &[ConnectionPorts]
         ensures { result.now ≡ connection_ports_at (placed self.now.uses.names.tree.now) number }
     {
@@ -57,7 +57,7 @@ impl<'t> PackageConnections<'t> {
         }
     }
 
-    /// A connection of a declaration, as it is declared.
+    /// Returns a connection of a declaration, as it is declared.
     pub fn connection(&self, number: usize, wire: usize) -> Option<&'t Connection>
         ensures { option_map (connection_view kept_place) (option_copied result)
             ≡ slice_get (connections_of (implementation_at (placed self.now.uses.names.tree.now) number)) wire }
@@ -68,7 +68,7 @@ impl<'t> PackageConnections<'t> {
         }
     }
 
-    /// The first connection of a declaration into a port, and where it comes from.
+    /// Returns the first connection of a declaration into a port: its number and its source.
     pub fn connection_into(
         &self,
         number: usize,
@@ -83,7 +83,7 @@ impl<'t> PackageConnections<'t> {
         }
     }
 
-    /// Whether a connection of a declaration goes into a port into which one before it goes.
+    /// Returns whether a connection of a declaration has the same target as an earlier one.
     pub fn is_second(&self, number: usize, wire: usize) -> bool
         ensures { IsTrue result ↔ IsDuplicate (connection_ports_at (placed self.now.uses.names.tree.now) number) wire }
     {
@@ -103,7 +103,7 @@ impl<'t> PackageConnections<'t> {
         }
     }
 
-    /// Whether a port of an implementation goes in.
+    /// Returns whether a port of an implementation is an in port.
     pub fn is_in(&self, number: usize, port: usize) -> bool
         ensures { result ≡ faults.goes_in (direction_in (ports_at (placed self.now.uses.names.tree.now)
             (implementation_at (placed self.now.uses.names.tree.now) number)) port) }
@@ -115,7 +115,7 @@ impl<'t> PackageConnections<'t> {
     }
 }
 
-/// Whether ports of a direction go in.
+/// Returns whether ports of a direction are in ports.
 pub fn goes_in(direction: Direction) -> bool
     ensures { result ≡ faults.goes_in (Some direction) }
 {

@@ -1,4 +1,4 @@
-//! How heavy the heaviest paths to marked declarations are.
+//! The weight of the heaviest path to a marked declaration.
 ghost use Rattle.std.specs.Prelude.{◌≡◌, ◌+◌, ◌<◌, ◌++◌, ◌∷◌, [], ℕ, None, false, length, map, min, option_map};
 ghost use Rattle.std.specs.Prelude.{slice_index_or, slice_set, IfOk, OnOk};
 ghost use Rattle.aadl_uses.specs.proof.ContainmentOrders.{IsOrder};
@@ -11,8 +11,8 @@ use indexmap::IndexSet;
 use std::alloc::{AllocError, Global};
 use std::marker::Model;
 
-/// For each declaration, by its number, the weights of its subcomponents, in order. Contracts see
-/// the lists of these.
+/// For each declaration, by its number, the weights of its subcomponents, in order. The model is the list of
+/// these lists.
 #[derive(Drop)]
 pub struct SubcomponentWeights {
     rows: Vec<Vec<usize>>,
@@ -27,7 +27,7 @@ impl Model for SubcomponentWeights {
 }
 
 impl SubcomponentWeights {
-    /// The weights of no declarations. It takes no memory.
+    /// Returns the weights of an empty list of declarations. Does not allocate.
     pub fn new(alloc: Global) -> SubcomponentWeights
         ensures { result ≡ [] }
     {
@@ -36,7 +36,7 @@ impl SubcomponentWeights {
         }
     }
 
-    /// Adds a declaration, with the weights of its subcomponents.
+    /// Adds a declaration with the weights of its subcomponents. Errors: out of memory.
     pub fn push(&mut self, row: Vec<usize>) -> Result<(), AllocError>
         ensures ok { OnOk result (self.new ≡ self.old ++ row.items ∷ []) }
     {
@@ -55,9 +55,9 @@ impl SubcomponentWeights {
     }
 }
 
-/// The weight of the heaviest path from each declaration to a marked one below it, its own empty path
-/// among them, or the limit where it is above; none where there is no such path. A path weighs what
-/// its subcomponents weigh in sum.
+/// Returns, for each declaration, the weight of the heaviest path to a marked declaration below it, including
+/// the empty path. The weight is `limit` if it exceeds the limit, and `None` if there is no such path. The
+/// weight of a path is the sum of the weights of its subcomponents. Errors: out of memory.
 pub fn heaviest_below(
     alloc: Global,
     graph: &Containment,
@@ -88,7 +88,7 @@ fn nothing(alloc: Global, len: usize) -> Result<Vec<Option<usize>>, AllocError>
     vec![in alloc; None; len]
 }
 
-// Puts what was found from a declaration in its place.
+// Stores the result of a declaration.
 fn put(found: &mut Vec<Option<usize>>, number: usize, heaviest: Option<usize>)
     requires { number < length found.old.items }
     ensures { found.new.items ≡ slice_set found.old.items number heaviest }
@@ -96,7 +96,7 @@ fn put(found: &mut Vec<Option<usize>>, number: usize, heaviest: Option<usize>)
     found[number] = heaviest;
 }
 
-// How heavy the heaviest path from a declaration is, by those of what it contains.
+// The weight of the heaviest path from a declaration, from the results of the declarations that it contains.
 fn heaviest_of(
     graph: &Containment,
     marks: &[bool],
@@ -116,7 +116,7 @@ fn heaviest_of(
     heaviest
 }
 
-// The empty path, where the declaration itself is marked.
+// The weight of the empty path, if the declaration itself is marked.
 fn own_weight(marks: &[bool], number: usize) -> Option<usize>
     ensures { result ≡ spec.own_weight (slice_index_or marks.now number false) }
 {
@@ -127,7 +127,7 @@ fn own_weight(marks: &[bool], number: usize) -> Option<usize>
     }
 }
 
-// What was found from what a subcomponent names.
+// The result of the declaration that a subcomponent names.
 fn found_from(found: &[Option<usize>], target: Option<usize>) -> Option<usize>
     ensures { result ≡ spec.found_from found.now target }
 {
@@ -147,7 +147,7 @@ fn through(weight: usize, below: Option<usize>, limit: usize) -> Option<usize>
     }
 }
 
-// The greater of two weights, each if it is there.
+// The larger of two optional weights.
 fn heavier(a: Option<usize>, b: Option<usize>) -> Option<usize>
     ensures { result ≡ spec.heavier a b }
 {

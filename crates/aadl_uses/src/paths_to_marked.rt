@@ -13,8 +13,8 @@ use indexmap::IndexSet;
 use std::alloc::{AllocError, Global};
 use std::marker::Model;
 
-/// For each declaration, by its number, paths of subcomponents that lead down from it, each with
-/// the number of the outermost first. Contracts see the lists of these.
+/// For each declaration, by its number, paths of subcomponents that lead down from it, each with the outermost
+/// subcomponent first. The model is the list of these lists.
 #[derive(Drop)]
 pub struct Paths {
     rows: Vec<Vec<Vec<usize>>>,
@@ -40,7 +40,7 @@ impl Paths {
         Ok(Paths { rows })
     }
 
-    // Puts the paths of a declaration in the place of others.
+    // Replaces the paths of a declaration.
     fn put(&mut self, number: usize, row: Vec<Vec<usize>>)
         requires { number < length self.old }
         ensures { self.new ≡ slice_set self.old number (map (λ path. path.items) row.items) }
@@ -48,7 +48,7 @@ impl Paths {
         self.rows[number] = row;
     }
 
-    /// The paths from a declaration.
+    /// Returns the paths from a declaration.
     pub fn from(&self, number: usize) -> &[Vec<usize>]
         ensures { map (λ path. path.items) result.now ≡ spec.paths_from self.now number }
     {
@@ -59,8 +59,8 @@ impl Paths {
     }
 }
 
-/// The paths from each declaration in use to the marked ones below it, its own among them, in
-/// depth-first order. What a declaration in use contains is in use.
+/// Returns the paths from each declaration in use to the marked ones below it, including itself, in depth-first
+/// order. Precondition: every declaration that a declaration in use contains is in use. Errors: out of memory.
 pub fn paths_below(
     alloc: Global,
     graph: &Containment,
@@ -86,7 +86,7 @@ pub fn paths_below(
     Ok(paths)
 }
 
-// Those from a declaration, by those from what it contains.
+// The paths from a declaration, from the paths of the declarations that it contains.
 fn paths_of(
     alloc: Global,
     graph: &Containment,
@@ -107,7 +107,7 @@ fn paths_of(
     Ok(row)
 }
 
-// The empty path, where the declaration itself is marked.
+// The weight of the empty path, if the declaration itself is marked.
 fn own_path(alloc: Global, marks: &[bool], number: usize) -> Result<Vec<Vec<usize>>, AllocError>
     ensures { IfOk result (λ row. map (λ path. path.items) row.items
         ≡ own_paths (slice_index_or marks.now number false)) }

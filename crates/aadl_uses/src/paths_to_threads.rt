@@ -12,8 +12,8 @@ use indexmap::IndexSet;
 use pals_base::NoMemory;
 use std::alloc::Global;
 
-/// The paths from each declaration in use to the threads below it. Those from the root lead to all
-/// threads of its instance, in depth-first order of declaration.
+/// Returns the paths from each declaration in use to the threads below it. The paths from the root lead to all
+/// threads of its instance model, in depth-first order of declaration. Errors: out of memory.
 pub fn thread_paths(
     alloc: Global,
     uses: &Uses<'_>,

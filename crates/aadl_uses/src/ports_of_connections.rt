@@ -1,4 +1,4 @@
-//! The ports that the connections of each declaration join, looked up by the names at their ends.
+//! Looks up the ports that the connections of each declaration join, by the names at their ends.
 ghost use Rattle.std.specs.Prelude.{◌≡◌, ℕ, Some, IfOk, map, slice_get};
 ghost use Rattle.aadl_tree.specs.proof.PackageViews.{placed};
 ghost use Rattle.aadl_tree.specs.proof.DeclarationViews.{declaration_view, connection_view};
@@ -33,7 +33,7 @@ pub fn wiring_of(
     Ok(wiring)
 }
 
-// The connections of a declaration.
+// The connections of a declaration, as ports.
 fn wires_of(
     alloc: Global,
     uses: &Uses<'_>,
@@ -53,7 +53,7 @@ fn wires_of(
     }
 }
 
-// What connections of an implementation join.
+// The ports that connections of an implementation join.
 fn wires_of_each(
     alloc: Global,
     uses: &Uses<'_>,
@@ -72,7 +72,7 @@ fn wires_of_each(
     Ok(wires)
 }
 
-// What a connection joins.
+// The ports that a connection joins.
 fn ports_of_connection(
     alloc: Global,
     uses: &Uses<'_>,

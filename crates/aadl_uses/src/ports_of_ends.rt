@@ -15,7 +15,7 @@ use aadl_names::type_ports::port_number;
 use aadl_tree::{ConnectionEnd, Identifier};
 use std::alloc::{AllocError, Global};
 
-/// The port that an end of a connection of an implementation names, if it is declared.
+/// Returns the port that an end of a connection of an implementation names, if it is declared.
 pub fn site_of(
     alloc: Global,
     uses: &Uses<'_>,

@@ -1,4 +1,4 @@
-//! What stands below a declaration.
+//! The declarations below a declaration.
 ghost use Rattle.std.specs.Prelude.{◌<◌, ◌↔◌, ℕ, length, IfOk, OnOk, Contains};
 ghost use Rattle.aadl_uses.specs.proof.ContainmentGraphs.{AreAdded, IsReached, IsWithin};
 
@@ -6,7 +6,8 @@ use crate::containment::Containment;
 use indexmap::IndexSet;
 use std::alloc::{AllocError, Global};
 
-/// The declarations that are reached from one through subcomponents, itself among them.
+/// Returns the declarations that a declaration reaches through subcomponents, including itself. Errors: out of
+/// memory.
 pub fn reached(
     alloc: Global,
     graph: &Containment,
@@ -27,7 +28,7 @@ pub fn reached(
     Ok(found)
 }
 
-// Adds what targets name.
+// Adds the declared targets.
 fn add_all(found: &mut IndexSet<usize>, targets: &[Option<usize>]) -> Result<(), AllocError>
     ensures { OnOk result (AreAdded targets.now found.old.keys found.new.keys) }
 {

@@ -10,7 +10,8 @@ use aadl_names::PackageFault;
 use pals_base::Text;
 use std::alloc::{AllocError, Global};
 
-/// The first subcomponent of a package that leads back to the implementation in which it stands.
+/// Returns the first subcomponent of a package that leads back to the implementation that contains it, as a
+/// fault. Errors: out of memory.
 pub fn first_recursive(alloc: Global, uses: &Uses<'_>) -> Result<Option<PackageFault>, AllocError>
     ensures { IfOk result (FirstIn (IsRecursive (placed uses.now.names.tree.now))) }
 {
@@ -18,7 +19,7 @@ pub fn first_recursive(alloc: Global, uses: &Uses<'_>) -> Result<Option<PackageF
     first_of(alloc, uses, suspects.as_slice())
 }
 
-// The first of some subcomponents that leads back.
+// The first of these subcomponents that leads back.
 fn first_of(
     alloc: Global,
     uses: &Uses<'_>,
@@ -33,8 +34,8 @@ fn first_of(
     Ok(first)
 }
 
-// The first of what was found before and a subcomponent, if that leads back. What stands behind the
-// first one is not looked at further.
+// The first of an earlier result and one more subcomponent, if the subcomponent leads back. A subcomponent
+// after the earlier result is not tested.
 fn sooner(
     alloc: Global,
     uses: &Uses<'_>,
@@ -58,7 +59,7 @@ fn sooner(
     }))
 }
 
-// Whether something at a place stands before what was found.
+// Whether a position is before the position of the result so far.
 fn comes_first(first: &Option<PackageFault>, at: usize) -> bool
     ensures { result ≡ is_sooner at first.now }
 {

@@ -1,4 +1,5 @@
-//! A package with the implementations that its subcomponents name and the types of its implementations, by numbers.
+//! A package with its look-ups: the implementations that subcomponents name, and the types of implementations,
+//! by their numbers.
 ghost use Rattle.std.specs.Prelude.{◌≡◌, ◌↔◌, ◌<◌, ℕ, IfOk, IsTrue, Contains, map, length, slice_index, option_map};
 ghost use Rattle.std.specs.Prelude.{option_copied};
 ghost use Rattle.std.specs.Option.{option_and_then};
@@ -30,10 +31,10 @@ use pals_base::ItemList;
 use pals_base::limits::COMPONENTS;
 use std::alloc::{AllocError, Global};
 
-/// A package with the implementations that its subcomponents name, and with the types of its
-/// implementations, all by their numbers.
+/// A package with the implementations that its subcomponents name and the types of its implementations, all by
+/// number.
 pub struct Uses<'t> {
-    /// The package with its names.
+    /// The package with its table of names.
     pub names: Names<'t>,
     graph: Containment,
     types: ItemList<Option<usize>>,
@@ -52,7 +53,7 @@ impl Drop for Uses<'_> {
 }
 
 impl<'t> Uses<'t> {
-    /// The uses of a package with these names.
+    /// Looks up the subcomponents and types of a package. Errors: out of memory.
     pub fn of(alloc: Global, names: Names<'t>) -> Result<Uses<'t>, AllocError>
         ensures { IfOk result (λ uses. uses.names.tree.now ≡ names.entry.tree.now) }
     {
@@ -66,21 +67,21 @@ impl<'t> Uses<'t> {
         })
     }
 
-    /// What each declaration contains, by numbers.
+    /// Returns the containment relation of the declarations.
     pub fn containment(&self) -> &Containment
         ensures { result.now ≡ spec.containment (placed self.now.names.tree.now) }
     {
         &self.graph
     }
 
-    /// How many declarations there are.
+    /// Returns the number of declarations.
     pub fn len(&self) -> usize
         ensures { result ≡ length (placed self.now.names.tree.now).declarations }
     {
         self.graph.len()
     }
 
-    /// The numbers of the implementations that the subcomponents of a declaration name, in order.
+    /// Returns the numbers of the implementations that the subcomponents of a declaration name, in order.
     pub fn targets(&self, number: usize) -> &[Option<usize>]
         ensures { result.now ≡ spec.targets_of (placed self.now.names.tree.now)
             (implementation_at (placed self.now.names.tree.now) number) }
@@ -88,7 +89,8 @@ impl<'t> Uses<'t> {
         self.graph.targets(number)
     }
 
-    /// All declarations, each behind those that its subcomponents name. None contains itself.
+    /// Returns all declarations, each after the declarations that its subcomponents name. Precondition: no
+    /// declaration contains itself. Errors: out of memory.
     pub fn order(&self, alloc: Global) -> Result<IndexSet<usize>, AllocError>
         requires { (fault : PackageFault) → ¬ IsRecursive (placed self.now.names.tree.now) fault }
         ensures { IfOk result (λ order. IsOrder (spec.containment (placed self.now.names.tree.now)) order.keys) }
@@ -96,15 +98,15 @@ impl<'t> Uses<'t> {
         order(alloc, &self.graph)
     }
 
-    /// Which declarations are implementations of threads.
+    /// Returns which declarations are implementations of threads. Errors: out of memory.
     pub fn thread_marks(&self, alloc: Global) -> Result<Vec<bool>, AllocError>
         ensures { IfOk result (λ marks. marks.items ≡ thread_marks (placed self.now.names.tree.now)) }
     {
         marks_of(alloc, self.names.tree.declarations.as_slice())
     }
 
-    /// How many threads stand below each declaration, itself among them; the limit where there are
-    /// more.
+    /// Returns, for each declaration, the number of threads below it, including itself; `limit` if there are
+    /// more. Errors: out of memory.
     pub fn thread_counts(
         &self,
         alloc: Global,
@@ -119,7 +121,8 @@ impl<'t> Uses<'t> {
         counts_below(alloc, &self.graph, marks.as_slice(), order, limit)
     }
 
-    /// Whether there are more components below a root than a design may have.
+    /// Returns whether there are more threads below a root than a design may have components. Errors: out of
+    /// memory.
     pub fn has_too_many_threads(
         &self,
         alloc: Global,
@@ -136,7 +139,7 @@ impl<'t> Uses<'t> {
         Ok(count > COMPONENTS)
     }
 
-    /// Whether a declaration is the implementation of a thread.
+    /// Returns whether a declaration is the implementation of a thread.
     pub fn is_thread(&self, number: usize) -> bool
         ensures { result ≡ is_thread_in (implementation_at (placed self.now.names.tree.now) number) }
     {
@@ -146,14 +149,14 @@ impl<'t> Uses<'t> {
         }
     }
 
-    /// The number of the implementation that a subcomponent of a declaration names.
+    /// Returns the number of the implementation that a subcomponent of a declaration names.
     pub fn below(&self, number: usize, sub: usize) -> Option<usize>
         ensures { result ≡ below (placed self.now.names.tree.now) number sub }
     {
         self.graph.below(number, sub)
     }
 
-    /// The number of the type of a declaration, if it is an implementation whose type is declared.
+    /// Returns the number of the type of a declaration, if it is an implementation whose type is declared.
     pub fn type_number(&self, number: usize) -> Option<usize>
         ensures { result ≡ type_number_at (placed self.now.names.tree.now) number }
     {
@@ -163,7 +166,7 @@ impl<'t> Uses<'t> {
         }
     }
 
-    /// The ports of an implementation.
+    /// Returns the ports of an implementation.
     pub fn ports(&self, number: usize) -> &'t [Feature]
         ensures { map (feature_view kept_place) result.now
             ≡ ports_at (placed self.now.names.tree.now) (implementation_at (placed self.now.names.tree.now) number) }
@@ -174,7 +177,7 @@ impl<'t> Uses<'t> {
         }
     }
 
-    /// The number of the type of what a subcomponent of a declaration names.
+    /// Returns the number of the type of the implementation that a subcomponent of a declaration names.
     pub fn type_below(&self, number: usize, sub: usize) -> Option<usize>
         ensures { result ≡ option_and_then (type_number_at (placed self.now.names.tree.now))
             (below (placed self.now.names.tree.now) number sub) }
@@ -185,7 +188,8 @@ impl<'t> Uses<'t> {
         }
     }
 
-    /// The numbers of the implementations that are in use below a root, its own among them.
+    /// Returns the numbers of the implementations in use below a root, including its own. Errors: out of
+    /// memory.
     pub fn in_use(&self, alloc: Global, root: usize) -> Result<IndexSet<usize>, AllocError>
         requires { root < length (placed self.now.names.tree.now).declarations }
         ensures { IfOk result (λ used. (n : ℕ) → Contains used.keys n
@@ -194,7 +198,7 @@ impl<'t> Uses<'t> {
         reached(alloc, &self.graph, root)
     }
 
-    /// The implementation of a number.
+    /// Returns the implementation with a number.
     pub fn implementation(&self, number: usize) -> Option<&'t Implementation>
         ensures { option_map (implementation_view kept_place) (option_copied result)
             ≡ implementation_at (placed self.now.names.tree.now) number }
@@ -202,7 +206,7 @@ impl<'t> Uses<'t> {
         implementation_at(self.names.tree, number)
     }
 
-    /// A subcomponent of a declaration.
+    /// Returns a subcomponent of a declaration.
     pub fn subcomponent(&self, number: usize, sub: usize) -> Option<&'t Subcomponent>
         ensures { option_map (subcomponent_view kept_place) (option_copied result)
             ≡ sub_at (placed self.now.names.tree.now) number sub }
@@ -253,7 +257,7 @@ fn count_at(counts: &[usize], number: usize) -> usize
     }
 }
 
-// What declarations contain.
+// The containment relation of declarations.
 fn containment_of(
     alloc: Global,
     names: &Names<'_>,
@@ -269,7 +273,7 @@ fn containment_of(
     Ok(graph)
 }
 
-// What the subcomponents of a declaration name.
+// The declarations that the subcomponents of a declaration name.
 fn targets_of(
     alloc: Global,
     names: &Names<'_>,
@@ -284,7 +288,7 @@ fn targets_of(
     }
 }
 
-// What subcomponents name.
+// The declarations that these subcomponents name.
 fn targets_of_subs(
     alloc: Global,
     names: &Names<'_>,

@@ -1,4 +1,4 @@
-//! Where a thread stands.
+//! The threads below a root, located by the subcomponents on the path to each.
 ghost use Rattle.std.specs.Prelude.{◌≡◌, All, IfOk, IsSome, map, reverse};
 ghost use Rattle.aadl_tree.specs.proof.PackageViews.{placed};
 ghost use Rattle.aadl_uses.specs.ContainmentAndUse as ways;
@@ -8,11 +8,11 @@ use crate::Uses;
 use pals_base::{ItemList, NoMemory, Text};
 use std::alloc::Global;
 
-/// A thread below a root. Numbers count in the text's order, from 0.
+/// A thread below a root. Numbers count in the order of the text, from 0.
 pub struct ThreadAt {
-    /// The names of the subcomponents on the way to it, with a `.` between each two.
+    /// The names of the subcomponents on the path to the thread, separated by `.`.
     pub path: Text,
-    /// The subcomponents on the way to it, the outermost first; the last one is the thread's own.
+    /// The subcomponents on the path to the thread, the outermost first; the last one is the thread's own.
     pub subs: ItemList<SubAt>,
 }
 
@@ -22,14 +22,14 @@ impl Drop for ThreadAt {
     }
 }
 
-/// A subcomponent: the number of the declaration in which it stands, and its own number there.
+/// A subcomponent: the number of the declaration that contains it, and its own number there.
 #[derive(Clone, Copy)]
 pub struct SubAt {
     pub declaration: usize,
     pub sub: usize,
 }
 
-/// The number of the implementation at the end of a path, the outermost subcomponent first.
+/// Returns the number of the implementation at the end of a path, which begins with the outermost subcomponent.
 pub fn standing(uses: &Uses<'_>, root: usize, path: &[usize]) -> Option<usize>
     ensures { result ≡ ways.number_at_path (placed uses.now.names.tree.now) root (reverse path.now) }
 {
@@ -40,7 +40,8 @@ pub fn standing(uses: &Uses<'_>, root: usize, path: &[usize]) -> Option<usize>
     Some(here)
 }
 
-/// The thread at a path that leads somewhere, the outermost subcomponent first.
+/// Returns the thread at the end of a path, which begins with the outermost subcomponent. Precondition: the
+/// path leads to an implementation. Errors: out of memory.
 pub fn thread_at(
     alloc: Global,
     uses: &Uses<'_>,
@@ -76,7 +77,8 @@ pub fn thread_at(
     })
 }
 
-/// The threads at some paths, each of which leads somewhere.
+/// Returns the threads at the ends of these paths. Precondition: each path leads to an implementation. Errors:
+/// out of memory.
 pub fn threads_at(
     alloc: Global,
     uses: &Uses<'_>,

@@ -1,5 +1,5 @@
--- Where faults of replicas stand, by round, replica and link: one more fault is read, or refused where one before
--- stands at its place.
+-- The keys of replica faults, by round, replica and link: one more fault is parsed, or rejected if an earlier one has
+-- its key.
 use Rattle.std.proofs.Common.{◌≡◌, Bool, true, false, not, ◌&&◌, ◌||◌, ℕ, List, [], ◌∷◌, ◌++◌, length, map, codes}
 use Rattle.std.proofs.Common.{decimal, Ok, Err, refl, sym, ap, ap₂, ◌∙◌}
 use Rattle.std.specs.Prelude.{nat_eq}
@@ -15,7 +15,7 @@ use Rattle.analysis_fields.specs.declared.replica_faults.FaultKey.{FaultKey}
 use Rattle.analysis_fields.specs.declared.replica_faults.RoundFault.{RoundFault}
 use Rattle.analysis_fields.specs.ReplicasAndTheirFaults.{key_of, has_same_key, fault_in, with_fault}
 
--- a place is among those of faults where one of them stands there
+-- a key is among the keys of faults if one of them has it
 seen : (same : FaultKey → FaultKey → Bool)
     → ((f g : RoundFault) → same (key_of f) (key_of g) ≡ has_same_key f g)
     → (f : RoundFault) (fs : List RoundFault)
@@ -32,7 +32,7 @@ is_first same are f fs place places first at keys is =
     is ∙ ap (λ ks. not (list_any (same place) ks)) keys ∙ ap (λ p. not (list_any (same p) (map key_of fs))) at
     ∙ ap not (seen same are f fs)
 
--- ---- equal places
+-- ---- equal keys
 regroup : (a b c d : Bool) → (a && (b && (c && d))) ≡ (a && b && c && d)
 regroup false b c d = refl
 regroup true false c d = refl
@@ -43,7 +43,7 @@ same_place f g =
     regroup (nat_eq f.round g.round) (nat_eq f.fault.replica g.fault.replica) (nat_eq f.fault.link.0 g.fault.link.0)
     (nat_eq f.fault.target_replica g.fault.target_replica)
 
--- ---- one more fault, which was read
+-- ---- one more parsed fault
 abbrev fault_place : List RoundFault → List ℕ
 fault_place faults = inside (codes "faults") (decimal (length faults))
 

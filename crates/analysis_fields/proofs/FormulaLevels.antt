@@ -1,4 +1,4 @@
--- How deep formulas nest, one level after another.
+-- The nesting depth of formulas, one level after another.
 use Rattle.std.proofs.Common.{◌≡◌, ℕ, zero, suc, ◌<◌, ◌-◌, List, map, false, sym, ap, ◌∙◌, refl, arith}
 use Rattle.std.specs.List.{list_all}
 use Rattle.serde_json.specs.Data.{Data}
@@ -20,6 +20,6 @@ never_shallow : (d : Data) → false ≡ is_shallow 0 d
 unfolding is_shallow
 never_shallow d = refl
 
--- nothing is within no levels
+-- nothing is within zero levels
 pub shallow_none : (n : ℕ) (d : Data) → n ≡ 0 → false ≡ is_shallow n d
 shallow_none n d none = never_shallow d ∙ ap (λ k. is_shallow k d) (sym none)

@@ -1,4 +1,4 @@
--- Each processor that was read has a time for an instruction, and serves components of the design.
+-- Each parsed processor has a time for an instruction, and runs components of the design.
 use Rattle.std.proofs.Common.{◌≡◌, ℕ, zero, suc, ◌<◌, ◌≤◌, ◌+◌, Bool, true, false, ◌&&◌, cond, List, [], ◌∷◌, ◌++◌}
 use Rattle.std.proofs.Common.{length, map, get_or, codes, Result, Ok, Option, Some, None, All, replicate, refl, ap, ◌∙◌}
 use Rattle.std.proofs.Common.{subst, arith}
@@ -32,7 +32,7 @@ use Rattle.analysis_fields.specs.declared.processors.Processor.{Processor}
 use Rattle.analysis_fields.specs.Processors.{with_member, with_members, nodes_of, processor_parts, processor_in}
 use Rattle.analysis_fields.specs.Processors.{with_processor, all_placed, first_unplaced, processors_in}
 
--- ---- the components of a number, by their places among the owners
+-- ---- the components of a processor, by their indices among the owners
 rising_places : (n : ℕ) (owners : List ℕ) → AllPairs (λ (a b : ℕ × ℕ). a.0 < b.0) (enumerate_from n owners)
 rising_places n owners i j d before inside_it =
     let long = length-enumerate_from n owners in
@@ -56,7 +56,7 @@ pairs_map R f (x ∷ xs) pairs i j d before inside_it =
     let fits : j < length (x ∷ xs) = omega arith in
     rw (at_i, at_j) (pairs i j x before fits)
 
--- something stays where something passes
+-- an element that passes is in the filtered list
 stays_by : {X : Type 0} (test : X → Bool) (x : X) (xs : List X) (b : Bool) → (b ≡ false → 0 < length (filter test xs))
     → 0 < length (cond b (x ∷ filter test xs) (filter test xs))
 stays_by test x xs true later = omega arith
@@ -94,7 +94,7 @@ nodes_some owners number at within_it is =
     omega arith
 
 -- ---- members
--- a component stands on the processor of a number
+-- a component is assigned to the processor with a number
 record IsServed (count number : ℕ) (owners : List ℕ) : Type 0 where
   long : length owners ≡ count
   at : ℕ

@@ -1,4 +1,4 @@
--- Each fault of a scenario that was read is one of a replica of the design.
+-- Each fault of a parsed scenario belongs to a replica of the design.
 use Rattle.std.proofs.Common.{◌≡◌, ℕ, ◌≤◌, ◌+◌, true, not, ◌&&◌, List, [], ◌∷◌, ◌++◌, length, codes, decimal, Result}
 use Rattle.std.proofs.Common.{Ok, All, slice_get, sym, ap, ◌∙◌, subst, arith, length-append}
 use Rattle.std.specs.Prelude.{nat_eq}

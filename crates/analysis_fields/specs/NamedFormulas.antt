@@ -1,4 +1,4 @@
--- Properties as contracts see them: a name, and a formula as a plain tree.
+-- The models of properties: a name, and a formula as a plain tree.
 use Rattle.std.specs.Prelude.{ℕ, List}
 use Rattle.pals_runs.specs.Formula.{Formula}
 

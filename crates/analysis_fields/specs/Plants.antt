@@ -1,4 +1,4 @@
--- What the field of plants means: pairs of a plant and its controller, or its first fault.
+-- The meaning of the field of plants: pairs of a plant and its controller, or its first fault.
 use Rattle.std.specs.Prelude.{ℕ, nat_eq, codes, List, [], ◌∷◌, ◌++◌, map, count_by, Bool, false, not, ◌&&◌, ◌||◌}
 use Rattle.std.specs.Prelude.{Option, Some, None, option_and_then, Result, Ok}
 use Rattle.std.specs.List.{list_all}
@@ -20,7 +20,7 @@ use Rattle.analysis_fields.specs.declared.plants.NamedPair.{NamedPair}
 abbrev pub pair : ℕ → ℕ → Pair
 pair plant controller = record { plant = node_no plant; controller = node_no controller }
 
--- the components that an entry names, whatever else is wrong with it
+-- the components that an entry names, regardless of other faults
 abbrev pub controller_in : DesignParts → Data → Option ℕ
 controller_in design d = option_and_then (node_named design) (as_str d)
 
@@ -38,26 +38,26 @@ names_node node n = is_number n.plant node || is_number n.controller node
 abbrev pub shares : Pair → NamedPair → Bool
 shares p n = names_node p.plant.0 n || names_node p.controller.0 n
 
--- where one end of a link is the plant, the other is the controller
+-- if one end of a link is the plant, the other end is the controller
 abbrev pub is_between : Pair → Link → Bool
 is_between p link =
     (not (nat_eq link.source.0 p.plant.0) || nat_eq link.target.0 p.controller.0)
     && (not (nat_eq link.target.0 p.plant.0) || nat_eq link.source.0 p.controller.0)
 
--- two components of one rate
+-- two components with one rate
 abbrev pub are_equals : DesignParts → Pair → Bool
 are_equals design p =
     nat_eq (rate_of design p.plant.0) (rate_of design p.controller.0) && not (nat_eq p.plant.0 p.controller.0)
 
--- no entry but its own names one of these components
+-- only its own entry names one of these components
 abbrev pub is_alone : List NamedPair → Pair → Bool
 is_alone all p = nat_eq (count_by (shares p) all) 1
 
--- such components, whose plant is linked to the controller alone
+-- such components, if the plant is linked only to the controller
 unfoldable pub is_fusible : DesignParts → List NamedPair → Pair → Bool
 is_fusible design all p = are_equals design p && is_alone all p && list_all (is_between p) design.links
 
--- one pair; what all entries name is given
+-- one pair, given the components that all entries name
 unfoldable pub pair_in : DesignParts → List NamedPair → List ℕ × Data → Result Pair ScenarioFault
 pair_in design all entry =
     let place = inside (codes "plants") entry.0 in

@@ -1,4 +1,4 @@
--- What the field of processors means: processors with the components that they serve, or its first fault.
+-- The meaning of the field of processors: processors with the components that they run, or its first fault.
 use Rattle.std.specs.Prelude.{ℕ, ◌+◌, nat_eq, nat_le, nat_lt, codes, List, [], ◌∷◌, ◌++◌, length, map, filter}
 use Rattle.std.specs.Prelude.{replicate, position, slice_set, slice_index, Bool, ◌&&◌, Option, Some, None, is_some}
 use Rattle.std.specs.Prelude.{Result, Ok, Err}
@@ -19,7 +19,7 @@ use Rattle.scenario_values.specs.FaultPlaces.{inside}
 use Rattle.scenario_values.specs.FieldValues.{elements, entries, text, whole, is_whole}
 use Rattle.scenario_values.specs.NameLookup.{node_no, node_at}
 
--- For each component the number of its processor, from 1, and 0 where it stands on none.
+-- For each component the number of its processor, from 1, or 0 if it has none.
 
 -- one more component of the processor of this number
 unfoldable pub with_member : DesignParts → List ℕ → ℕ → List ℕ → Data → Result (List ℕ) ScenarioFault
@@ -30,7 +30,7 @@ with_member design place number owners d =
 abbrev pub with_members : DesignParts → List ℕ → ℕ → List ℕ → List Data → Result (List ℕ) ScenarioFault
 with_members design place number owners ds = through (with_member design place number) owners ds
 
--- the components of a processor, in rising order
+-- the components of a processor, in ascending order
 abbrev pub nodes_of : List ℕ → ℕ → List NodeNo
 nodes_of owners number =
     map (λ numbered. node_no numbered.0) (filter (λ numbered. nat_eq numbered.1 number) (enumerate_from 0 owners))
@@ -38,7 +38,7 @@ nodes_of owners number =
 abbrev pub is_text : Data → Bool
 is_text d = is_some (as_str d)
 
--- the two fields of a processor: how long it takes for an instruction, and its components; another shape is wrong
+-- the two fields of a processor: its time for an instruction, and its components; any other shape is wrong
 unfoldable pub processor_parts : List ℕ → Data → Result (Data × List Data) ScenarioFault
 processor_parts place d =
     entries place d >>= λ es. only_if (nat_eq (length es) 2) (WrongKind place)
@@ -47,7 +47,7 @@ processor_parts place d =
     elements place components >>= λ ds.
     only_if (is_whole nanos && list_all is_text ds) (WrongKind place) (Ok (nanos, ds)))
 
--- the processor of a number, and the owners with its components
+-- the processor with a number, and the owners after its components are assigned
 unfoldable pub processor_in : DesignParts → List ℕ → ℕ → List ℕ × Data → Result (List ℕ × Processor) ScenarioFault
 processor_in design owners number entry =
     let place = inside (codes "processors") entry.0 in
@@ -62,7 +62,7 @@ abbrev pub with_processor : DesignParts → List ℕ × List Processor → List 
 with_processor design before entry =
     processor_in design before.0 (length before.1 + 1) entry >>= λ p. Ok (p.0, before.1 ++ p.1 ∷ [])
 
--- no component is left without a processor
+-- each component has a processor
 abbrev pub all_placed : DesignParts → List Processor → Option ℕ → Result (List Processor) ScenarioFault
 all_placed design processors None = Ok processors
 all_placed design processors (Some node) = Err (Field (inside (codes "processors") (node_word design node)))

@@ -1,4 +1,4 @@
--- What the field of properties means: names with their formulas, or its first fault.
+-- The meaning of the field of properties: names with their formulas, or its first fault.
 use Rattle.std.specs.Prelude.{ℕ, zero, suc, ◌+◌, nat_le, bytes_eq, codes, List, [], ◌∷◌, ◌++◌, length, sum_by, position}
 use Rattle.std.specs.Prelude.{Bool, true, false, ◌&&◌, Option, Some, None, option_and_then, option_map, unwrap_or}
 use Rattle.std.specs.Prelude.{slice_get, Result, Ok, Err, if◌then◌else◌}
@@ -40,7 +40,7 @@ compare_of word =
     else if bytes_eq word (codes "<") then Some Lt else if bytes_eq word (codes "<=") then Some Le
     else if bytes_eq word (codes ">") then Some Gt else if bytes_eq word (codes ">=") then Some Ge else None
 
--- whether all that follows the word are formulas
+-- whether all values after the word are formulas
 abbrev pub has_parts : FormulaWord → Bool
 has_parts role.Var = false
 has_parts role.Halted = false
@@ -62,11 +62,11 @@ begins_parts ds = unwrap_or (option_map has_parts (role_in ds)) false
 abbrev pub parts_among : List Data → List Data
 parts_among ds = if begins_parts ds then rest_of ds else []
 
--- what stands inside a value where a formula may stand: all that follows such a word
+-- the values inside a value at which a formula may occur: all values after such a word
 unfoldable pub parts_of : Data → List Data
 parts_of d = unwrap_or (option_map (λ ds. parts_among (values_in ds)) (as_array d)) []
 
--- no more than n levels of formulas
+-- at most n levels of formulas
 unfoldable pub is_shallow : ℕ → Data → Bool
 is_shallow zero d = false
 is_shallow (suc n) d = list_all (is_shallow n) (parts_of d)
@@ -99,7 +99,7 @@ unfoldable pub halted_form : DesignParts → List ℕ → List Data → Result F
 halted_form design place (path ∷ []) = text place path >>= λ p. node_at place design p >>= λ node. Ok (Halted node)
 halted_form design place ds = Err (WrongKind place)
 
--- ---- formulas of formulas
+-- ---- formulas with subformulas
 abbrev pub of_one : FormulaWord → Formula → Formula
 of_one role.Previous f = Previous f
 of_one role.Once f = Once f
@@ -121,7 +121,7 @@ abbrev pub two_parts : (Data → Result Formula ScenarioFault) → List ℕ → 
 two_parts read place r (d ∷ e ∷ []) = read d >>= λ f. read e >>= λ g. Ok (of_two r f g)
 two_parts read place r ds = Err (WrongKind place)
 
--- the formula of a word and of what follows it
+-- the formula of a word and the values after it
 abbrev pub form_of : (Data → Result Formula ScenarioFault) → DesignParts → List ℕ → FormulaWord → List Data
     → Result Formula ScenarioFault
 form_of read design place role.Var ds = var_form design place ds
@@ -131,7 +131,7 @@ form_of read design place role.Or ds = two_parts read place role.Or ds
 form_of read design place role.Since ds = two_parts read place role.Since ds
 form_of read design place r ds = one_part read place r ds
 
--- the formula of a value, of no more than n levels
+-- the formula of a value with at most n levels
 unfoldable pub formula_in : ℕ → DesignParts → List ℕ → Data → Result Formula ScenarioFault
 formula_in zero design place d = Err (OutOfRange place)
 formula_in (suc n) design place d =
@@ -139,7 +139,7 @@ formula_in (suc n) design place d =
     form_of (formula_in n design place) design place r (rest_of ds)
 
 -- ---- properties
--- the size of a property is looked at before all else
+-- the size of a property is checked before everything else
 unfoldable pub is_small : Data → Bool
 is_small d = is_shallow LEVELS d && nat_le (forms_in LEVELS d) FORMS
 
@@ -152,7 +152,7 @@ property_in design entry =
 abbrev pub with_property : DesignParts → List PropertyValue → List ℕ × Data → Result (List PropertyValue) ScenarioFault
 with_property design properties entry = property_in design entry >>= λ p. Ok (properties ++ p ∷ [])
 
--- some properties, and not too many, whose names are words
+-- a number of properties within the limit, whose names are words
 abbrev pub are_named : List (List ℕ × Data) → Bool
 are_named es = nat_le 1 (length es) && nat_le (length es) PROPERTIES && list_all (λ e. is_word e.0) es
 

@@ -1,4 +1,4 @@
--- What the fields of replicas and of their faults mean, or their first fault.
+-- The meaning of the fields of replicas and of their faults, or their first fault.
 use Rattle.std.specs.Prelude.{ℕ, nat_eq, codes, decimal, List, [], ◌∷◌, ◌++◌, length, Bool, not, ◌&&◌, Option, Some}
 use Rattle.std.specs.Prelude.{None, slice_get, Result, Ok, Err, if◌then◌else◌}
 use Rattle.std.specs.List.{list_any}
@@ -27,7 +27,7 @@ use Rattle.scenario_values.specs.NameLookup.{node_no, link_no, node_at, link_at}
 abbrev pub is_among : List NodeNo → ℕ → Bool
 is_among nodes node = list_any (λ (n : NodeNo). nat_eq n.0 node) nodes
 
--- one more component, which is not among those before it
+-- one more component, which is not among the earlier ones
 unfoldable pub with_replica : DesignParts → List NodeNo → Data → Result (List NodeNo) ScenarioFault
 with_replica design replicas d =
     let place = inside (codes "replicas") (decimal (length replicas)) in
@@ -50,11 +50,11 @@ abbrev pub kind_in : DesignParts → Option Link → Kind
 kind_in design None = Integer
 kind_in design (Some link) = out_kind (slice_get design.components link.source.0) link.out_port
 
--- how many replicas a component has
+-- the number of replicas of a component
 abbrev pub replicas_of : List NodeNo → ℕ → ℕ
 replicas_of replicas node = if is_among replicas node then REPLICAS else 1
 
--- how many replicas receive on a link, and the type of what it carries
+-- the number of replicas that receive on a link, and the type of the link's values
 unfoldable pub copies_at : DesignParts → List NodeNo → ℕ → ℕ
 copies_at design replicas link = replicas_of replicas (target_in (slice_get design.links link))
 
@@ -69,25 +69,25 @@ with_fault_value kind place values d = port_value kind place d >>= λ v. Ok (val
 abbrev pub fault_values : Kind → List ℕ → List Data → Result (List PortValue) ScenarioFault
 fault_values kind place ds = through (with_fault_value kind place) [] ds
 
--- a component that is replicated
+-- a replicated component
 unfoldable pub replica_at : DesignParts → List NodeNo → List ℕ → List ℕ → Result NodeNo ScenarioFault
 replica_at design replicas place path =
     node_at place design path >>= λ node. only_if (is_among replicas node) (Unknown place) (Ok (node_no node))
 
--- a link that goes out from a component
+-- a link whose source is a component
 unfoldable pub link_from : DesignParts → List ℕ → NodeNo → List ℕ → Result LinkNo ScenarioFault
 link_from design place source name =
     link_at place design name >>= λ link.
     only_if (nat_eq (source_in (slice_get design.links link)) source.0) (Unknown place) (Ok (link_no link))
 
--- the replica that sends, and the link on which it sends
+-- the sending replica, and the link on which it sends
 unfoldable pub ends_of : DesignParts → List NodeNo → List ℕ → List ℕ → List ℕ → Data → Result FaultEnds ScenarioFault
 ends_of design replicas place path name replica =
     replica_at design replicas place path >>= λ source. whole place 1 REPLICAS replica >>= λ r.
     link_from design place source name >>= λ link.
     Ok (record { source = source; replica = r; link = link })
 
--- the replica of the target, the round and the values, behind the ends
+-- the replica of the target, the round and the values, after the ends
 unfoldable pub fault_behind : DesignParts → List NodeNo → List ℕ → FaultEnds → Data → Data → List Data
     → Result RoundFault ScenarioFault
 fault_behind design replicas place ends target round values =
@@ -106,14 +106,14 @@ fault_behind design replicas place ends target round values =
           };
     }))
 
--- a fault whose parts have the kinds that they should
+-- a fault whose parts have the right JSON types
 unfoldable pub fault_of : DesignParts → List NodeNo → List ℕ → List ℕ → List ℕ → Data → Data → Data → List Data
     → Result RoundFault ScenarioFault
 fault_of design replicas place path name replica target round values =
     ends_of design replicas place path name replica >>= λ ends.
     fault_behind design replicas place ends target round values
 
--- the form of a fault is looked at first
+-- the JSON types of a fault are checked first
 unfoldable pub fault_from : DesignParts → List NodeNo → List ℕ → List Data → Result RoundFault ScenarioFault
 fault_from design replicas place (path ∷ replica ∷ link ∷ target ∷ round ∷ values ∷ []) =
     text place path >>= λ p. text place link >>= λ name. elements place values >>= λ vs.
@@ -124,7 +124,7 @@ fault_from design replicas place ds = Err (WrongKind place)
 unfoldable pub fault_in : DesignParts → List NodeNo → List ℕ → Data → Result RoundFault ScenarioFault
 fault_in design replicas place d = elements place d >>= λ ds. fault_from design replicas place ds
 
--- where a fault stands
+-- the key of a fault
 abbrev pub key_of : RoundFault → FaultKey
 key_of f =
     record {
@@ -140,7 +140,7 @@ has_same_key a b =
     nat_eq a.round b.round && nat_eq a.fault.replica b.fault.replica && nat_eq a.fault.link.0 b.fault.link.0
     && nat_eq a.fault.target_replica b.fault.target_replica
 
--- one more fault, which stands at no place of those before it
+-- one more fault, whose key differs from the keys of the earlier ones
 unfoldable pub with_fault : DesignParts → List NodeNo → List RoundFault → Data → Result (List RoundFault) ScenarioFault
 with_fault design replicas faults d =
     let place = inside (codes "faults") (decimal (length faults)) in

@@ -1,4 +1,4 @@
-//! Reads the formula of a property, whose size and levels are within their limits.
+//! Parses the formula of a property; its size and nesting depth are limited.
 ghost use Rattle.std.specs.Prelude.{◌≡◌, ◌-◌, ◌^◌, bytes_eq, position, option_copied, IfErr, IfOk, map, min};
 ghost use Rattle.std.specs.Prelude.{option_and_then};
 ghost use Rattle.serde_json.specs.Find.{as_str};
@@ -22,7 +22,7 @@ use scenario_values::{DesignNames, ScenarioFault};
 use serde_json::Value;
 use std::alloc::Global;
 
-/// The word that a formula begins with.
+/// The first word of a formula.
 #[derive(Clone, Copy)]
 pub enum FormulaWord {
     Var,
@@ -82,14 +82,14 @@ fn compare_of(word: &str) -> Option<Compare>
     }
 }
 
-// Whether all that follows the word are formulas.
+// Whether all values after the word are formulas.
 fn has_parts(role: FormulaWord) -> bool
     ensures { result ≡ has_parts role }
 {
     !matches!(role, FormulaWord::Var | FormulaWord::Halted)
 }
 
-// The word that a list begins with.
+// The first word of a list.
 fn role_in(values: &[Value]) -> Option<FormulaWord>
     ensures { result ≡ role_in (map view values.now) }
 {
@@ -102,7 +102,7 @@ fn role_in(values: &[Value]) -> Option<FormulaWord>
     }
 }
 
-// All but the first.
+// All values except the first.
 fn rest_of(values: &[Value]) -> &[Value]
     ensures { map view result.now ≡ rest_of (map view values.now) }
 {
@@ -122,7 +122,7 @@ fn begins_parts(values: &[Value]) -> bool
     }
 }
 
-// What stands behind such a word.
+// The values after such a word.
 fn parts_among(values: &[Value]) -> &[Value]
     ensures { map view result.now ≡ parts_among (map view values.now) }
 {
@@ -133,7 +133,7 @@ fn parts_among(values: &[Value]) -> &[Value]
     }
 }
 
-// What stands inside a value where a formula may stand.
+// The values inside a value at which a formula may occur.
 #[tactic(auto, unfolding(crate::specs::Properties::parts_of), using(scenario_values::proofs::JsonLists::values_seen))]
 fn parts_of(value: &Value) -> &[Value]
     ensures { map view result.now ≡ parts_of (view value.now) }
@@ -144,7 +144,7 @@ fn parts_of(value: &Value) -> &[Value]
     }
 }
 
-// Whether there are no more than `levels` levels of formulas.
+// Whether formulas nest at most `levels` deep.
 fn is_shallow(levels: u32, value: &Value) -> bool
     ensures { result ≡ is_shallow levels (view value.now) }
 {
@@ -160,7 +160,7 @@ fn is_shallow(levels: u32, value: &Value) -> bool
     true
 }
 
-// How many formulas there are in the first levels, stopped at the greatest number.
+// The number of formulas in the first levels, up to the maximum number.
 #[tactic(auto, unfolding(crate::specs::Properties::forms_in))]
 fn forms_in(levels: u32, value: &Value) -> usize
     ensures { result ≡ min (forms_in levels (view value.now)) (2 ^ 64 - 1) }
@@ -176,7 +176,7 @@ fn forms_in(levels: u32, value: &Value) -> usize
     forms
 }
 
-/// Whether a property has no more formulas and levels than it may have.
+/// Returns whether a property has at most as many formulas and levels as the limits allow.
 #[tactic(auto, unfolding(crate::specs::Properties::is_small))]
 pub fn is_small(value: &Value) -> bool
     ensures { result ≡ is_small (view value.now) }
@@ -184,7 +184,7 @@ pub fn is_small(value: &Value) -> bool
     is_shallow(LEVELS, value) && forms_in(LEVELS, value) <= FORMS
 }
 
-// The place of a variable among those of a component, if it has one of this name.
+// The index of the variable with this name among the variables of a component, if there is one.
 fn find_variable(component: Option<&Component>, name: &str) -> Option<usize>
     ensures { result ≡ position (λ (v : VarDecl). bytes_eq name.now v.name) (vars_in (option_copied component.entry)) }
 {
@@ -247,7 +247,7 @@ fn var_form(
     })
 }
 
-// The comparison that a value names.
+// The comparison operator with this name.
 fn compare_in(value: &Value) -> Option<Compare>
     ensures { result ≡ option_and_then compare_of (as_str (view value.now)) }
 {
@@ -275,7 +275,7 @@ fn halted_form(
     Ok(Form::Halted(node))
 }
 
-// A formula of one formula.
+// A formula with one subformula.
 fn of_one(alloc: Global, role: FormulaWord, part: Form) -> Result<Form, ScenarioFault>
     ensures ok { IfOk result (λ f. formula_of f ≡ of_one role (formula_of part)) }
     ensures err { IfErr result (λ fault. fault ≡ ScenarioFault.Memory) }
@@ -289,7 +289,7 @@ fn of_one(alloc: Global, role: FormulaWord, part: Form) -> Result<Form, Scenario
     })
 }
 
-// A formula of two formulas.
+// A formula with two subformulas.
 fn of_two(alloc: Global, role: FormulaWord, left: Form, right: Form) -> Result<Form, ScenarioFault>
     ensures ok { IfOk result (λ f. formula_of f ≡ of_two role (formula_of left) (formula_of right)) }
     ensures err { IfErr result (λ fault. fault ≡ ScenarioFault.Memory) }
@@ -342,7 +342,7 @@ fn two_parts(
     of_two(alloc, role, left, right)
 }
 
-/// The formula of a value, of no more than `levels` levels.
+/// Returns the formula of a value with at most `levels` levels. Errors: the first fault of the value.
 #[tactic(auto, unfolding(crate::specs::Properties::formula_in))]
 #[cycle(formula)]
 pub fn formula_in(

@@ -1,16 +1,16 @@
-//! The limits that scenarios alone have.
+//! The limits that apply only to scenarios.
 
-/// The most properties of a `watch`.
+/// The maximum number of properties of a `watch`.
 pub const PROPERTIES: usize = 64;
 
-/// The most formulas in a property, the property itself included.
+/// The maximum number of formulas in a property, including the property itself.
 pub const FORMS: usize = 1_000;
 
-/// The most levels of formulas in a property.
+/// The maximum number of levels of formulas in a property.
 pub const LEVELS: u32 = 64;
 
-/// How many replicas a replicated component has.
+/// The number of replicas of a replicated component.
 pub const REPLICAS: u64 = 3;
 
-/// The most processors of a `budget`.
+/// The maximum number of processors of a `budget`.
 pub const PROCESSORS: usize = 256;

@@ -1,4 +1,4 @@
-//! Reads the field of plants: pairs of a plant and its controller that can be fused.
+//! Parses the field of plants: pairs of a plant and its controller that can be fused.
 ghost use Rattle.std.specs.Prelude.{◌≡◌, IfOk, IfErr, count_by, map};
 ghost use Rattle.std.specs.List.{list_all};
 ghost use Rattle.serde_json.specs.View.{view};
@@ -24,7 +24,7 @@ pub struct NamedPair {
     controller: Option<u32>,
 }
 
-// The number of the component of a path, if there is one.
+// The number of the component with a path, if there is one.
 fn number_of(names: &DesignNames<'_>, path: &str) -> Option<u32>
     ensures { result ≡ node_named names.now path.now }
 {
@@ -44,7 +44,7 @@ fn controller_in(names: &DesignNames<'_>, value: &Value) -> Option<u32>
     }
 }
 
-// What all entries name.
+// The components that all entries name.
 fn all_named(
     alloc: Global,
     names: &DesignNames<'_>,
@@ -84,7 +84,7 @@ fn shares(pair: &Pair, named: &NamedPair) -> bool
     names_node(pair.plant, named) || names_node(pair.controller, named)
 }
 
-// Whether a link between the plant and another component is one between the pair.
+// Whether a link between the plant and another component links the pair.
 fn is_between(pair: &Pair, link: &Link) -> bool
     ensures { result ≡ is_between pair.now link.now }
 {
@@ -92,7 +92,7 @@ fn is_between(pair: &Pair, link: &Link) -> bool
         && (link.target.0 != pair.plant.0 || link.source.0 == pair.controller.0)
 }
 
-// How many entries name a component of a pair.
+// The number of entries that name a component of a pair.
 fn count_shared(all: &[NamedPair], pair: &Pair) -> usize
     ensures { result ≡ count_by (shares pair.now) all.now }
 {
@@ -106,22 +106,22 @@ fn is_linked_between(links: &[Link], pair: &Pair) -> bool
     links.iter().all(|link| is_between(pair, link))
 }
 
-// Whether two components have one rate, and are not the same.
+// Whether two components are distinct and have one rate.
 fn are_equals(design: &DesignParts, pair: &Pair) -> bool
     ensures { result ≡ are_equals design.now pair.now }
 {
     design.rate(pair.plant) == design.rate(pair.controller) && pair.plant.0 != pair.controller.0
 }
 
-// Whether no entry but its own names a component of a pair.
+// Whether only its own entry names a component of a pair.
 fn is_alone(all: &[NamedPair], pair: &Pair) -> bool
     ensures { result ≡ is_alone all.now pair.now }
 {
     count_shared(all, pair) == 1
 }
 
-// Whether no entry but their own names one of two components of one rate, and the plant is linked
-// to the controller alone.
+// Whether two components have one rate, no other entry names one of them, and the plant is linked only to the
+// controller.
 #[tactic(auto, unfolding(crate::specs::Plants::is_fusible))]
 fn is_fusible(design: &DesignParts, all: &[NamedPair], pair: &Pair) -> bool
     ensures { result ≡ is_fusible design.now all.now pair.now }
@@ -131,7 +131,7 @@ fn is_fusible(design: &DesignParts, all: &[NamedPair], pair: &Pair) -> bool
         && is_linked_between(design.links.as_slice(), pair)
 }
 
-// One pair; what all entries name is given.
+// Parses one pair, given the components that all entries name.
 #[tactic(auto, unfolding(crate::specs::Plants::pair_in))]
 fn read_pair(
     alloc: Global,
@@ -153,7 +153,8 @@ fn read_pair(
     Ok(pair)
 }
 
-/// The plants with their controllers, in byte order of the plants' paths.
+/// Returns the plants with their controllers, in byte order of the plants' paths. Errors: the first fault of
+/// the field.
 #[tactic(auto, unfolding(crate::specs::Plants::plants_in))]
 pub fn read_plants(
     alloc: Global,

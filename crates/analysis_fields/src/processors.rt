@@ -1,4 +1,4 @@
-//! Reads the field of processors: each with its time for an instruction and the components that it serves.
+//! Parses the field of processors: each with its time for an instruction and the components that it runs.
 ghost use Rattle.std.specs.Prelude.{◌≡◌, ◌≤◌, [], IfOk, length, map};
 ghost use Rattle.std.specs.List.{list_all};
 ghost use Rattle.serde_json.specs.View.{view};
@@ -19,8 +19,8 @@ use scenario_values::{DesignNames, ScenarioFault};
 use serde_json::{Map, Value};
 use std::alloc::Global;
 
-/// A processor: its name, which is a word, how long it takes for an instruction, in nanoseconds, and
-/// the components that it serves, in rising order.
+/// A processor: its name, which is a word; its time for an instruction, in nanoseconds; and the components that
+/// it runs, in ascending order.
 pub struct Processor {
     pub name: Text,
     pub nanos: Nanos,
@@ -37,8 +37,8 @@ impl Drop for Processor {
     }
 }
 
-// Puts one more component on the processor of this number. The owners are, for each component, the
-// number of its processor, from 1, and 0 where it stands on none.
+// Assigns one more component to the processor with this number. `owners` has, for each component, the number of
+// its processor, from 1, or 0 if it has none.
 #[tactic(auto, unfolding(crate::specs::Processors::with_member))]
 fn add_member(
     alloc: Global,
@@ -61,7 +61,7 @@ fn add_member(
     Ok(())
 }
 
-// Puts components on the processor of this number.
+// Assigns components to the processor with this number.
 fn add_members(
     alloc: Global,
     names: &DesignNames<'_>,
@@ -80,7 +80,7 @@ fn add_members(
     Ok(())
 }
 
-// The components of the processor of this number, in rising order.
+// The components of the processor with this number, in ascending order.
 fn nodes_of(alloc: Global, owners: &[usize], number: usize) -> Result<ItemList<NodeNo>, NoMemory>
     requires { length owners.now ≤ COMPONENTS }
     ensures { IfOk result (λ nodes. nodes ≡ nodes_of owners.now number) }
@@ -106,7 +106,7 @@ fn are_texts(values: &[Value]) -> bool
     true
 }
 
-// The two fields of a processor: how long it takes for an instruction, and its components.
+// The two fields of a processor: its time for an instruction, and its components.
 #[tactic(auto, unfolding(crate::specs::Processors::processor_parts))]
 fn processor_parts<'v>(
     alloc: Global,
@@ -133,7 +133,7 @@ fn processor_parts<'v>(
     Ok((nanos, values))
 }
 
-// One processor, of this number.
+// Parses the processor with this number.
 #[tactic(auto, unfolding(crate::specs::Processors::processor_in))]
 fn read_processor(
     alloc: Global,
@@ -167,7 +167,7 @@ fn read_processor(
     })
 }
 
-// The processors of all entries, whose components are put on them.
+// The processors of all entries, with their components assigned.
 fn place_all(
     alloc: Global,
     names: &DesignNames<'_>,
@@ -187,14 +187,15 @@ fn place_all(
     Ok(processors)
 }
 
-// The first component that stands on no processor.
+// The first component without a processor.
 fn first_unplaced(owners: &[usize]) -> Option<usize>
     ensures { result ≡ first_unplaced owners.now }
 {
     owners.iter().position(|owner| *owner == 0)
 }
 
-/// The processors, in byte order of their names. Each component stands on exactly one.
+/// Returns the processors, in byte order of their names. Each component has exactly one processor. Errors: the
+/// first fault of the field.
 #[tactic(auto, unfolding(crate::specs::Processors::processors_in))]
 pub fn read_processors(
     alloc: Global,

@@ -1,4 +1,4 @@
-//! Reads the field of properties: each with its name and its formula.
+//! Parses the field of properties: each with its name and its formula.
 ghost use Rattle.std.specs.Prelude.{◌≡◌, map};
 ghost use Rattle.std.specs.List.{list_all};
 ghost use Rattle.serde_json.specs.View.{view};
@@ -19,8 +19,8 @@ use serde_json::{Map, Value};
 use std::alloc::Global;
 use std::marker::Model;
 
-/// A property of a monitor: its name, which is a word, and its formula. Contracts see the formula as
-/// a plain tree.
+/// A property of a monitor: its name, which is a word, and its formula. The model of the formula is a plain
+/// tree.
 pub struct Property {
     pub name: Text,
     pub form: Form,
@@ -45,7 +45,7 @@ impl Model for Property {
     ghost view = { λ property. record { name = property.name; form = formula_of property.form } };
 }
 
-// One property. Its size is looked at before all else.
+// Parses one property. Checks its size before everything else.
 #[tactic(auto, unfolding(crate::specs::Properties::property_in))]
 fn read_property(
     alloc: Global,
@@ -76,7 +76,7 @@ fn are_words(members: &Map<String, Value>) -> bool
     true
 }
 
-/// The properties, in byte order of their names.
+/// Returns the properties, in byte order of their names. Errors: the first fault of the field.
 #[tactic(auto, unfolding(crate::specs::Properties::properties_in))]
 pub fn read_properties(
     alloc: Global,

@@ -1,4 +1,5 @@
-//! Reads the field of faults: what a replica sends on a link in a round, no two at one place.
+//! Parses the field of faults: the values that a replica sends on a link in a round, at most one entry for each
+//! key.
 ghost use Rattle.std.specs.Prelude.{◌≡◌, ◌≤◌, ◌∷◌, ◌++◌, [], map, option_copied, IfOk};
 ghost use Rattle.serde_json.specs.View.{view};
 ghost use Rattle.scenario_values.specs.ResultCombinators.{Answers, Shows};
@@ -21,7 +22,7 @@ use scenario_values::{DesignNames, ScenarioFault};
 use serde_json::Value;
 use std::alloc::Global;
 
-/// Where a replica's fault stands: a round, and whose replica sends to whose on which link.
+/// The key of a replica's fault: the round, the sending replica, the receiving replica, and the link.
 #[derive(Clone, Copy, PartialEq, Eq, Hash)]
 pub struct FaultKey {
     round: u32,
@@ -30,7 +31,7 @@ pub struct FaultKey {
     target_replica: u32,
 }
 
-/// A replica's fault, and the round in which it sends it.
+/// A replica's fault, and the round in which the replica sends it.
 #[derive(Drop)]
 pub struct RoundFault {
     pub round: u32,
@@ -68,7 +69,7 @@ fn target_of(link: Option<&Link>) -> NodeNo
     }
 }
 
-// The type of what a link carries.
+// The type of the values of a link.
 fn kind_of(names: &DesignNames<'_>, link: Option<&Link>) -> Kind
     ensures { result ≡ kind_in names.now (option_copied link.entry) }
 {
@@ -78,7 +79,7 @@ fn kind_of(names: &DesignNames<'_>, link: Option<&Link>) -> Kind
     }
 }
 
-// How many replicas a component has.
+// The number of replicas of a component.
 fn replicas_of(replicas: &[NodeNo], node: NodeNo) -> u64
     ensures value { result ≡ replicas_of replicas.now node.0 }
     ensures small { result ≤ 3 }
@@ -107,7 +108,7 @@ fn fault_values(
     Ok(tuple)
 }
 
-// The parts of a fault, whose kinds are right.
+// The parts of a fault, which have the right JSON types.
 #[derive(Clone, Copy)]
 pub(crate) struct FaultParts<'v> {
     path: &'v str,
@@ -118,7 +119,7 @@ pub(crate) struct FaultParts<'v> {
     values: &'v [Value],
 }
 
-/// The replica that sends, and the link on which it sends.
+/// The sending replica, and the link on which it sends.
 #[derive(Clone, Copy)]
 pub struct FaultEnds {
     source: NodeNo,
@@ -126,7 +127,7 @@ pub struct FaultEnds {
     link: LinkNo,
 }
 
-// A component that is replicated.
+// Parses a replicated component.
 #[tactic(auto, unfolding(crate::specs::ReplicasAndTheirFaults::replica_at))]
 fn replica_at(
     alloc: Global,
@@ -144,7 +145,7 @@ fn replica_at(
     Ok(node)
 }
 
-// A link that goes out from a component.
+// Parses a link whose source is a component.
 #[tactic(auto, unfolding(crate::specs::ReplicasAndTheirFaults::link_from))]
 fn link_from(
     alloc: Global,
@@ -162,7 +163,7 @@ fn link_from(
     Ok(link)
 }
 
-// The replica that sends, and the link on which it sends.
+// Parses the sending replica, and the link on which it sends.
 #[tactic(auto, unfolding(crate::specs::ReplicasAndTheirFaults::ends_of))]
 fn ends_of(
     alloc: Global,
@@ -184,7 +185,7 @@ fn ends_of(
     })
 }
 
-// How many replicas receive on a link.
+// The number of replicas that receive on a link.
 #[tactic(auto, unfolding(crate::specs::ReplicasAndTheirFaults::copies_at))]
 fn copies_at(names: &DesignNames<'_>, replicas: &[NodeNo], link: LinkNo) -> u64
     ensures value { result ≡ copies_at names.now replicas.now link.0 }
@@ -194,7 +195,7 @@ fn copies_at(names: &DesignNames<'_>, replicas: &[NodeNo], link: LinkNo) -> u64
     replicas_of(replicas, target)
 }
 
-// The type of what a link carries.
+// The type of the values of a link.
 #[tactic(auto, unfolding(crate::specs::ReplicasAndTheirFaults::kind_at))]
 fn kind_at(names: &DesignNames<'_>, link: LinkNo) -> Kind
     ensures { result ≡ kind_at names.now link.0 }
@@ -202,7 +203,7 @@ fn kind_at(names: &DesignNames<'_>, link: LinkNo) -> Kind
     kind_of(names, names.design().links().get(link.0 as usize))
 }
 
-// The replica of the target, the round and the values, behind the ends.
+// Parses the replica of the target, the round and the values, after the ends.
 #[tactic(auto, unfolding(crate::specs::ReplicasAndTheirFaults::fault_behind))]
 fn fault_behind(
     alloc: Global,
@@ -235,7 +236,7 @@ fn fault_behind(
     })
 }
 
-// A fault from parts whose kinds are right.
+// Parses a fault from parts with the right JSON types.
 #[tactic(auto, unfolding(crate::specs::ReplicasAndTheirFaults::fault_of))]
 fn fault_of(
     alloc: Global,
@@ -252,7 +253,7 @@ fn fault_of(
     fault_behind(alloc, names, replicas, place, ends, parts)
 }
 
-// A fault. The form of all its parts is looked at first.
+// Parses a fault. Checks the JSON types of all parts first.
 #[tactic(auto, unfolding(crate::specs::ReplicasAndTheirFaults::fault_in, crate::specs::ReplicasAndTheirFaults::fault_from))]
 fn read_fault(
     alloc: Global,
@@ -284,7 +285,7 @@ fn read_fault(
     fault_of(alloc, names, replicas, place, &parts)
 }
 
-// One more fault, which stands at no place of those before it; these are their places.
+// Adds one more fault, whose key differs from the keys of the earlier ones, which are given.
 #[tactic(auto, unfolding(crate::specs::ReplicasAndTheirFaults::with_fault))]
 fn next_fault(
     alloc: Global,
@@ -308,8 +309,8 @@ fn next_fault(
     Ok(fault)
 }
 
-/// The faults of replicas, no two of which stand at one place. The time that it takes is in line
-/// with the values.
+/// Returns the faults of replicas, with distinct keys. Takes time linear in the number of values. Errors: the
+/// first fault of the field.
 #[tactic(auto, unfolding(crate::specs::ReplicasAndTheirFaults::faults_in))]
 pub fn read_faults(
     alloc: Global,

@@ -1,4 +1,4 @@
-//! Reads the field of replicas: the components that are replicated.
+//! Parses the field of replicas: the components that are replicated.
 ghost use Rattle.std.specs.Prelude.{◌≡◌, ◌∷◌, ◌++◌, []};
 ghost use Rattle.serde_json.specs.View.{view};
 ghost use Rattle.scenario_values.specs.ResultCombinators.{Answers, Shows};
@@ -11,14 +11,14 @@ use scenario_values::{DesignNames, ScenarioFault};
 use serde_json::Value;
 use std::alloc::Global;
 
-/// Whether a component is among some.
+/// Returns whether a list has a component.
 pub fn is_among(nodes: &[NodeNo], node: NodeNo) -> bool
     ensures { result ≡ is_among nodes.now node.0 }
 {
     nodes.iter().any(|other| other.0 == node.0)
 }
 
-// One more component, which is not among those before it.
+// Adds one more component, which is not among the earlier ones.
 #[tactic(auto, unfolding(crate::specs::ReplicasAndTheirFaults::with_replica))]
 fn read_replica(
     alloc: Global,
@@ -37,7 +37,8 @@ fn read_replica(
     Ok(node)
 }
 
-/// The components that are replicated. They differ, so each list of them that is read is short.
+/// Returns the replicated components. They are distinct, so the list is short. Errors: the first fault of the
+/// field.
 #[tactic(auto, unfolding(crate::specs::ReplicasAndTheirFaults::replicas_in))]
 pub fn read_replicas(
     alloc: Global,

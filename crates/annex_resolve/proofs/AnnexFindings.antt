@@ -1,4 +1,4 @@
--- What is found in an annex: of one more of its states, and of the whole from its transitions, states and rules.
+-- The violations of an annex: of one more of its states, and of the whole from its transitions, states and rules.
 use Rattle.std.proofs.Common.{◌≡◌, ℕ, ◌+◌, ◌<◌, List, [], ◌∷◌, ◌++◌, length, map, take, get_or, sym, ap, ◌∙◌}
 use Rattle.std.proofs.Common.{append_assoc, arith}
 use Rattle.std.specs.Prelude.{flat_map}

@@ -1,4 +1,4 @@
--- A list of qualifiers that is one identifier: whether it is `Base_Types`.
+-- A list of qualifiers with one identifier, and the test whether it is `Base_Types`.
 use Rattle.std.proofs.Common.{◌≡◌, ◌≤◌, ◌<◌, Bool, List, [], ◌∷◌, length, get_or, codes, map, ap, ◌∙◌}
 use Rattle.std.proofs.Common.{arith}
 use Rattle.aadl_tree.specs.Names.{same_name}

@@ -1,4 +1,4 @@
--- Two words of one spelling are one name.
+-- Two words with one spelling are one name.
 use Rattle.std.proofs.Common.{◌≡◌, ℕ, true, List, refl, subst}
 use Rattle.std.specs.Str.{str_to_ascii_lowercase}
 use Rattle.std.proofs.lemmas.Slice.Eq.{bytes_eq-Decides}

@@ -1,4 +1,4 @@
--- The list that a loop has made of the elements so far, and of one more: `map` and `flat_map`.
+-- The list that a loop has built from the elements so far, and from one more: `map` and `flat_map`.
 use Rattle.std.proofs.Common.{◌≡◌, ℕ, ◌+◌, ◌<◌, List, [], ◌∷◌, ◌++◌, length, map, take, get_or, ap, ◌∙◌}
 use Rattle.std.specs.Prelude.{flat_map}
 use Rattle.std.proofs.lemmas.List.{map-append, append-nil}

@@ -1,4 +1,4 @@
--- What stands in a cell of a table, by its row and column.
+-- The entry of a table, by its row and column.
 use Rattle.std.proofs.Common.{◌≡◌, ℕ, ◌<◌, false, length, ap, ◌∙◌}
 use Rattle.std.specs.Option.{unwrap_or}
 use Rattle.pals_base.specs.declared.behaviour.BehaviourParts.{BehaviourParts}

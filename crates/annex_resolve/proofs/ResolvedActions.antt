@@ -1,4 +1,4 @@
--- The actions of a text are resolved as they are meant, one level of their trees after another.
+-- The resolved actions of a text are the actions of the definition, one level of their trees after another.
 use Rattle.std.proofs.Common.{◌≡◌, ℕ, ◌+◌, ◌<◌, ℤ, not, Bool, Result, Ok, Err, List, [], ◌∷◌, ◌++◌, length, take}
 use Rattle.std.proofs.Common.{get_or, Option, Some, None, refl, sym, ap, ◌∙◌, append_assoc, Vec, Box, Global}
 use Rattle.std.specs.Prelude.{option_map, IfOk}
@@ -36,7 +36,7 @@ use Rattle.annex_resolve.specs.ActionFindings.{otherwise_findings, block_finding
 use Rattle.annex_resolve.specs.proof.ResolutionResults.{ResolvesAction, ResolvesActions, ResolvesBranch, ResolvesBranches}
 use Rattle.annex_resolve.proofs.ResolvedTermsAndSums.{take_next}
 
--- ---- a name that is set or sent
+-- ---- a name that is assigned or sent
 given_by : (scope : Scope) (x : Identifier ℕ) (value : Expression ℕ) (test : Option DeclaredName → Bool)
     (entry : Option DeclaredName) (may : Bool) (act : Act) (b m a : List Violation)
     → entry ≡ entry_named scope x.spelling → may ≡ test entry → m ≡ b ++ found_if (not may) x.at BAD_TYPE []
@@ -77,14 +77,14 @@ sent scope around y x value entry may (Ok act) b m a view known is added reads =
     rw view (given_by scope x value may_send entry may act b m a known is added reads)
 sent scope around y x value entry may (Err e) b m a view known is added reads = tt
 
--- what stands for the same text
+-- results for the same text
 pub same_action : (scope : Scope) (around : ℕ) (x y : Action ℕ) (r : Result Act AllocError)
     (b a : List Violation) → x ≡ y
     → IfOk r (λ act. ResolvesAction (action_of scope y) (action_findings scope around y) act b a)
     → IfOk r (λ act. ResolvesAction (action_of scope x) (action_findings scope around x) act b a)
 same_action scope around x y r b a is reads = rw is reads
 
--- ---- actions behind each other
+-- ---- actions in sequence
 abbrev pub put_last : plain.Actions → plain.Action → plain.Actions
 put_last plain.Nothing x = plain.Do x plain.Nothing
 put_last (plain.Do a rest) x = plain.Do a (put_last rest x)
@@ -162,7 +162,7 @@ pub all_actions : (scope : Scope) (around : ℕ) (y : Actions ℕ) (first : Acti
 unfolding actions_of actions_findings
 all_actions scope around y first xs acts b a view reads = rw view reads
 
--- ---- actions, if there are any
+-- ---- optional actions
 pub no_actions : (scope : Scope) (around : ℕ) (o : Option (Box source_actions.Actions Global)) (acts : List Act)
     (b : List Violation) → o ≡ None → acts ≡ []
     → let x = listed_block (option_map (λ b. actions_view kept_place b.value) o) in

@@ -1,5 +1,5 @@
--- Comparisons, relations, whole expressions, factors and lists of operands are resolved as they are meant, one level
--- of the tree after another.
+-- The resolved comparisons, relations, whole expressions, factors and lists of operands are the ones of the
+-- definition, one level of the tree after another.
 use Rattle.std.proofs.Common.{◌≡◌, ℕ, ℤ, pos, not, Bool, Result, Ok, Err, ◌+◌, ◌<◌, List, [], ◌∷◌, ◌++◌, length, take}
 use Rattle.std.proofs.Common.{get_or, Option, Some, None, refl, sym, ap, ◌∙◌, append_assoc, arith, Box, Global}
 use Rattle.std.specs.Option.{is_some}
@@ -157,7 +157,7 @@ relation_compared scope x y o at to l r (Ok e) b m1 m2 a left right here there f
     relation_both scope x y o at to l r e b m1 m2 a left right here there found is kind
 relation_compared scope x y o at to l r (Err e) b m1 m2 a left right here there found is kind = tt
 
--- ---- lists of operands, one after the other
+-- ---- lists of operands, one after another
 pub factors_none : (scope : Scope) (ops : List Operand) (b : List Violation) → ops ≡ []
     → ResolvesOperands (factors_of scope (factors_view kept_place []))
     (factors_types scope (factors_view kept_place [])) ops b b

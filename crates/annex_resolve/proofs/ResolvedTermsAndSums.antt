@@ -1,4 +1,4 @@
--- The terms and sums of a text, with the lists of factors and terms in them, are resolved as they are meant, one
+-- The resolved terms and sums of a text, with their lists of factors and terms, are the ones of the definition, one
 -- level of their trees after another.
 use Rattle.std.proofs.Common.{◌≡◌, ℕ, ◌+◌, ◌<◌, List, [], ◌∷◌, ◌++◌, length, take, get_or, Option, Some, None, refl}
 use Rattle.std.proofs.Common.{sym, ap, ◌∙◌, append_assoc, arith}
@@ -33,7 +33,7 @@ use Rattle.annex_resolve.specs.proof.ResolutionResults.{Resolves, ResolvesOperan
 pub three : (b f m r : List Violation) → ((b ++ f) ++ m) ++ r ≡ b ++ ((f ++ m) ++ r)
 three b f m r = ap (λ l. l ++ r) (append_assoc b f m) ∙ append_assoc b (f ++ m) r
 
--- ---- operands behind each other
+-- ---- operands in sequence
 abbrev pub put_last : plain.Operands → Op → plain.Expression → plain.Operands
 put_last plain.NoMore op e = plain.Then op e plain.NoMore
 put_last (plain.Then o x rest) op e = plain.Then o x (put_last rest op e)

@@ -1,4 +1,4 @@
--- An expression of several operands, and the tests whether there are several.
+-- An expression of several operands, and the test whether there are several.
 use Rattle.std.proofs.Common.{◌≡◌, Bool, true, false, ◌==◌, List, [], ◌∷◌, length, arith, vec_len, refl, sym, ap, ◌∙◌}
 use Rattle.std.proofs.Common.{Box, Vec, Global}
 use Rattle.std.proofs.lemmas.Bool.{true≢false, eqb-true}
@@ -10,7 +10,7 @@ use Rattle.pals_base.specs.proof.TreeViews.{tree_of, operands_along}
 use Rattle.pals_base.proofs.TreeViews.{tree_of-Chain}
 use Rattle.annex_resolve.specs.ResolvedTrees.{chained}
 
--- a vector that is empty, and one that is not, by its test
+-- an empty vector and a nonempty one, by the test
 pub empty_by : {X : Type 0} (v : Vec X Global) (r : Bool) → r ≡ (vec_len v == 0) → r ≡ true → length v.items ≡ 0
 empty_by v r is holds = let none = eqb-true (vec_len v) 0 (sym is ∙ holds) in omega (arith, none, v.ok)
 

@@ -1,4 +1,4 @@
--- One state reaches another in the tables exactly where a way of transitions leads there.
+-- The table has an entry for two states if and only if a path of transitions leads from one to the other.
 use Rattle.std.proofs.Common.{◌≡◌, ℕ, ◌<◌, zero, suc, Bool, true, false, not, ◌&&◌, nat_eq, List, [], ◌∷◌, length, refl}
 use Rattle.std.proofs.Common.{sym, ap, ◌∙◌, subst, arith, inl, inr, ◌⊎◌}
 use Rattle.std.specs.List.{list_any, Contains}
@@ -28,12 +28,12 @@ some_element : {A : Type 0} (p : A → Bool) (xs : List A) → list_any p xs ≡
 some_element p [] any = absurd (true≢false (sym any))
 some_element p (x ∷ xs) any = passes_by p x xs (or_cases (p x) (list_any p xs) any) (some_element p xs)
 
--- ---- what is reached, by more states in between
+-- ---- reachability with more inner states
 grows : (k : ℕ) (b : BehaviourParts) (s t : ℕ) → leads b s t ≡ true → reaches k b s t ≡ true
 grows zero b s t e = e
 grows (suc k) b s t e = or_left (reaches k b s t) (reaches k b s k && reaches k b k t) (grows k b s t e)
 
--- with one more state between, a way goes by it or not
+-- with one more inner state, a path passes it or not
 abbrev Either : ℕ → BehaviourParts → ℕ → ℕ → Type 0
 Either k b s t = (reaches k b s t ≡ true) ⊎ ((reaches k b s k ≡ true) × (reaches k b k t ≡ true))
 
@@ -67,7 +67,7 @@ joined_at k b s m t join (inl e) (inr f) = by_way_of k b s t (join s k e f.0) f.
 joined_at k b s m t join (inr e) (inl f) = by_way_of k b s t e.0 (join k t e.1 f)
 joined_at k b s m t join (inr e) (inr f) = by_way_of k b s t e.0 f.1
 
--- two ways with a state below k between them
+-- two paths with a state below k between them
 pub through : (k : ℕ) (b : BehaviourParts) (s m t : ℕ) → m < k → reaches k b s m ≡ true → reaches k b m t ≡ true
     → reaches k b s t ≡ true
 through zero b s m t below e f = absurd (omega (arith, below))
@@ -78,7 +78,7 @@ through (suc k) b s m t below e f = elim (cases_lt m k) as (λ r. reaches (suc k
       (from_last k b t (split k b k t (subst (λ n. reaches (suc k) b n t ≡ true) last f)))
 ]
 
--- ---- ways
+-- ---- paths
 step_leads : (b : BehaviourParts) (s t : ℕ) → IsWay b 1 s t → leads b s t ≡ true
 step_leads b s t (incomplete, (e, here, is)) =
     and_from (not (is_complete b s)) (list_any (λ (e : Edge). nat_eq e.target t) (leaving b s)) (ap not incomplete)
@@ -92,7 +92,7 @@ way_reaches (suc n) b s t (incomplete, (e, here, rest)) =
     (grows (length b.states) b s e.target (step_leads b s e.target (incomplete, (e, here, refl))))
     (way_reaches n b e.target t rest)
 
--- where no state is on a cycle there is none
+-- if no state is on a cycle, there is no cycle
 pub acyclic_by : (b : BehaviourParts) → ((s : ℕ) → s < length b.states → is_on_cycle b s ≡ false) → IsAcyclic b
 unfolding IsAcyclic
 acyclic_by b none s n way = true≢false (sym (way_reaches n b s s way) ∙ none s (incomplete_within b s way.0))
@@ -103,7 +103,7 @@ joined_ways zero b s m t q way rest = (q, subst (λ x. IsWay b (suc q) x t) (sym
 joined_ways (suc n) b s m t q (incomplete, (e, here, way)) rest = let on = joined_ways n b e.target m t q way rest in
     (suc on.0, (incomplete, (e, here, on.1)))
 
--- what is reached is at the end of a way
+-- a reachable state is at the end of a path
 pub reached_by_way : (k : ℕ) (b : BehaviourParts) (s t : ℕ) → reaches k b s t ≡ true → (n : ℕ) × IsWay b (suc n) s t
 reached_by_way zero b s t e =
     let both' = and_parts (not (is_complete b s)) (list_any (λ (e : Edge). nat_eq e.target t) (leaving b s)) e in

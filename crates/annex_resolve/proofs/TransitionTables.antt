@@ -1,4 +1,4 @@
--- The table of which state leads to which by a single transition, filled one transition after another.
+-- The table of single transitions between states, after one transition after another.
 use Rattle.std.proofs.Common.{◌≡◌, ◌≢◌, ℕ, ◌<◌, ◌+◌, zero, suc, Bool, true, false, not, ◌&&◌, ◌||◌, nat_eq, List, []}
 use Rattle.std.proofs.Common.{◌∷◌, ◌++◌, length, map, filter, set, get_or, replicate, refl, sym, ap, ap₂, ◌∙◌, arith}
 use Rattle.std.proofs.Common.{cond, inl, inr}
@@ -15,7 +15,7 @@ use Rattle.pals_base.specs.UpwardNumbers.{upwards}
 use Rattle.pals_base.proofs.UpwardNumbers.{get_or-map_upwards, map_upwards_same}
 use Rattle.annex_resolve.specs.proof.ReachabilityTables.{marked, leads_by, row_by, table_by}
 
--- ---- lists that have an element for each number
+-- ---- lists with an element for each number
 -- one of them is another
 mapped_put : {A : Type 0} (f g : ℕ → A) (from n k : ℕ) (v : A) → (k < n → g (from + k) ≡ v)
     → ((i : ℕ) → i ≢ from + k → g i ≡ f i)

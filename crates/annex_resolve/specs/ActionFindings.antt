@@ -1,4 +1,4 @@
--- What is wrong with actions: types, and loops that are too long.
+-- The violations of actions: wrong types, and loops that are too long.
 use Rattle.std.specs.Prelude.{ℕ, ◌+◌, ◌*◌, min, Bool, false, not, ◌&&◌, nat_le, List, [], ◌++◌, Option, Some, None}
 use Rattle.pals_base.specs.declared.behaviour.Kind.{Kind}
 use Rattle.pals_base.specs.declared.behaviour.Kind.TheVariants.{Boolean}
@@ -22,25 +22,25 @@ use Rattle.pals_base.specs.TypingRules as base
 abbrev pub turns : Bound → Bound → ℕ
 turns low high = base.turns (bound_value low) (bound_value high)
 
--- the turns of a loop with those of the loops round it, counted no further than one past what is allowed
+-- the iterations of a loop multiplied with the enclosing loops, up to one more than the limit
 abbrev pub turns_with_outer : ℕ → ℕ → ℕ
 turns_with_outer around count = min (around * count) (NESTED_TURNS + 1)
 
 abbrev pub is_too_long : ℕ → ℕ → Bool
 is_too_long around count = not (nat_le count TURNS && nat_le (turns_with_outer around count) NESTED_TURNS)
 
--- a loop counts in Integers
+-- a loop variable is an Integer
 abbrev pub is_integer : Option Kind → Bool
 is_integer None = false
 is_integer (Some k) = not (is_boolean k)
 
--- ---- a name that is set or sent, and the value for it
+-- ---- a name that is assigned or sent, and its value
 abbrev pub given_types : Scope → (Option DeclaredName → Bool) → Identifier ℕ → Expression ℕ → List Violation
 given_types scope may x e =
     found_if (not (may (entry_named scope x.spelling))) x.at BAD_TYPE []
     ++ whole_types scope (kind_of (entry_named scope x.spelling)) e
 
--- what is wrong with actions, within loops that make `around` turns
+-- the violations of actions, within loops with `around` iterations
 unfoldable mutual
   pub action_findings : Scope → ℕ → Action ℕ → List Violation
   action_findings scope around (assign x e) = given_types scope may_set x e
@@ -74,6 +74,6 @@ unfoldable mutual
   block_findings scope around no_block = []
   block_findings scope around (block a) = actions_findings scope around a
 
--- a test, and what is done where it is true
+-- a test, and the actions if it is true
 abbrev pub branch_findings : Scope → ℕ → Expression ℕ → Actions ℕ → List Violation
 branch_findings scope around test a = whole_types scope (Some Boolean) test ++ actions_findings scope around a

@@ -1,4 +1,4 @@
--- The behaviour of an annex, and what is wrong with it.
+-- The behaviour of an annex, and its violations.
 use Rattle.std.specs.Prelude.{ℕ, ◌-◌, nat_eq, slice_get, position, take, Bool, true, false, not, ◌&&◌, ◌||◌, ◌==◌, List}
 use Rattle.std.specs.Prelude.{[], ◌++◌, length, map, filter, flat_map, Option, Some, None, if◌then◌else◌}
 use Rattle.std.specs.List.{list_any, list_all, enumerate_from}
@@ -41,11 +41,11 @@ states_of annex = flat_map states_in (listed_in annex.states)
 abbrev pub declared : StateAt → StateDecl
 declared s = record { name = s.name; complete = s.complete }
 
--- the number of the first that passes, or that of none
+-- the number of the first element that passes, or the length of the list
 abbrev pub first_number : {X : Type 0} → (X → Bool) → List X → ℕ
 first_number test xs = unwrap_or (position test xs) (length xs)
 
--- the number of a state's name; of two states of one name the first counts
+-- the number of the state with a name; of two states with one name the first takes precedence
 abbrev pub state_number : List StateAt → List ℕ → ℕ
 state_number states name = first_number (λ s. same_name s.name name) states
 
@@ -85,7 +85,7 @@ effect_findings scope (Some x) = block_findings scope 1 x
 abbrev pub transition_findings : Scope → Transition ℕ → List Violation
 transition_findings scope t = guard_types scope t.guard ++ effect_findings scope t.effect
 
--- ---- the behaviour, over the ports and variables of its scope
+-- ---- the behaviour, for the ports and variables of its scope
 abbrev pub transitions_of : AnnexTree ℕ → List (Transition ℕ)
 transitions_of annex = listed_in annex.transitions
 
@@ -119,11 +119,11 @@ guard_case_of (Some dispatch) = Dispatch
 guard_case_of (Some otherwise) = Otherwise
 guard_case_of (Some (when e)) = Guarded
 
--- from which state a transition goes, and in which way
+-- the source of a transition, and the kind of its guard
 abbrev pub departure_of : List StateAt → Transition ℕ → Departure
 departure_of states t = record { source = state_number states t.source.spelling; way = guard_case_of t.guard }
 
--- the ways from a state, in the text's order
+-- the kinds of guards from a state, in the order of the text
 abbrev pub guard_cases_from : ℕ → List Departure → List GuardCase
 guard_cases_from n legs = map (λ leg. leg.way) (filter (λ leg. nat_eq leg.source n) legs)
 
@@ -143,12 +143,12 @@ abbrev pub is_open : Option GuardCase → Bool
 is_open None = true
 is_open (Some way) = is_guarded way
 
--- there is none, or the last one has a condition, or one before the last is `otherwise`
+-- there is no transition, or the last one has a condition, or one before the last is `otherwise`
 abbrev pub lacks_otherwise : List GuardCase → Bool
 lacks_otherwise ways = is_open (slice_get ways (length ways - 1)) || list_any is_otherwise (take (length ways - 1) ways)
 
 -- ---- all
--- a state by its number, with the marks of the states that are on a cycle
+-- a state by its number, with the marks of the states on a cycle
 abbrev pub state_rules : BehaviourParts → List Departure → List Bool → ℕ × StateAt → List Violation
 state_rules b legs cyclic (n, s) =
     found_if (breaks_dispatch b n) s.at DISPATCH_COUNT s.name
@@ -160,7 +160,7 @@ state_rules b legs cyclic (n, s) =
 abbrev pub cycles_of : BehaviourParts → List Bool
 cycles_of b = map (is_on_cycle b) (upwards 0 (length b.states))
 
--- what is wrong with states, in an annex that begins at a place
+-- the violations of states, in an annex that begins at a position
 abbrev pub rule_findings : ℕ → BehaviourParts → List StateAt → List (Transition ℕ) → List Violation
 rule_findings at b states ts =
     found_if (not (has_initial states)) at NO_INITIAL []

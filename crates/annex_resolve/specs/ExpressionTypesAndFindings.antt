@@ -1,5 +1,5 @@
--- The types of expressions, and what is wrong with them. None is a type that is neither Integer nor Boolean; it fits
--- every place.
+-- The types of expressions, and their violations. `None` is a type other than Integer and Boolean; it fits
+-- everywhere.
 use Rattle.std.specs.Prelude.{ℕ, Bool, true, false, not, ◌&&◌, List, [], ◌∷◌, ◌++◌, codes, Option, Some, None}
 use Rattle.std.specs.Prelude.{if◌then◌else◌}
 use Rattle.std.specs.Option.{option_and_then, is_some}
@@ -53,11 +53,11 @@ fits None wanted = true
 fits (Some k) None = true
 fits (Some k) (Some w) = same_kind k w
 
--- what is found at a place that takes a type
+-- the violation of an expected type
 abbrev pub misfit : ℕ → Option Kind → Option Kind → List Violation
 misfit at wanted given = found_if (not (fits given wanted)) at BAD_TYPE []
 
--- what a name stands for in an expression has a value
+-- the meaning of a name in an expression has a value
 abbrev pub unread : Scope → Identifier ℕ → Bool → List Violation
 unread scope x fresh = found_if (not (is_some (read_of fresh (entry_named scope x.spelling)))) x.at BAD_TYPE []
 
@@ -84,7 +84,7 @@ sum_misfit None no_terms at first = []
 sum_misfit None (add sign x rest) at first = misfit at (Some Integer) first
 sum_misfit (Some sign) rest at first = misfit at (Some Integer) first
 
--- both sides of a comparison: for equality the right has the type of the left, else both are numbers
+-- both sides of a comparison: for equality, the right side has the type of the left one; else both are numbers
 abbrev pub sides_misfit : RelationOperator → ℕ → ℕ → Option Kind → Option Kind → List Violation
 sides_misfit operator at to left right =
     if is_equality operator then misfit to left right else misfit at (Some Integer) left
@@ -118,7 +118,7 @@ unfoldable mutual
   expression_kind scope (expression first no_relations) = relation_kind scope first
   expression_kind scope (expression first (join operator x rest)) = Some Boolean
 
--- ---- operands of another type than they should have, each at its first token
+-- ---- operands of a wrong type, each at its first token
 unfoldable mutual
   pub primary_types : Scope → Primary ℕ → List Violation
   primary_types scope (number at n) = []
@@ -171,6 +171,6 @@ unfoldable mutual
       (relation_types scope x ++ misfit (relation_at x) (Some Boolean) (relation_kind scope x))
       ++ relations_types scope rest
 
--- a whole expression at a place that takes a type
+-- a whole expression with an expected type
 abbrev pub whole_types : Scope → Option Kind → Expression ℕ → List Violation
 whole_types scope wanted e = expression_types scope e ++ misfit (expression_at e) wanted (expression_kind scope e)

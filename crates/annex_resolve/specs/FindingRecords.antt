@@ -1,4 +1,4 @@
--- A finding by its rule, place and details, and one that is there only under a condition.
+-- A violation by its rule, position and details, and a violation under a condition.
 use Rattle.std.specs.Prelude.{ℕ, Bool, List, [], ◌∷◌, if◌then◌else◌}
 use Rattle.annex_resolve.specs.declared.violation.Violation.{Violation}
 

@@ -1,4 +1,4 @@
--- What names stand for in a behaviour, where they are read, set or sent.
+-- The meanings of names in a behaviour, when they are read, assigned or sent.
 use Rattle.std.specs.Prelude.{ℕ, ◌+◌, pos, Bool, true, false, List, [], ◌∷◌, ◌++◌, Option, Some, None, find}
 use Rattle.pals_base.specs.declared.behaviour.Kind.{Kind}
 use Rattle.pals_base.specs.declared.behaviour.Kind.TheVariants.{Integer}
@@ -10,7 +10,7 @@ use Rattle.annex_resolve.specs.declared.scope.Scope.{Scope}
 use Rattle.pals_base.specs.ExpressionAndActionTrees as plain
 
 -- ---- names, which are compared without regard to case
--- what is declared under a name; of two declarations the first counts
+-- the declaration of a name; of two declarations the first takes precedence
 abbrev pub entry_named : Scope → List ℕ → Option DeclaredName
 entry_named scope name = find (λ e. same_name e.name name) scope.entries
 
@@ -18,7 +18,7 @@ abbrev pub kind_of : Option DeclaredName → Option Kind
 kind_of None = None
 kind_of (Some e) = e.kind
 
--- In a loop its variable is known too: an integer, with a number behind those of all other variables.
+-- Inside a loop, its variable is visible too: an integer, with the number after the numbers of all other variables.
 abbrev pub with_loop : Scope → Identifier ℕ → Scope
 with_loop scope x =
     record {
@@ -45,18 +45,18 @@ abbrev pub read_by : Bool → Meaning → Option plain.Expression
 read_by true m = freshness_of m
 read_by false m = value_of m
 
--- what is read under a name, if its meaning can be read
+-- the expression that reads a name, if its meaning can be read
 abbrev pub read_of : Bool → Option DeclaredName → Option plain.Expression
 read_of fresh None = None
 read_of fresh (Some e) = read_by fresh e.meaning
 
--- what cannot be read is as good as 0
+-- a name that cannot be read counts as 0
 abbrev pub or_zero : Option plain.Expression → plain.Expression
 or_zero None = plain.Literal (pos 0)
 or_zero (Some e) = e
 
--- ---- setting and sending
--- an assignment sets a variable, or sends at an out port
+-- ---- assigning and sending
+-- an assignment assigns a variable, or sends at an out port
 abbrev pub sets : Meaning → Bool
 sets (InPort n) = false
 sets (OutPort n) = true
@@ -80,7 +80,7 @@ may_send (Some e) = sends e.meaning
 abbrev pub nothing : plain.Action
 nothing = plain.If plain.NoBranch plain.Nothing
 
--- what is done with a value; what cannot be done does nothing
+-- the action for a value; it has no effect if the name cannot take a value
 abbrev pub given : plain.Expression → Meaning → plain.Action
 given e (InPort n) = nothing
 given e (OutPort n) = plain.Emit n e

@@ -46,7 +46,7 @@ logic_op logic.Xor = ops.Xor
 logic_op logic.AndThen = ops.AndThen
 logic_op logic.OrElse = ops.OrElse
 
--- one operand is itself
+-- a single operand is itself the result
 abbrev pub chained : plain.Expression → plain.Operands → plain.Expression
 chained e plain.NoMore = e
 chained e (plain.Then op x rest) = plain.Chain e (plain.Then op x rest)

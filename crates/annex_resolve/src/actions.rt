@@ -1,5 +1,5 @@
-//! Actions: what is wrong with them, and the trees in which names are numbers. They recur as deep as
-//! the actions are.
+//! Actions: their violations, and the trees in which names are numbers. The recursion is as deep as the
+//! actions.
 ghost use Rattle.std.specs.Prelude.{◌≡◌, ◌+◌, ◌≤◌, IfOk, option_copied, option_map};
 ghost use Rattle.pals_base.specs.proof.TreeViews.{tree_of, action_of as act_tree};
 ghost use Rattle.pals_base.specs.declared.limits.TheConstants.{NESTED_TURNS};
@@ -23,7 +23,7 @@ use aadl_tree::{Action, Actions, Block, Choice, Expression, Loop, push_compact};
 use pals_base::{Act, Branch, Expr, ItemList, Kind, NoMemory};
 use std::alloc::Global;
 
-// An assignment sets a variable, or sends at an out port.
+// Whether the name can be assigned: a variable, or an out port.
 fn may_set(entry: Option<&DeclaredName>) -> bool
     ensures { result ≡ may_set (option_copied entry.entry) }
 {
@@ -42,7 +42,7 @@ fn may_send(entry: Option<&DeclaredName>) -> bool
     }
 }
 
-// What is done with a value for a name; nothing where the name cannot take one.
+// The action that gives a value to a name; it has no effect if the name cannot take one.
 fn given_to(alloc: Global, value: Expr, entry: Option<&DeclaredName>) -> Act
     ensures { act_tree result ≡ given_to (tree_of value) (option_copied entry.entry) }
 {
@@ -56,7 +56,7 @@ fn given_to(alloc: Global, value: Expr, entry: Option<&DeclaredName>) -> Act
     }
 }
 
-// An action that does nothing.
+// An action without effect.
 fn nothing(alloc: Global) -> Act
     ensures { act_tree result ≡ nothing }
 {
@@ -82,14 +82,14 @@ fn give(
     Ok(given_to(alloc, value, entry))
 }
 
-// Whether a loop's type is right.
+// Whether the type of a loop variable is Integer.
 fn is_integer(kind: Option<Kind>) -> bool
     ensures { result ≡ is_integer kind }
 {
     matches!(kind, Some(Kind::Integer))
 }
 
-/// Resolves a block, within loops that make `around` turns, and adds what is wrong with it.
+/// Resolves a block, within loops with `around` iterations, and appends its violations.
 #[cycle(action)]
 pub fn resolve_block(
     alloc: Global,
@@ -105,8 +105,7 @@ pub fn resolve_block(
     resolve_some(alloc, scope, around, &block.actions, found)
 }
 
-// Resolves actions, if there are any, within loops that make `around` turns, and adds what is wrong
-// with them.
+// Resolves optional actions, within loops with `around` iterations, and appends their violations.
 #[cycle(action)]
 fn resolve_some(
     alloc: Global,
@@ -202,7 +201,7 @@ fn resolve_choice(
     })
 }
 
-// What is done where a test is true.
+// Resolves the actions under a true test.
 #[cycle(action)]
 fn resolve_branch(
     alloc: Global,

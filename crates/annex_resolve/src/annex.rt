@@ -1,4 +1,4 @@
-//! The behaviour of a whole annex, and all that is wrong with it.
+//! The behaviour of a whole annex, and all its violations.
 ghost use Rattle.std.specs.Prelude.{◌≡◌, ◌++◌, IfOk, OnOk, map};
 ghost use Rattle.aadl_tree.specs.proof.PlaceMaps.{kept_place};
 ghost use Rattle.aadl_tree.specs.proof.AnnexViews.{annex_tree_view, transition_view};
@@ -14,7 +14,7 @@ use aadl_tree::{AnnexTree, Transition};
 use pals_base::{BehaviourParts, ItemList, NoMemory, Transition as Edge};
 use std::alloc::Global;
 
-// The transitions of an annex, none where it has no section of them.
+// The transitions of an annex; none if the section is absent.
 fn transitions_of(annex: &AnnexTree) -> &[Transition]
     ensures { map (transition_view kept_place) result.now ≡ transitions_of (annex_tree_view kept_place annex.now) }
 {
@@ -46,8 +46,8 @@ fn parts_by(
     })
 }
 
-/// Resolves an annex that begins at a place, over the ports and variables of its scope, and adds what
-/// is wrong with it.
+/// Resolves an annex that begins at a position, for the ports and variables of its scope, and appends its
+/// violations. Errors: out of memory.
 pub fn resolve_annex(
     alloc: Global,
     values: DeclaredValues,

@@ -1,5 +1,5 @@
-//! Which states are on a cycle of states that are not complete. A table tells which states a way leads
-//! to; state after state is let in between its ends.
+//! The search for states on a cycle of states that are not complete. A table stores which states are reachable;
+//! one state after another is admitted between the ends of paths.
 ghost use Rattle.std.specs.Prelude.{◌≡◌, ◌<◌, ◌+◌, IfOk, false, length, map, replicate};
 ghost use Rattle.pals_base.specs.SingleStep.{is_complete};
 ghost use Rattle.pals_base.specs.UpwardNumbers.{upwards};
@@ -9,7 +9,7 @@ ghost use Rattle.annex_resolve.specs.proof.ReachabilityTables.{marked};
 use pals_base::{BehaviourParts, ItemList, NoMemory};
 use std::alloc::{AllocError, Global};
 
-// Whether a step ends in a state. A number of no state is such an end.
+// Whether a step ends in a state. It also ends in an undeclared state.
 pub(crate) fn is_complete(parts: &BehaviourParts, state: usize) -> bool
     ensures { result ≡ is_complete parts.now state }
 {
@@ -19,7 +19,7 @@ pub(crate) fn is_complete(parts: &BehaviourParts, state: usize) -> bool
     }
 }
 
-// The rows of a table of so many states, none of which is reached.
+// The rows of a table for this number of states, none of which is reached.
 #[tactic(auto, using(std::proofs::lemmas::List::replicate_more))]
 fn empty_rows(alloc: Global, count: usize) -> Result<ItemList<ItemList<bool>>, NoMemory>
     ensures { IfOk result (λ rows. rows ≡ replicate count (replicate count false)) }
@@ -31,7 +31,7 @@ fn empty_rows(alloc: Global, count: usize) -> Result<ItemList<ItemList<bool>>, N
     Ok(rows)
 }
 
-// Marks that one state reaches another. A number of no state marks nothing.
+// Marks one state as reachable from another. An undeclared state has no effect.
 fn mark(rows: &mut ItemList<ItemList<bool>>, source: usize, target: usize)
     ensures { rows.new ≡ marked rows.old source target }
 {
@@ -43,8 +43,7 @@ fn mark(rows: &mut ItemList<ItemList<bool>>, source: usize, target: usize)
     }
 }
 
-/// For each state, which states a way leads to that has none but states below `between` between its
-/// ends.
+/// For each state, the states that are reachable by a path whose inner states are below `between`.
 #[derive(Drop)]
 pub struct Reachability {
     pub rows: ItemList<ItemList<bool>>,
@@ -70,7 +69,7 @@ impl Reachability {
         Ok(Reachability { rows, between: 0 })
     }
 
-    // What stands in the table.
+    // The entry of the table.
     fn cell(&self, source: usize, target: usize) -> bool
         ensures { result ≡ cell self.now.rows source target }
     {
@@ -83,7 +82,7 @@ impl Reachability {
         }
     }
 
-    // Whether a way leads from one state to another.
+    // Whether a path leads from one state to another.
     fn reaches(&self, parts: &BehaviourParts, source: usize, target: usize) -> bool
         requires table { IsTable parts.now self.now }
         requires source { source < length parts.now.states }
@@ -93,7 +92,7 @@ impl Reachability {
         self.cell(source, target)
     }
 
-    // What a state reaches with one more state in between.
+    // The states that are reachable with one more inner state.
     #[tactic(auto, using(pals_base::proofs::UpwardNumbers::map_upwards_more))]
     fn next_row(
         &self,
@@ -117,7 +116,7 @@ impl Reachability {
         Ok(row)
     }
 
-    // The table with one more state in between.
+    // The table with one more inner state.
     #[tactic(auto, using(pals_base::proofs::UpwardNumbers::map_upwards_more))]
     fn next(&self, alloc: Global, parts: &BehaviourParts) -> Result<Reachability, NoMemory>
         requires table { IsTable parts.now self.now }
@@ -134,7 +133,7 @@ impl Reachability {
     }
 }
 
-/// For each state, whether it is on a cycle of states that are not complete.
+/// Returns, for each state, whether it is on a cycle of states that are not complete. Errors: out of memory.
 #[tactic(auto, using(pals_base::proofs::UpwardNumbers::map_upwards_more))]
 pub fn cyclic_states(alloc: Global, parts: &BehaviourParts) -> Result<ItemList<bool>, NoMemory>
     ensures { IfOk result (λ marks. marks ≡ map (is_on_cycle parts.now) (upwards 0 (length parts.now.states))) }

@@ -33,16 +33,15 @@ use operators::{is_equality, logic_op, multiply_op, relation_op, sign_op};
 use pals_base::{Expr, ItemList, Kind, NoMemory, Operand};
 use std::alloc::Global;
 
-/// An expression with its names resolved, and its type: none where that is neither Integer nor
-/// Boolean.
+/// An expression with resolved names, and its type: `None` if it is neither Integer nor Boolean.
 #[derive(Drop)]
 pub struct Typed {
     pub expr: Expr,
     pub kind: Option<Kind>,
 }
 
-/// Whether a value of a type may stand where a type is wanted. None is a type that is neither Integer
-/// nor Boolean; it fits everywhere.
+/// Returns whether a value of a type can be used as a value of the expected type. `None` is a type other than
+/// Integer and Boolean; it fits everywhere.
 pub fn fits(given: Option<Kind>, wanted: Option<Kind>) -> bool
     ensures { result ≡ fits given wanted }
 {
@@ -52,7 +51,7 @@ pub fn fits(given: Option<Kind>, wanted: Option<Kind>) -> bool
     }
 }
 
-/// Adds a finding where a value is not of the type that its place takes.
+/// Appends a violation if a value does not have the expected type.
 pub fn expect(
     alloc: Global,
     found: &mut ItemList<Violation>,
@@ -65,7 +64,7 @@ pub fn expect(
     add_if(alloc, found, !fits(given, wanted), at, BAD_TYPE)
 }
 
-// Adds what is found on both sides of a comparison.
+// Appends the violations of both sides of a comparison.
 fn expect_sides(
     alloc: Global,
     found: &mut ItemList<Violation>,
@@ -83,7 +82,7 @@ fn expect_sides(
     expect(alloc, found, places.1, Some(Kind::Integer), right)
 }
 
-// The type of what is declared.
+// The type of a declared name.
 pub(crate) fn kind_of(entry: Option<&DeclaredName>) -> Option<Kind>
     ensures { result ≡ kind_of (option_copied entry.entry) }
 {
@@ -93,7 +92,7 @@ pub(crate) fn kind_of(entry: Option<&DeclaredName>) -> Option<Kind>
     }
 }
 
-// The type of what is read; whether a port is fresh is a Boolean.
+// The type of a read; whether a port is fresh is a Boolean.
 fn read_kind(entry: Option<&DeclaredName>, fresh: bool) -> Option<Kind>
     ensures { result ≡ read_kind fresh (option_copied entry.entry) }
 {
@@ -103,7 +102,7 @@ fn read_kind(entry: Option<&DeclaredName>, fresh: bool) -> Option<Kind>
     kind_of(entry)
 }
 
-// What is read under a name, if its meaning can be read.
+// The expression that reads a name, if its meaning can be read.
 fn read_of(entry: Option<&DeclaredName>, fresh: bool) -> Option<Expr>
     ensures { option_map tree_of result ≡ read_of fresh (option_copied entry.entry) }
 {
@@ -116,7 +115,7 @@ fn read_of(entry: Option<&DeclaredName>, fresh: bool) -> Option<Expr>
     }
 }
 
-// A first operand with those behind it; alone it is itself.
+// A first operand and the operands after it; a first operand without others is itself the result.
 fn chained(alloc: Global, first: Expr, rest: Vec<Operand>) -> Result<Expr, NoMemory>
     ensures { IfOk result (λ expr. tree_of expr ≡ chained (tree_of first) (operands_along rest.items)) }
 {
@@ -127,7 +126,7 @@ fn chained(alloc: Global, first: Expr, rest: Vec<Operand>) -> Result<Expr, NoMem
     Ok(Expr::Chain { first, rest })
 }
 
-// An operand behind a sign, if there is one.
+// An operand with an optional sign before it.
 fn signed(alloc: Global, sign: Option<LeadingSign>, operand: Expr) -> Result<Expr, NoMemory>
     ensures { IfOk result (λ expr. tree_of expr
         ≡ signed_by (option_map (leading_view kept_place) sign) (tree_of operand)) }
@@ -152,7 +151,7 @@ fn literal(value: i64) -> Typed
     }
 }
 
-// A truth value, which behaviours hold as 1 or 0.
+// A Boolean literal, which behaviours represent as 1 or 0.
 fn truth_literal(value: bool) -> Typed
     ensures tree { tree_of result.expr ≡ Literal (truth_of value) }
     ensures kind { result.kind ≡ Some Boolean }
@@ -163,7 +162,7 @@ fn truth_literal(value: bool) -> Typed
     }
 }
 
-/// Resolves a whole expression, at a place that takes a type, and adds what is wrong with it.
+/// Resolves a whole expression with an expected type, and appends its violations. Errors: out of memory.
 pub fn resolve_whole(
     alloc: Global,
     scope: &Scope,
@@ -181,7 +180,7 @@ pub fn resolve_whole(
     Ok(typed.expr)
 }
 
-// It recurs as deep as the expression is.
+// The recursion is as deep as the expression.
 #[cycle(expression)]
 fn resolve_expression(
     alloc: Global,

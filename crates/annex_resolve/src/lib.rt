@@ -1,5 +1,8 @@
-//! Behaviours of threads from their text: names become numbers, types are checked, and what is wrong
-//! is listed with its place.
+//! Resolves the behaviours of threads from their text: names become numbers, types are checked, and each
+//! violation is listed with its position.
+//!
+//! [`resolve_annex`] is proved to return the behaviour and the violations of their definitions. The crate does
+//! not check that names are distinct and declared, and does not run behaviours.
 #![tactic(auto)]
 
 pub mod actions;

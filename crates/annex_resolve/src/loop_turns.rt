@@ -1,4 +1,4 @@
-//! How many turns loops make.
+//! The numbers of iterations of loops.
 ghost use Rattle.std.specs.Prelude.{◌≡◌, ◌+◌, ◌^◌, ◌<◌, ◌≤◌, IfOk};
 ghost use Rattle.pals_base.specs.declared.limits.TheConstants.{NESTED_TURNS};
 ghost use Rattle.pals_base.specs.TypingRules as base;
@@ -10,8 +10,8 @@ use pals_base::NoMemory;
 use pals_base::limits::{NESTED_TURNS, TURNS};
 use std::alloc::AllocError;
 
-/// The number of a loop's end. For one that no text spells and that does not fit 64 bits, the error
-/// is that there is not enough memory.
+/// Returns the bound of a loop as a number. Errors: out of memory, for a number that no text spells and that
+/// does not fit 64 bits.
 pub fn signed(bound: Bound) -> Result<i64, NoMemory>
     ensures { IfOk result (λ number. number ≡ bound_value bound) }
 {
@@ -21,7 +21,7 @@ pub fn signed(bound: Bound) -> Result<i64, NoMemory>
     Ok(bound.value)
 }
 
-/// How many turns a loop makes.
+/// Returns the number of iterations of a loop.
 pub fn count_turns(low: i64, high: i64) -> u128
     ensures value { result ≡ base.turns low high }
     ensures bound { result < 2 ^ 65 }
@@ -32,8 +32,7 @@ pub fn count_turns(low: i64, high: i64) -> u128
     (i128::from(high) - i128::from(low) + 1) as u128
 }
 
-/// The turns of a loop with those of the loops round it, counted no further than one past what is
-/// allowed.
+/// Returns the iterations of a loop multiplied with the enclosing loops, up to one more than the limit.
 pub fn turns_with_outer(around: u64, turns: u128) -> u64
     requires around { around ≤ NESTED_TURNS + 1 }
     requires turns { turns < 2 ^ 65 }
@@ -44,7 +43,8 @@ pub fn turns_with_outer(around: u64, turns: u128) -> u64
     all.min(u128::from(NESTED_TURNS) + 1) as u64
 }
 
-/// Whether a loop makes more turns than are allowed, alone or with the loops round it.
+/// Returns whether the iterations of a loop exceed the limit, by themselves or multiplied with the enclosing
+/// loops.
 pub fn is_too_long(around: u64, turns: u128) -> bool
     requires around { around ≤ NESTED_TURNS + 1 }
     requires turns { turns < 2 ^ 65 }

@@ -1,5 +1,5 @@
-//! The transitions that leave a state: whether a step may be unable to leave it, and whether the right number leave
-//! it at the dispatch.
+//! The transitions that leave a state: whether a step can block there, and whether the number of transitions at
+//! the dispatch is right.
 ghost use Rattle.std.specs.Prelude.{◌≡◌, IfOk, option_map, option_copied, filter, map, nat_eq};
 ghost use Rattle.std.specs.List.{list_any};
 ghost use Rattle.pals_base.specs.BehaviourRules.{dispatch_count};
@@ -14,7 +14,7 @@ use aadl_tree::Guard;
 use pals_base::{BehaviourParts, Guard as Trigger, ItemList, NoMemory, Transition};
 use std::alloc::Global;
 
-/// When a transition is taken.
+/// The kind of guard of a transition.
 #[derive(Clone, Copy)]
 pub enum GuardCase {
     Dispatch,
@@ -25,7 +25,7 @@ pub enum GuardCase {
     Guarded,
 }
 
-/// A transition, by the state that it leaves and its way.
+/// A transition, by its source state and the kind of its guard.
 #[derive(Clone, Copy)]
 pub struct Departure {
     pub source: u32,
@@ -46,7 +46,7 @@ impl GuardCase {
     }
 }
 
-// The way of a guard.
+// The kind of a guard.
 fn guard_case_of(guard: &Option<Guard>) -> GuardCase
     ensures { result ≡ guard_case_of (option_map (guard_view kept_place) guard.now) }
 {
@@ -58,7 +58,7 @@ fn guard_case_of(guard: &Option<Guard>) -> GuardCase
     }
 }
 
-// A transition's leg.
+// The source and the kind of guard of a transition.
 fn departure_of(
     states: &[StateAt],
     transition: &aadl_tree::Transition,
@@ -71,7 +71,7 @@ fn departure_of(
     })
 }
 
-/// The legs of transitions, in order.
+/// Returns the sources and kinds of guards of transitions, in order. Errors: out of memory.
 pub fn departures_of(
     alloc: Global,
     states: &[StateAt],
@@ -87,7 +87,7 @@ pub fn departures_of(
     Ok(legs)
 }
 
-// The ways from a state, in order.
+// The kinds of guards of the transitions from a state, in order.
 fn guard_cases_from(
     alloc: Global,
     legs: &[Departure],
@@ -101,7 +101,7 @@ fn guard_cases_from(
         .collect(alloc)
 }
 
-// Whether the last of some ways may leave a step where it is.
+// Whether the last guard of a list can be false, or there is none.
 fn is_open(last: Option<&GuardCase>) -> bool
     ensures { result ≡ is_open (option_copied last.entry) }
 {
@@ -111,15 +111,15 @@ fn is_open(last: Option<&GuardCase>) -> bool
     }
 }
 
-// Whether one of some ways is an `otherwise`.
+// Whether one of the guards is `otherwise`.
 fn has_otherwise(ways: &[GuardCase]) -> bool
     ensures { result ≡ list_any is_otherwise ways.now }
 {
     ways.iter().any(|way| way.is_otherwise())
 }
 
-// Whether a step may be unable to go on by these ways, or one of them is never taken for an
-// `otherwise` before it.
+// Whether a step can block at these guards, or an `otherwise` precedes another guard, which is then never
+// taken.
 fn lacks_way(ways: &[GuardCase]) -> bool
     ensures { result ≡ lacks_otherwise ways.now }
 {
@@ -127,7 +127,8 @@ fn lacks_way(ways: &[GuardCase]) -> bool
     is_open(ways.get(last)) || has_otherwise(&ways[..last])
 }
 
-/// Whether a step may be unable to leave a state.
+/// Returns whether a step can block in a state, or a transition after `otherwise` leaves it. Errors: out of
+/// memory.
 pub fn lacks_otherwise(alloc: Global, legs: &[Departure], state: usize) -> Result<bool, NoMemory>
     ensures { IfOk result (λ lacks. lacks ≡ lacks_otherwise (guard_cases_from state legs.now)) }
 {
@@ -135,7 +136,7 @@ pub fn lacks_otherwise(alloc: Global, legs: &[Departure], state: usize) -> Resul
     Ok(lacks_way(&ways))
 }
 
-// How many transitions at the dispatch leave a state.
+// The number of transitions at the dispatch that leave a state.
 fn dispatch_count(transitions: &[Transition], state: usize) -> usize
     ensures { result ≡ dispatch_count (filter (λ e. nat_eq e.source state) transitions.now) }
 {
@@ -148,8 +149,8 @@ fn dispatch_count(transitions: &[Transition], state: usize) -> usize
     count
 }
 
-/// Whether the wrong number of transitions at the dispatch leave a state: one should leave a complete
-/// state, and none another.
+/// Returns whether the number of transitions at the dispatch that leave a state is wrong: exactly one must
+/// leave a complete state, and none another state.
 pub fn breaks_dispatch(parts: &BehaviourParts, state: usize) -> bool
     ensures { result ≡ breaks_dispatch parts.now state }
 {

@@ -2,7 +2,7 @@
 
 use pals_base::{ItemList, PortDecl, VarDecl};
 
-/// The ports and variables of a thread, each kind numbered apart.
+/// The ports and variables of a thread, with separate numbers for in ports, out ports and variables.
 #[derive(Drop)]
 pub struct DeclaredValues {
     pub ins: ItemList<PortDecl>,

@@ -1,4 +1,4 @@
-//! What names stand for in a behaviour.
+//! The meanings of names in a behaviour.
 ghost use Rattle.std.specs.Prelude.{◌≡◌, IfOk, option_copied};
 ghost use Rattle.aadl_tree.specs.proof.PlaceMaps.{kept_place};
 ghost use Rattle.aadl_tree.specs.proof.NameViews.{identifier_view};
@@ -8,8 +8,8 @@ use aadl_tree::Identifier;
 use pals_base::{ItemList, Kind, NoMemory, Text, TryClone};
 use std::alloc::{AllocError, Global};
 
-/// What a name stands for. In ports, out ports and variables are numbered apart; a loop variable has
-/// a number behind those of all variables and of the loops round it.
+/// The meaning of a name. In ports, out ports and variables have separate numbers. The number of a loop
+/// variable follows the numbers of all variables and of the enclosing loops' variables.
 #[derive(Clone, Copy)]
 pub enum Meaning {
     InPort(u32),
@@ -18,8 +18,7 @@ pub enum Meaning {
     LoopVariable(u32),
 }
 
-/// Something declared: its name, its type (none where it is neither Integer nor Boolean), and what
-/// it is.
+/// A declared name: the name, its type (`None` if it is neither Integer nor Boolean), and its meaning.
 #[derive(Drop)]
 pub struct DeclaredName {
     pub name: Text,
@@ -37,18 +36,18 @@ impl TryClone for DeclaredName {
     }
 }
 
-/// The names that are known at a place.
+/// The names that are visible at a position.
 #[derive(Drop)]
 pub struct Scope {
-    /// What is declared, in order.
+    /// The declared names, in order.
     pub entries: ItemList<DeclaredName>,
     /// The number of the next loop's variable.
     pub next: u32,
 }
 
 impl Scope {
-    /// What is declared under a name; capitals are as good as small letters. Of two declarations the
-    /// first counts.
+    /// Returns the declaration of a name, without regard to case. Of two declarations the first takes
+    /// precedence.
     pub fn find(&self, name: &str) -> Option<&DeclaredName>
         ensures { option_copied result ≡ entry_named self.now name.now }
     {
@@ -57,7 +56,7 @@ impl Scope {
             .find(|entry| entry.name.as_str().eq_ignore_ascii_case(name))
     }
 
-    /// The names that are known in a loop: its variable as well.
+    /// Returns the scope inside a loop, which also has its variable. Errors: out of memory.
     pub fn with_loop(&self, alloc: Global, variable: &Identifier) -> Result<Scope, NoMemory>
         ensures { IfOk result (λ inner. inner ≡ with_loop self.now (identifier_view kept_place variable.now)) }
     {

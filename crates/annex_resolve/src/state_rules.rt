@@ -1,4 +1,4 @@
-//! What is wrong with the states of an annex.
+//! The violations of the states of an annex.
 ghost use Rattle.std.specs.Prelude.{◌≡◌, ◌++◌, OnOk, false, map, flat_map, slice_get};
 ghost use Rattle.std.specs.Option.{unwrap_or};
 ghost use Rattle.std.specs.List.{enumerate_from};
@@ -17,8 +17,8 @@ use aadl_tree::Transition;
 use pals_base::{BehaviourParts, ItemList, NoMemory, TryClone};
 use std::alloc::Global;
 
-// The states of a behaviour and the ways between them: its parts, how their transitions depart, and for
-// each state whether it is on a cycle of states that are not complete.
+// The states of a behaviour and the transitions between them: its parts, the sources and guards of its
+// transitions, and for each state whether it is on a cycle of states that are not complete.
 #[derive(Clone, Copy)]
 struct StateGraph<'b> {
     parts: &'b BehaviourParts,
@@ -26,7 +26,7 @@ struct StateGraph<'b> {
     cyclic: &'b ItemList<bool>,
 }
 
-// Adds a finding that names a state.
+// Appends a violation that names a state.
 fn add_named(
     alloc: Global,
     found: &mut ItemList<Violation>,
@@ -46,7 +46,7 @@ fn add_named(
     Ok(())
 }
 
-// Adds what is wrong with a state.
+// Appends the violations of a state.
 fn add_state(
     alloc: Global,
     graph: &StateGraph<'_>,
@@ -73,7 +73,7 @@ fn add_state(
     add_named(alloc, found, returns, state, CYCLE_WITHOUT_COMPLETE)
 }
 
-// The mark of a state. A number of no state has none.
+// The mark of a state. An undeclared state is not marked.
 fn is_marked(marks: &ItemList<bool>, state: usize) -> bool
     ensures { result ≡ unwrap_or (slice_get marks.now state) false }
 {
@@ -83,7 +83,7 @@ fn is_marked(marks: &ItemList<bool>, state: usize) -> bool
     }
 }
 
-// Adds what is wrong with states.
+// Appends the violations of states.
 fn add_states(
     alloc: Global,
     graph: &StateGraph<'_>,
@@ -100,7 +100,7 @@ fn add_states(
     Ok(())
 }
 
-/// Adds what is wrong with the states of an annex that begins at a place.
+/// Appends the violations of the states of an annex that begins at a position. Errors: out of memory.
 pub fn add_rules(
     alloc: Global,
     at: usize,

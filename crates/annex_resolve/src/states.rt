@@ -12,7 +12,7 @@ use aadl_tree::{AnnexTree, Identifier, StateDeclaration};
 use pals_base::{ItemList, NoMemory, StateDecl, Text, TryClone};
 use std::alloc::{AllocError, Global};
 
-/// A state of an annex: its place, its name, and what is declared of it.
+/// A state of an annex: its position, its name, and its attributes.
 #[derive(Drop)]
 pub struct StateAt {
     pub at: usize,
@@ -55,7 +55,7 @@ fn add_states(
     Ok(())
 }
 
-/// The states of an annex, in order.
+/// Returns the states of an annex, in order. Errors: out of memory.
 pub fn states_of(alloc: Global, annex: &AnnexTree) -> Result<ItemList<StateAt>, NoMemory>
     ensures { IfOk result (λ states. states ≡ states_of (annex_tree_view kept_place annex.now)) }
 {
@@ -68,7 +68,7 @@ pub fn states_of(alloc: Global, annex: &AnnexTree) -> Result<ItemList<StateAt>, 
     Ok(states)
 }
 
-// A number that 32 bits hold; more of anything is more than memory holds.
+// A number that fits 32 bits; larger numbers exceed the memory.
 fn to_number(at: usize) -> Result<u32, NoMemory>
     ensures { IfOk result (λ number. number ≡ at) }
 {
@@ -78,7 +78,7 @@ fn to_number(at: usize) -> Result<u32, NoMemory>
     Ok(at as u32)
 }
 
-// The first state of a name.
+// The first state with a name.
 fn named_state(states: &[StateAt], name: &str) -> Option<usize>
     ensures { result ≡ position (λ s. same_name s.name name.now) states.now }
 {
@@ -94,7 +94,8 @@ fn initial_state(states: &[StateAt]) -> Option<usize>
     states.iter().position(|state| state.initial)
 }
 
-/// The number of the state of a name, or that of no state.
+/// Returns the number of the state with a name, or the number of states if there is none. Errors: out of
+/// memory.
 pub fn state_number(states: &[StateAt], name: &str) -> Result<u32, NoMemory>
     ensures { IfOk result (λ number. number ≡ state_number states.now name.now) }
 {
@@ -104,7 +105,7 @@ pub fn state_number(states: &[StateAt], name: &str) -> Result<u32, NoMemory>
     }
 }
 
-/// The number of the initial state, or that of no state.
+/// Returns the number of the initial state, or the number of states if there is none. Errors: out of memory.
 pub fn first_initial(states: &[StateAt]) -> Result<u32, NoMemory>
     ensures { IfOk result (λ number. number ≡ first_initial states.now) }
 {
@@ -114,14 +115,14 @@ pub fn first_initial(states: &[StateAt]) -> Result<u32, NoMemory>
     }
 }
 
-// How many states are initial.
+// The number of initial states.
 fn initial_count(states: &[StateAt]) -> usize
     ensures { result ≡ length (filter (λ s. s.initial) states.now) }
 {
     states.iter().filter(|state| state.initial).count()
 }
 
-// Whether those that are initial are complete.
+// Whether all initial states are complete.
 fn initial_are_complete(states: &[StateAt]) -> bool
     ensures { result ≡ list_all (λ s. s.complete) (filter (λ s. s.initial) states.now) }
 {
@@ -138,7 +139,7 @@ pub fn has_initial(states: &[StateAt]) -> bool
     initial_count(states) == 1 && initial_are_complete(states)
 }
 
-/// The states as a behaviour has them.
+/// Returns the states of the behaviour. Errors: out of memory.
 pub fn declared_states(alloc: Global, states: &[StateAt]) -> Result<ItemList<StateDecl>, NoMemory>
     ensures { IfOk result (λ all. all ≡ map declared states.now) }
 {

@@ -40,7 +40,7 @@ fn resolve_guard(
     }
 }
 
-// Resolves what a transition does.
+// Resolves the actions of a transition.
 fn resolve_effect(
     alloc: Global,
     scope: &Scope,
@@ -56,7 +56,7 @@ fn resolve_effect(
     }
 }
 
-// Resolves a transition, and adds what is wrong with it.
+// Resolves a transition, and appends its violations.
 fn resolve_transition(
     alloc: Global,
     scope: &Scope,
@@ -81,7 +81,7 @@ fn resolve_transition(
     })
 }
 
-/// Resolves transitions in order, and adds what is wrong with them.
+/// Resolves transitions in order, and appends their violations. Errors: out of memory.
 pub fn resolve_transitions(
     alloc: Global,
     scope: &Scope,

@@ -8,7 +8,7 @@ ghost use Rattle.annex_resolve.specs.ExpressionTypesAndFindings.{is_base_types, 
 use aadl_tree::{Identifier, Reference};
 use pals_base::Kind;
 
-// Whether an identifier is a word, with capitals or small letters. Most are spelled like it.
+// Whether an identifier is a word, without regard to case. Most have the same spelling.
 #[tactic(auto, using(crate::proofs::EqualSpellings::same_spelling))]
 fn is_spelled(identifier: &Identifier, word: &str) -> bool
     ensures { result ≡ same_name identifier.now.spelling word.now }
@@ -17,7 +17,7 @@ fn is_spelled(identifier: &Identifier, word: &str) -> bool
     spelling == word || spelling.eq_ignore_ascii_case(word)
 }
 
-// Whether these are the names before a base type.
+// Whether these are the qualifiers of a base type.
 fn is_base_types(qualifiers: &[Identifier]) -> bool
     ensures { result ≡ is_base_types (map (identifier_view kept_place) qualifiers.now) }
 {
@@ -27,7 +27,7 @@ fn is_base_types(qualifiers: &[Identifier]) -> bool
     }
 }
 
-// Whether a reference is to the base type of a name.
+// Whether a reference is to the base type with a name.
 fn is_base_type(name: &str, reference: &Reference) -> bool
     ensures { result ≡ is_base_type name.now (reference_view kept_place reference.now) }
 {
@@ -36,7 +36,8 @@ fn is_base_type(name: &str, reference: &Reference) -> bool
         && reference.implementation.is_none()
 }
 
-/// The type that a reference names: `Base_Types::Integer` or `Base_Types::Boolean`, or none.
+/// Returns the type that a reference names: `Base_Types::Integer` or `Base_Types::Boolean`, or `None` for
+/// another type.
 pub fn kind_named(reference: &Reference) -> Option<Kind>
     ensures { result ≡ kind_named (reference_view kept_place reference.now) }
 {

@@ -1,4 +1,4 @@
--- From the machine's fate of a behaviour's tokens to the answer of parsing: its only tree, or its fault.
+-- From the machine's fate of a behaviour's tokens to the result of parsing: its only tree, or its fault.
 use Rattle.std.proofs.Common.{◌≡◌, sym, ℕ, ◌-◌, ◌<◌, ◌∙◌, ap, subst, refl, List, [], ◌∷◌, length, get_or, arith, suc}
 use Rattle.aadl_lex.specs.declared.token.Token.{Token}
 use Rattle.aadl_tree.proofs.SpellingParts.{written_spells}
@@ -54,7 +54,7 @@ pub is_behaviour : (text : List ℕ) (tokens : List Token) (t : AnnexTree ℕ) �
 is_behaviour text tokens t a =
     record { tree = t; spelled = written_spells (annex_tree_parts t) (spots_from true text tokens) [] a.written }
 
--- where the last token ends
+-- the end of the last token
 pub end_last : (ts : List Token) (d : Token) → 0 < length ts → (get_or ts (length ts - 1) d).end ≡ end_of ts
 end_last [] d some = absurd (omega arith)
 end_last (t ∷ []) d some = refl
@@ -69,7 +69,7 @@ at_fault text tokens end ss e a b f =
     faults text tokens e (subst (λ (l : List PlacedTerminal). FailsAs (fate 1 (end_of tokens) annex_body l) e) b
     (subst (λ (n : ℕ). FailsAs (fate 1 n annex_body ss) e) a f))
 
--- a terminal is left behind the behaviour
+-- a terminal follows the behaviour
 pub left_fault : (text : List ℕ) (tokens : List Token) (end : ℕ) (ss rest : List PlacedTerminal) (at : ℕ) → end ≡ end_of tokens
     → ss ≡ spots_from true text tokens → fate 1 end annex_body ss ≡ fate 1 end [] rest → 0 < length rest
     → at ≡ place end rest → IsFaultOfBehaviour text tokens (Syntax at)

@@ -1,4 +1,4 @@
--- Actions, one more of them, and what stands behind the last one.
+-- Actions, one more of them, and the tokens after the last one.
 use Rattle.std.proofs.Common.{◌≡◌, ℕ, ℤ, Bool, true, false, ◌+◌, ◌≤◌, ◌∙◌, sym, ap, refl, arith, subst, Option, Vec}
 use Rattle.std.proofs.Common.{Box, Global, option_map, List, [], ◌∷◌, ◌++◌, append_assoc, inl, inr}
 use Rattle.std.proofs.lemmas.List.{append-nil}
@@ -33,12 +33,12 @@ use Rattle.aadl_grammar.proofs.PartSequences.{then, marked, respelled, regroup}
 use Rattle.behaviour_parse.specs.declared.actions.LoopHead.{LoopHead}
 use Rattle.behaviour_parse.specs.proof.LoopAndChoiceParts.{head_parts, choice_parts}
 
--- a choice behind its `if`
+-- a choice after its `if`
 pub choice_reads : (x : Choice) {ss mid rest : List PlacedTerminal} → AtMark k.If ss mid → Reads (choice_parts x) mid rest
     → Reads (a.action_parts (choice_view kept_place x)) ss rest
 choice_reads x l b = respelled (ap a.action_parts (sym (view-out-choice kept_place x))) (marked l b)
 
--- a choice that is made of its parts
+-- a choice from its parts
 pub choice_made : (test : Expression) (x : Actions) (es : Vec Elsif Global) (o : Option (Box Actions Global))
     {ss rest : List PlacedTerminal}
     → Reads (a.test_parts (expression_view kept_place test)
@@ -61,7 +61,7 @@ pub begins_by : {x : Symbol} {kind : PlainTerminal} {ss rest : List PlacedTermin
     → move x kind ≡ takes f → Begins x ss
 begins_by {x} {kind} {ss} {rest} {f} l m = record { kind = kind; rest = rest; wanted = f; first = l; moves = m }
 
--- an end of a loop's range
+-- a bound of a loop's range
 pub bound_runs : (b : Bool) (outer end : ℕ) (below : Stack) {n : ℤ} (ss : List PlacedTerminal) {mid rest : List PlacedTerminal}
     → outer + depth below ≤ GREATEST_NESTING → IsMarked k.Minus b ss mid → At (whole n) mid rest
     → fate outer end (s.bound ∷ below) ss ≡ fate outer end below rest
@@ -146,7 +146,7 @@ mores_push ps xs ys x q p b =
     respelled (ap (λ l. ps ++ l) (sym (ap (λ l. a.mores_parts (mores_view kept_place l)) q ∙ mores_listed xs x)))
     (regroup ps (a.mores_parts (mores_view kept_place xs)) p b)
 
--- no `;` behind the last action, or one
+-- with or without a `;` after the last action
 pub not_ended : (ps qs : List (SpellingPart ℕ)) {ss rest : List PlacedTerminal} → Reads (ps ++ qs) ss rest
     → Reads (ps ++ (qs ++ may last_semicolon ∷ [])) ss rest
 not_ended ps qs {ss} {rest} p = regroup ps qs p (record { written = inl refl })
@@ -156,7 +156,7 @@ pub ended : (ps qs : List (SpellingPart ℕ)) {ss mid rest : List PlacedTerminal
 ended ps qs {ss} {mid} {rest} p l =
     regroup ps qs p (record { written = inr (rest, (_, rest, l.whole, refl, refl), refl) })
 
--- behind a `;` further actions
+-- further actions after a `;`
 pub begins_from : (outer end : ℕ) (below : Stack) {ss : List PlacedTerminal} → Begins s.actions ss
     → fate outer end (s.after_semicolon ∷ below) ss ≡ fate outer end (s.actions ∷ below) ss
 begins_from outer end below b = enters_as outer end s.after_semicolon s.actions [] below refl refl b.first b.moves

@@ -1,4 +1,4 @@
--- A transition begins with a terminal, and its label, source and guard stand before its target.
+-- A transition begins with a terminal; its label, source and guard precede its target.
 use Rattle.std.proofs.Common.{◌≡◌, ◌∙◌, ap, sym, ℕ, ◌<◌, List, [], ◌∷◌, ◌++◌, length, append_assoc, Option, Some, None}
 use Rattle.aadl_tree.specs.declared.mark.Mark.TheVariants as k
 use Rattle.aadl_tree.specs.declared.annex.Transition.{Transition}
@@ -22,7 +22,7 @@ pub transition_begun : (t : Transition) {ss rest : List PlacedTerminal}
     → Reads (x.transition_parts (transition_view kept_place t)) ss rest → length rest < length ss
 transition_begun t a = plain_begun (transition_view kept_place t).label (transition_view kept_place t) a
 
--- where a transition starts, with its label, its guard in brackets, and where it leads
+-- the start of a transition, its label, its guard in brackets, and its target
 pub departed : (first second label source guard arrival : List (SpellingPart ℕ)) → label ++ source ≡ first ++ second
     → first ++ ((second ++ (plain k.GuardOpen ∷ (guard ++ plain k.GuardClose ∷ []))) ++ arrival)
     ≡ label ++ (source ++ (plain k.GuardOpen ∷ (guard ++ (plain k.GuardClose ∷ arrival))))

@@ -48,7 +48,7 @@ fn bound(reader: &Reader<'_>, at: usize) -> Parsed<Bound>
     }
 }
 
-/// What stands in the parentheses of a loop.
+/// The content of the parentheses of a loop.
 #[derive(Drop)]
 struct LoopHead {
     variable: Identifier,
@@ -84,7 +84,7 @@ fn loop_head(reader: &Reader<'_>, at: usize, room: usize) -> Parsed<LoopHead>
     Ok((head, end))
 }
 
-/// Whether an action comes first.
+/// Returns whether an action begins at this index.
 fn begins_action(reader: &Reader<'_>, at: usize) -> bool
     ensures { MatchBool result (Begins s.actions (here reader.now at)) (MissAll (rows s.actions) (here reader.now at)) }
 {
@@ -100,7 +100,7 @@ fn begins_action(reader: &Reader<'_>, at: usize) -> bool
     }
 }
 
-/// A loop of its head and its body.
+/// Returns the loop with this head and body.
 fn turns(head: LoopHead, at: usize, body: Block) -> Loop
     ensures { loop_view kept_place result
         ≡ loop at (identifier_view kept_place head.variable) (reference_view kept_place head.data_type) head.low
@@ -168,7 +168,7 @@ fn action(reader: &Reader<'_>, at: usize, room: usize) -> Parsed<Action>
     plain_action(reader, at, room)
 }
 
-/// A loop behind its `for`.
+/// Parses a loop after its `for`.
 #[cycle(action)]
 fn repetition(reader: &Reader<'_>, at: usize, room: usize) -> Parsed<(LoopHead, Block)>
     ensures { Parses reader.now (Room room) (s.loop_head ∷ s.block ∷ [])

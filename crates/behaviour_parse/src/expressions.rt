@@ -1,4 +1,4 @@
-//! Parses expressions, from operands up to relations that logic operators join.
+//! Parses expressions, from operands up to relations joined by logical operators.
 ghost use Rattle.std.specs.Prelude.{[], ◌∷◌, ◌++◌, MatchOption};
 ghost use Rattle.aadl_tree.specs.Expressions.{primary_parts, factor_parts, term_parts, terms_parts, sum_parts};
 ghost use Rattle.aadl_tree.specs.Expressions.{relation_parts, expression_parts, multiply_mark, relation_mark};

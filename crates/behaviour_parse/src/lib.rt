@@ -1,7 +1,8 @@
-//! Behaviours of threads, read from their tokens.
+//! The parser of behaviour annexes.
 //!
-//! [`parse_annex`] gives the tree of a behaviour annex, or the fault at the least place. Expressions,
-//! actions and declarations are read one inside the other, no deeper than the greatest nesting.
+//! [`parse_annex`] returns the tree of a behaviour annex, or its first fault. It is a recursive-descent parser;
+//! its recursion is bounded by the nesting limit. Its contract states that the tree is the only one of the
+//! tokens, and that otherwise the fault is the one that the grammar defines. It does not check names or types.
 #![tactic(auto)]
 
 ghost use Rattle.std.specs.Prelude.{ℕ, ◌≡◌, List, IfOk, IfErr};
@@ -25,7 +26,7 @@ use aadl_tree::{AnnexTree, GREATEST_NESTING};
 pub use annex::body;
 use std::alloc::Global;
 
-/// Where the last token ends.
+/// The end of the last token.
 fn end_of(tokens: &[Token]) -> usize
     ensures { result ≡ end_of tokens.now }
 {
@@ -36,8 +37,8 @@ fn end_of(tokens: &[Token]) -> usize
     tokens[count - 1].end
 }
 
-/// The tree of the tokens between the `{**` and the `**}` of a behaviour annex, or the fault at the
-/// least place; the end of the tokens is the end of the last one.
+/// Returns the tree of the tokens between the `{**` and the `**}` of a behaviour annex. Errors: the first
+/// fault; the end of the last token counts as the end of the tokens.
 pub fn parse_annex(alloc: Global, text: &[u8], tokens: &[Token]) -> Result<AnnexTree, ParseFault>
     requires { AreAmongTokensOf text.now tokens.now }
     ensures tree { IfOk result (λ tree. IsOnlyBehaviourOf text.now tokens.now (annex_tree_view kept_place tree)) }
@@ -50,7 +51,7 @@ pub fn parse_annex(alloc: Global, text: &[u8], tokens: &[Token]) -> Result<Annex
         terminals: terminals.as_slice(),
         end: end_of(tokens),
     };
-    // The `{**` of the annex is open round its tokens.
+    // The `{**` of the annex is open around its tokens.
     let (tree, next) = body(&reader, 0, GREATEST_NESTING - 1)?;
     if next < terminals.len() {
         return Err(ParseFault::Syntax {
@@ -60,8 +61,8 @@ pub fn parse_annex(alloc: Global, text: &[u8], tokens: &[Token]) -> Result<Annex
     Ok(tree)
 }
 
-/// Tokens are a behaviour, or stop being the beginning of one at one place, or are nested too deep
-/// at one place: no two of these hold.
+/// Tokens are a behaviour, have a first syntax fault, or have a first opener beyond the nesting limit: no two
+/// of these hold.
 pub fn one_answer()
     ensures tree { (text : List ℕ) (tokens : List Token) (t u : Tree ℕ) → IsBehaviourOf text tokens t
         → IsBehaviourOf text tokens u → t ≡ u }

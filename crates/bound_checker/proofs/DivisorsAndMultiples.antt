@@ -1,4 +1,4 @@
--- The greatest common divisor by Euclid's steps, and the least common multiple that it gives.
+-- The greatest common divisor by Euclid's algorithm, and the least common multiple computed from it.
 use Rattle.std.proofs.Common.{◌≡◌, ℕ, ◌+◌, ◌-◌, ◌*◌, ◌/◌, ◌%◌, ◌<◌, subst, sym, ap, ◌∙◌, arith}
 use Rattle.std.specs.Int.{◌∣◌}
 use Rattle.std.proofs.Math.Nat.{mul_comm, dvd-mod_iff, dvd-sub, dvd-mul_left, dvd-mul_right, dvd-mul_right_of_dvd}
@@ -6,7 +6,7 @@ use Rattle.std.proofs.Math.Nat.{dvd_refl, dvd-zero, mul-dvd-mul_left, mul-dvd-mu
 use Rattle.std.proofs.Math.Nat.{pos_of_dvd_of_pos, div-mul_cancel, mul-div_cancel'}
 use Rattle.bound_checker.specs.proof.DivisorsAndMultiples.{IsGreatestCommonDivisor, IsLeastCommonMultiple}
 
--- ---- Euclid's steps
+-- ---- Euclid's algorithm
 rest_times : (n a b : ℕ) → n * a - n * b * (a / b) ≡ n * (a % b)
 rest_times n a b =
     let whole : a ≡ b * (a / b) + a % b = omega arith in

@@ -25,7 +25,7 @@ last_of_All : (P : ℕ → Type 0) (xs : List ℕ) (x : ℕ) → All P (xs ++ x 
 last_of_All P [] x all = All-head P x [] all
 last_of_All P (y ∷ ys) x all = last_of_All P ys x (All-tail P y _ all)
 
--- ---- below a cut, the multiples of a number are those of the number cut
+-- ---- below the cap, the multiples of a number are the multiples of the capped number
 mod-cut : (t m cut : ℕ) → t < cut → t % min m cut ≡ t % m
 mod-cut t m cut below = elim (cases_lt m cut) [
   | inl less ↦ ap (λ x. t % x) (min-eq_left (omega arith))
@@ -69,7 +69,7 @@ first_multiple m s t low some of_s of_t above near = elim (cases_lt s t) [
   | inr more ↦ more
 ]
 
--- ---- the greatest rate
+-- ---- the maximum rate
 greatest_from : (rates : List ℕ) (k : ℕ) → IsRate k → All IsRate rates → IsRate (fold max k rates)
 greatest_from [] k first all = first
 greatest_from (x ∷ rates) k first all =
@@ -80,8 +80,8 @@ greatest_from (x ∷ rates) k first all =
 pub greatest-IsRate : (rates : List ℕ) → All IsRate rates → IsRate (greatest_rate rates)
 greatest-IsRate rates all = greatest_from rates 1 (record { some_step = omega arith; at_most = omega arith }) all
 
--- ---- the least multiple
--- of the numbers that a call has: the least period, and the first multiple of the common one from there on
+-- ---- the smallest suitable period
+-- for the numbers in a call: the minimum period, and the first multiple of the common one from there on
 pub record IsFirst (g : Gamma) (rates : List ℕ) (common t : ℕ) : Type 0 where
   pub multiples : HasMultiplesOf rates common
   pub meets : least_period g (greatest_rate rates) ≤ t
@@ -123,7 +123,7 @@ first_of_call g rates rate least common t multiples greatest is meets near multi
       multiple = multiple;
     }
 
--- ---- nothing leaves 64 bits
+-- ---- no number exceeds 64 bits
 pub next_multiple-fits : (g : Gamma) (rate least common : ℕ) → IsWithinHour g → rate ≤ 64 → least ≡ least_period g rate
     → 1 ≤ common → common ≤ HOUR + 1
     → next_multiple_of least common < 2 ^ 64

@@ -1,4 +1,4 @@
-//! The backoff and the least period that the bounds give, and whether a period is no shorter.
+//! The backoff and the minimum period of the timing bounds, and the check of a period.
 ghost use Rattle.std.specs.Prelude.{◌≡◌, ◌≤◌, ◌↔◌, IsTrue};
 ghost use Rattle.pals_base.specs.PeriodBoundAndReleases.{backoff, least_period};
 ghost use Rattle.pals_base.specs.declared.limits.TheConstants.{RATE};
@@ -6,8 +6,8 @@ ghost use Rattle.bound_checker.specs.proof.OverflowLimits.{IsWithinHour};
 
 use pals_base::{Gamma, Nanos};
 
-/// How long a node waits with its outputs after its alarm, so that none arrives before its target's
-/// round begins: twice the skew less what the fastest message takes, and 0 where the network is slow
+/// Returns the output backoff: how long after its alarm a node delays its outputs, so that none arrives before
+/// its target's round begins. It is twice the skew minus the minimum network delay, or 0 if the network is slow
 /// enough.
 pub fn backoff(gamma: &Gamma) -> Nanos
     requires { IsWithinHour gamma.now }
@@ -16,7 +16,7 @@ pub fn backoff(gamma: &Gamma) -> Nanos
     gamma.backoff() as Nanos
 }
 
-/// The least period that the bound allows where `rate` is the greatest rate of the design.
+/// Returns the minimum period that the bound allows if `rate` is the maximum rate of the design.
 pub fn least_period(gamma: &Gamma, rate: u32) -> Nanos
     requires gamma { IsWithinHour gamma.now }
     requires rate { rate ≤ RATE }
@@ -25,7 +25,7 @@ pub fn least_period(gamma: &Gamma, rate: u32) -> Nanos
     gamma.least_period(rate) as Nanos
 }
 
-/// Whether the period `t` meets the bound where `rate` is the greatest rate of the design.
+/// Returns whether the period `t` satisfies the bound if `rate` is the maximum rate of the design.
 pub fn meets(gamma: &Gamma, t: Nanos, rate: u32) -> bool
     requires gamma { IsWithinHour gamma.now }
     requires rate { rate ≤ RATE }

@@ -2,7 +2,7 @@
 ghost use Rattle.std.specs.Prelude.{◌*◌, ◌^◌, ◌<◌};
 ghost use Rattle.bound_checker.specs.proof.DivisorsAndMultiples.{IsGreatestCommonDivisor, IsLeastCommonMultiple};
 
-// The greatest number that divides both, by Euclid.
+// The greatest common divisor, by Euclid's algorithm.
 fn gcd(a: u64, b: u64) -> u64
     ensures { IsGreatestCommonDivisor a b result }
 {
@@ -16,7 +16,7 @@ fn gcd(a: u64, b: u64) -> u64
     high
 }
 
-// The least number above 0 that is a multiple of both.
+// Returns the least common multiple, which is positive.
 pub fn lcm(a: u64, b: u64) -> u64
     requires left { 0 < a }
     requires right { 0 < b }

@@ -1,4 +1,5 @@
-//! Laws of the bound: which steps are sent, and that messages arrive between the starts of rounds.
+//! Laws of the bound: which steps are sent, and that messages arrive between the starts of rounds. Each law is
+//! the contract of a function that does nothing.
 ghost use Rattle.std.specs.Prelude.{◌≡◌, ℕ, ◌+◌, ◌-◌, ◌*◌, ◌<◌, ◌≤◌, List};
 ghost use Rattle.pals_base.specs.declared.period_bound_and_releases.Gamma.{Gamma};
 ghost use Rattle.pals_base.specs.PeriodBoundAndReleases.{least_period, step_period, sent_steps, release_offset};
@@ -11,9 +12,9 @@ pub fn some_steps_are_sent()
     ensures all { (g : Gamma) (t k : ℕ) → sent_steps g t k ≤ k }
 {}
 
-/// No more steps would do: of a component whose steps are apart in time, each number of steps whose
-/// last one ends in time is sent. All are, where a step period is as long as a step executes, the
-/// slowest message takes, and twice the skew.
+/// The number of sent steps is the maximum possible: if consecutive steps start at different times, a step is
+/// sent if it ends early enough. All steps are sent if a step period is at least the sum of the maximum
+/// execution time, the maximum network delay, and twice the skew.
 pub fn all_steps_that_fit_are_sent()
     ensures most { (g : Gamma) (t k n : ℕ) → 0 < step_period t k → n ≤ k →
         (n - 1) * step_period t k + g.alpha_max + g.mu_max + 2 * g.eps ≤ t → n ≤ sent_steps g t k }
@@ -21,19 +22,19 @@ pub fn all_steps_that_fit_are_sent()
         g.alpha_max + g.mu_max + 2 * g.eps ≤ step_period t k → sent_steps g t k ≡ k }
 {}
 
-/// Between two steps there is time for one to execute, at every rate up to the greatest.
+/// Between two steps there is time to execute one, at every rate up to the maximum.
 pub fn steps_have_time_to_execute()
     ensures { (g : Gamma) (t k greatest : ℕ) → least_period g greatest ≤ t → 1 ≤ k → k ≤ greatest →
         g.alpha_max ≤ step_period t k }
 {}
 
-/// A message that is released takes at least twice the skew, counted from the alarm, to arrive.
+/// A message that is sent at the earliest send time arrives at least twice the skew after the alarm.
 pub fn releases_are_late_enough()
     ensures { (g : Gamma) (t k : ℕ) → 2 * g.eps ≤ release_offset g t k + g.mu_min }
 {}
 
-/// The slowest message that is released arrives at least twice the skew before the next alarm. So
-/// does one that waited for the last step that it carries.
+/// The slowest message that is sent at the earliest send time arrives at least twice the skew before the next
+/// alarm. So does a message that waited for the last step that it carries.
 pub fn releases_are_early_enough()
     ensures release { (g : Gamma) (t k greatest : ℕ) → least_period g greatest ≤ t →
         release_offset g t k + g.mu_max + 2 * g.eps ≤ t }
@@ -41,14 +42,14 @@ pub fn releases_are_early_enough()
         (sent_steps g t k - 1) * step_period t k + g.alpha_max + g.mu_max + 2 * g.eps ≤ t }
 {}
 
-/// The release of a round lies before the next alarm.
+/// The earliest send time of a round is before the next alarm.
 pub fn release_lies_within_its_round()
     ensures { (g : Gamma) (t k greatest : ℕ) →
         least_period g greatest ≤ t → 1 ≤ g.eps → release_offset g t k < t }
 {}
 
-/// What PALS rests on: a message of a round arrives after every node has started that round, and
-/// before any node starts the next.
+/// The main property of PALS: a message of a round arrives after every node has started that round, and before
+/// any node starts the next.
 pub fn messages_arrive_between_starts()
     ensures after { (g : Gamma) (t k round finished sent sent_reading arrived start reading : ℕ) →
         IsSent g t k round finished sent sent_reading → IsCarried g sent arrived →
@@ -59,8 +60,8 @@ pub fn messages_arrive_between_starts()
         IsStarted g t (round + 1) start reading → arrived < start }
 {}
 
-/// The least multiple is one number, and where there is one `None` is no answer. With a skew of at
-/// least 1 it is not 0.
+/// The least multiple is unique, and `None` is not a result if it exists. With a skew of at least 1 it is not
+/// 0.
 pub fn least_multiple_is_one_number()
     ensures one { (g : Gamma) (rates : List ℕ) (s t : ℕ) →
         IsLeastMultiple g rates s → IsLeastMultiple g rates t → s ≡ t }

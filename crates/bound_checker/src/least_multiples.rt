@@ -1,4 +1,4 @@
-//! The least multiple: the shortest period that meets the bound and that every rate divides.
+//! The least multiple: the shortest period that satisfies the bound and that every rate divides.
 ghost use Rattle.std.specs.Prelude.{◌≡◌, All, MatchOption};
 ghost use Rattle.bound_checker.specs.proof.OverflowLimits.{IsWithinHour, IsRate};
 ghost use Rattle.bound_checker.specs.LeastMultiples.{greatest_rate, IsLeastMultiple, HasNoMultiple};
@@ -9,11 +9,10 @@ use crate::common_multiple::lcm;
 use pals_base::limits::HOUR;
 use pals_base::{Gamma, Nanos};
 
-/// The least period that meets the bound and is a multiple of every rate. The bound is that of the
-/// greatest rate, or of rate 1 where there is none. `None` comes exactly where every such period is
-/// longer than one hour. Where the bound allows a period of 0 (skew, execution and network all take
-/// no time), the answer is 0, which is a multiple of every rate; with a skew of at least 1 it is
-/// never 0.
+/// Returns the smallest period that satisfies the bound and is a multiple of every rate. The bound is that of
+/// the maximum rate, or of rate 1 without rates. Returns `None` if and only if every such period is longer than
+/// one hour. The result can be 0 if skew, execution times and network delays are all 0; with a skew of at least
+/// 1 it is positive.
 pub fn least_multiple(gamma: &Gamma, rates: &[u32]) -> Option<Nanos>
     requires gamma { IsWithinHour gamma.now }
     requires rates { All IsRate rates.now }
@@ -26,7 +25,7 @@ pub fn least_multiple(gamma: &Gamma, rates: &[u32]) -> Option<Nanos>
     if period <= HOUR { Some(period) } else { None }
 }
 
-// The greatest of some rates, and 1 where there is none.
+// The maximum rate, or 1 without rates.
 fn greatest_rate(rates: &[u32]) -> u32
     requires { All IsRate rates.now }
     ensures value { result ≡ greatest_rate rates.now }
@@ -35,8 +34,8 @@ fn greatest_rate(rates: &[u32]) -> u32
     rates.iter().fold(1, |greatest, &rate| greatest.max(rate))
 }
 
-// The least common multiple of some rates, cut to one nanosecond more than an hour: no period is a
-// multiple of that, and so none of a longer one.
+// The least common multiple of these rates, capped at one nanosecond more than an hour: no period is a multiple
+// of a larger number.
 fn common_multiple(rates: &[u32]) -> u64
     requires { All IsRate rates.now }
     ensures { HasMultiplesOf rates.now result }

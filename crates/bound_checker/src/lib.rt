@@ -1,6 +1,9 @@
-//! The bound: which periods leave each message time to arrive. The formulas are `pals_base`'s
-//! definitions in `Bound`; the calls here compute the least period and the least multiple, and `laws`
-//! says what the bound gives. All times are nanoseconds. No call takes memory.
+//! The period bound: which periods leave each message time to arrive.
+//!
+//! The formulas are definitions of `pals_base`. The functions here compute the minimum period and the least
+//! multiple. The laws state the consequences of the bound: in each round, every message arrives after all nodes
+//! start the round and before any node starts the next one. All times are nanoseconds. No function allocates.
+//! The crate does not check that bounds or rates are within their limits; its preconditions require it.
 #![tactic(auto)]
 
 mod bound;

@@ -1,5 +1,4 @@
--- The design and the scenario of a bundle whose package is accepted, and the text that says why a package is
--- refused.
+-- The design and the scenario of a bundle with an accepted package, and the output for a rejected package.
 use Rattle.std.specs.Prelude.{ℕ, ◌≡◌, ◌≢◌, List, [], ◌++◌, ◌⊎◌}
 use Rattle.aadl_tree.specs.Declarations.{PackageTree}
 use Rattle.aadl_names.specs.declared.fault.PackageFault.{PackageFault}
@@ -16,14 +15,14 @@ use Rattle.bundle_designs.specs.ParsedBundles.{IsParsed}
 use Rattle.aadl_names.specs.declared.fault.PackageFault.TheVariants as flat
 
 -- ---- packages
--- The package has no instance below the root of this name, and the text names its first fault.
+-- The package has no instance model below the root of this name, and the text names its first fault.
 pub record IsFaulty (text : List ℕ) (tree : PackageTree ℕ) (root written : List ℕ) : Type 0 where
   pub fault : PackageFault
   pub faulty : IsFault tree root fault
   pub named : fault ≢ flat.Memory
   pub text_is : written ≡ package_fault_line text fault ++ line_end
 
--- Something is wrong with the instance, and the text names all that is.
+-- The instance model has violations, and the text names all of them.
 pub record HasViolations (text : List ℕ) (tree : PackageTree ℕ) (root written : List ℕ) : Type 0 where
   pub parts : InstanceParts
   pub flat : IsFlat tree root parts
@@ -36,14 +35,14 @@ abbrev pub IsRefusedIn : List ℕ → PackageTree ℕ → List ℕ → List ℕ 
 IsRefusedIn text tree root written = IsFaulty text tree root written ⊎ HasViolations text tree root written
 
 -- ---- bundles
--- The design text has a tree, and this is the design of that package; this scenario stands behind the text.
+-- The design text has a tree, this is the design of its package, and the scenario is after the text.
 pub record IsAccepted (root bundle : List ℕ) (design : DesignParts) (scenario : List ℕ) : Type 0 where
   pub text : List ℕ
   pub tree : PackageTree ℕ
   pub parsed : IsParsed bundle text scenario tree
   pub design_in : IsDesignIn tree root design
 
--- The design text has a tree, and the package is refused.
+-- The design text has a tree, and the package is rejected.
 pub record IsPackageRefused (root bundle written : List ℕ) : Type 0 where
   pub text : List ℕ
   pub scenario : List ℕ

@@ -1,4 +1,4 @@
--- A bundle whose design text is one of the grammar.
+-- A bundle with a valid design text.
 use Rattle.std.specs.Prelude.{ℕ, List}
 use Rattle.aadl_tree.specs.Declarations.{PackageTree}
 use Rattle.aadl_tree.specs.TextTreesAndFaults.{IsTreeOf}

@@ -1,4 +1,4 @@
-//! From a bundle to the design that it means.
+//! From a bundle to its design.
 ghost use Rattle.std.specs.Prelude.{IfOk, IfErr};
 ghost use Rattle.aadl_tree.specs.proof.PackageViews.{placed};
 ghost use Rattle.design_laws.specs.PackageDesigns.{IsDesignIn};
@@ -15,16 +15,16 @@ use pals_base::Text;
 use pals_model::Design;
 use std::alloc::Global;
 
-/// What a bundle holds: a design that is accepted, and the bytes of a scenario.
+/// The content of a bundle: an accepted design, and the bytes of a scenario.
 #[derive(Drop)]
 pub struct Accepted<'b> {
     /// The design of the root.
     pub design: Design,
-    /// What stands behind the divider.
+    /// The bytes after the divider.
     pub scenario: &'b [u8],
 }
 
-/// The design of a root in a bundle, or why the bundle has none.
+/// Returns the design of a root in a bundle. Errors: the reason why the bundle has none.
 pub fn accept<'b>(alloc: Global, bundle: &'b [u8], root: &Text) -> Result<Accepted<'b>, Refusal>
     ensures accepted { IfOk result (λ a. IsAccepted root.now bundle.now a.design a.scenario.now) }
     ensures refused { IfErr result (IsRefusal root.now bundle.now) }

@@ -3,8 +3,8 @@ ghost use Rattle.std.specs.Prelude.{◌≡◌, ◌<◌, length, MatchOption};
 ghost use Rattle.std.specs.Option.{option_copied};
 ghost use Rattle.bundle_designs.specs.Bundles.{behind_line_end, divided_at, IsSplit, HasNoDivider};
 
-/// The design's text, which ends where the first line `%%%` begins, and what stands behind that line.
-/// It is none exactly where no line is `%%%`, ended by LF, CR LF or the bundle's end.
+/// Returns the design's text, which ends at the start of the first line `%%%`, and the bytes after that line.
+/// Returns `None` if and only if no line is `%%%`, ended by LF, CR LF or the bundle's end.
 pub fn split(bundle: &[u8]) -> Option<(&[u8], &[u8])>
     ensures { MatchOption result (HasNoDivider bundle.now) (λ parts. IsSplit bundle.now parts.0.now parts.1.now) }
 {
@@ -16,7 +16,7 @@ pub fn split(bundle: &[u8]) -> Option<(&[u8], &[u8])>
     None
 }
 
-// What stands behind the line that begins at a place, where it is `%%%`.
+// The bytes after the line that begins at a position, if the line is `%%%`.
 fn divided_at(bundle: &[u8], at: usize) -> Option<&[u8]>
     requires { at < length bundle.now }
     ensures { option_copied result ≡ divided_at bundle.now at }
@@ -30,7 +30,7 @@ fn divided_at(bundle: &[u8], at: usize) -> Option<&[u8]>
     }
 }
 
-// What stands behind the end of a line.
+// The bytes after the end of a line.
 fn behind_line_end(line: &[u8]) -> Option<&[u8]>
     ensures { option_copied result ≡ behind_line_end line.now }
 {

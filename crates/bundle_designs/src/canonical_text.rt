@@ -8,8 +8,8 @@ use crate::refusal::Refusal;
 use aadl_print::print;
 use std::alloc::Global;
 
-/// The canonical text of a bundle's design, or why the bundle has none. What stands behind the divider
-/// is not looked at.
+/// Returns the canonical text of a bundle's design. Ignores the bytes after the divider. Errors: the reason why
+/// the bundle has no canonical text.
 pub fn print_bundle(alloc: Global, bundle: &[u8]) -> Result<Vec<u8>, Refusal>
     ensures printed { IfOk result (λ text. IsPrinted bundle.now text.items) }
     ensures refused { IfErr result (IsTextRefusal bundle.now) }

@@ -11,18 +11,19 @@ use aadl_parse::parse;
 use aadl_tree::PackageTree;
 use std::alloc::Global;
 
-/// A bundle whose design text is read.
+/// A bundle with a parsed design text.
 #[derive(Drop)]
 pub struct ParsedBundle<'b> {
-    /// The design's text, in front of the divider.
+    /// The design's text, before the divider.
     pub text: &'b [u8],
     /// The tree of that text.
     pub tree: PackageTree,
-    /// What stands behind the divider.
+    /// The bytes after the divider.
     pub scenario: &'b [u8],
 }
 
-/// The tree of a bundle's design text, or why it has none. What stands behind the divider is not looked at.
+/// Returns the tree of a bundle's design text. Ignores the bytes after the divider. Errors: the reason why the
+/// text has no tree.
 pub fn parse_bundle<'b>(alloc: Global, bundle: &'b [u8]) -> Result<ParsedBundle<'b>, Refusal>
     ensures parsed { IfOk result (λ p. IsParsed bundle.now p.text.now p.scenario.now (placed p.tree)) }
     ensures refused { IfErr result (IsTextRefusal bundle.now) }

@@ -1,14 +1,14 @@
-//! Why a bundle has no design.
+//! The reason why a bundle has no design.
 use std::alloc::AllocError;
 
-/// Why a bundle has no design: the text that says so, or that there was not enough memory.
+/// The reason why a bundle has no design: the output that states it, or an allocation failure.
 #[derive(Drop)]
 pub enum Refusal {
-    /// The bundle has no design text of the grammar: no line divides it, or its text has a fault.
+    /// The bundle has no valid design text: it has no dividing line, or its text has a fault.
     Text(Vec<u8>),
-    /// The package has no design below the root: it has a fault, or something is wrong with its instance.
+    /// The package has no design below the root: it has a fault, or its instance model has violations.
     Design(Vec<u8>),
-    /// There was not enough memory.
+    /// Out of memory.
     Memory,
 }
 

@@ -1,4 +1,4 @@
-//! The texts that say why a package has no design.
+//! The outputs for packages without a design.
 ghost use Rattle.std.specs.Prelude.{◌≡◌, ◌≢◌, ◌++◌, IfOk, OnOk};
 ghost use Rattle.aadl_names.specs.declared.fault.PackageFault.{PackageFault};
 ghost use Rattle.pals_model.specs.RoundTexts.{line_end, text_of as lines_text};
@@ -11,8 +11,8 @@ use pals_base::NoMemory;
 use pals_report::{add_package_fault, add_violations};
 use std::alloc::{AllocError, Global};
 
-/// The text of a package with this fault. That there is not enough memory is no fault of a package,
-/// and is passed on.
+/// Returns the output for a package with this fault. An allocation failure is not a fault of a package, and is
+/// returned as an error.
 pub fn refused_package(
     alloc: Global,
     text: &[u8],
@@ -29,7 +29,7 @@ pub fn refused_package(
     Ok(line)
 }
 
-/// The text of an instance in which all this is wrong.
+/// Returns the output for an instance model with these violations. Errors: out of memory.
 pub fn refused_instance(
     alloc: Global,
     text: &[u8],

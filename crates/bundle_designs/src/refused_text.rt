@@ -1,4 +1,4 @@
-//! The texts that say why the design text of a bundle is refused.
+//! The outputs for rejected design texts.
 ghost use Rattle.std.specs.Prelude.{◌≡◌, ◌≢◌, ◌++◌, IfOk, OnOk};
 ghost use Rattle.aadl_parse.specs.declared.text_fault.TextFault.{TextFault};
 ghost use Rattle.pals_model.specs.RoundTexts.{line_end};
@@ -9,7 +9,7 @@ use pals_base::NoMemory;
 use pals_report::{add_no_divider, add_text_fault};
 use std::alloc::{AllocError, Global};
 
-/// The text of a bundle that no line divides.
+/// Returns the output for a bundle without a dividing line. Errors: out of memory.
 pub fn undivided(alloc: Global, bundle: &[u8]) -> Result<Vec<u8>, NoMemory>
     ensures { IfOk result (λ text. text.items ≡ no_divider_line bundle.now ++ line_end) }
 {
@@ -18,8 +18,8 @@ pub fn undivided(alloc: Global, bundle: &[u8]) -> Result<Vec<u8>, NoMemory>
     Ok(text)
 }
 
-/// The text of a design text with this fault. That there is not enough memory is no fault of a
-/// text, and is passed on.
+/// Returns the output for a design text with this fault. An allocation failure is not a fault of a text, and is
+/// returned as an error.
 pub fn refused_text(alloc: Global, design: &[u8], fault: TextFault) -> Result<Vec<u8>, NoMemory>
     ensures text { IfOk result (λ text. text.items ≡ text_fault_line design.now fault ++ line_end) }
     ensures named { OnOk result (fault ≢ TextFault.Memory) }

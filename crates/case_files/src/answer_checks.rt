@@ -1,13 +1,14 @@
-//! What a case asks, and whether an answer is the one that it has.
+//! The question of a case, and the comparison with the expected output.
 use std::{fs, io};
 
-/// A program that answers cases.
+/// A program under test.
 pub trait Answers {
-    /// What it answers to a case, in lines.
+    /// Returns the output for a case, in lines. Errors: a file of the case cannot be read.
     fn answer(&self, rt: &HostRuntime, case: &str) -> io::Result<Vec<u8>>;
 }
 
-/// Writes of each case in the files of these names whether a program answers it right.
+/// Prints, for each case in the files with these names, whether the output of the program is the expected one.
+/// Errors: a file cannot be read, or standard output fails.
 pub fn check<P: Answers>(rt: &HostRuntime, program: &P, names: &[&str]) -> io::Result<()> {
     for name in names {
         check_file(rt, program, name)?;
@@ -44,7 +45,7 @@ fn check_case<P: Answers>(
     check_answer(rt, name, number, case, answer.as_slice())
 }
 
-/// Writes whether the answer to a case is right, and an answer that is wrong.
+/// Prints whether the output for a case is the expected one, and prints a wrong output.
 pub fn check_answer(
     rt: &HostRuntime,
     name: &str,
@@ -59,7 +60,7 @@ pub fn check_answer(
     println!(rt; "{name} {number}: wrong\n{text}")
 }
 
-// Whether the lines that a case has for its answer are this text.
+// Whether the expected output of a case is this text.
 fn is_answer(case: &str, text: &[u8]) -> bool {
     let mut left = text;
     for line in case.lines().filter_map(answer_line) {
@@ -71,18 +72,18 @@ fn is_answer(case: &str, text: &[u8]) -> bool {
     left.is_empty()
 }
 
-// The line of an answer that a line of a case has.
+// The line of the expected output in a line of a case.
 fn answer_line(line: &str) -> Option<&str> {
     let rest = line.strip_prefix(">")?;
     Some(rest.strip_prefix(" ").unwrap_or(rest))
 }
 
-// What stands behind a line of a text.
+// The bytes after a line, if the text begins with it.
 fn behind<'a>(text: &'a [u8], line: &str) -> Option<&'a [u8]> {
     text.strip_prefix(line.as_bytes())?.strip_prefix(b"\n")
 }
 
-/// What stands behind a word in a case, on the first line with that word; nothing where there is none.
+/// Returns the rest of the first line of a case with a keyword; empty if there is none.
 pub fn word<'a>(case: &'a str, word: &str) -> &'a str {
     let mut lines = case.lines().filter_map(|line| line.split_once(' '));
     match lines.find(|(first, _)| *first == word) {
@@ -91,7 +92,7 @@ pub fn word<'a>(case: &'a str, word: &str) -> &'a str {
     }
 }
 
-/// What a case asks.
+/// Returns the question of a case.
 pub fn asked(case: &str) -> &str {
     word(case, "$")
 }

@@ -1,9 +1,9 @@
-//! How the text of a case is made.
+//! Builds the input text of a case.
 use std::alloc::Global;
 use std::io::ErrorKind::InvalidData;
 use std::{fs, io};
 
-/// The text that a case asks of.
+/// Returns the input text of a case. Errors: a file of the case cannot be read.
 pub fn text_of(rt: &HostRuntime, case: &str) -> io::Result<Vec<u8>> {
     let mut text = Vec::new(rt.alloc());
     for line in case.lines() {
@@ -13,7 +13,7 @@ pub fn text_of(rt: &HostRuntime, case: &str) -> io::Result<Vec<u8>> {
     Ok(text)
 }
 
-// Adds what a line says, or changes what there is.
+// Appends the text of a line, or changes the text so far.
 fn add(rt: &HostRuntime, text: &mut Vec<u8>, word: &str, rest: &str) -> io::Result<()> {
     match word {
         "text" => add_line(text, rest),
@@ -50,13 +50,13 @@ fn add_file(rt: &HostRuntime, text: &mut Vec<u8>, name: &str) -> io::Result<()> 
     Ok(())
 }
 
-// A number, and what stands behind it and a blank.
+// A number, and the text after it and a blank.
 fn counted(rest: &str) -> Option<(usize, &str)> {
     let (count, rest) = rest.split_once(' ')?;
     Some((count.parse::<usize>().ok()?, rest))
 }
 
-// The first and the last of some lines, and a name.
+// The first and the last line number, and a name.
 fn span(rest: &str) -> Option<(usize, usize, &str)> {
     let (first, rest) = counted(rest)?;
     let (last, name) = counted(rest)?;
@@ -78,12 +78,12 @@ fn add_lines(rt: &HostRuntime, text: &mut Vec<u8>, rest: &str) -> io::Result<()>
     add_span(text, file.as_str(), first, last)
 }
 
-// What stands before a part of a text, and behind it.
+// The text before a part, and the text after it.
 fn around<'a>(text: &'a [u8], part: &str) -> Option<(&'a str, &'a str)> {
     std::str::from_utf8(text).ok()?.split_once(part)
 }
 
-// A text in which the first such part is replaced.
+// A text in which the first occurrence of a part is replaced.
 fn replaced(alloc: Global, text: &[u8], old: &str, new: &str) -> io::Result<Vec<u8>> {
     let (front, back) = around(text, old).ok_or(InvalidData)?;
     Ok([front, new, back].join(alloc, "")?.into_bytes())

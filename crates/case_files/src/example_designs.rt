@@ -1,6 +1,6 @@
-//! Designs that tests of several crates are about, each as a bundle without a scenario.
+//! Designs for the tests of several crates, each as a bundle without a scenario.
 
-/// Two counters, each of which adds 1 and the other's last sum to its own.
+/// Two counters; each adds 1 and the other's last sum to its own sum.
 pub const TWO_COUNTERS: &str = "package Two\n\
 public\n\
 with Base_Types;\n\

@@ -1,22 +1,25 @@
-//! Cases that stand as texts in the data of a program: what is asked, and what is to be answered.
+//! Test cases as text files in the data of a test program: a question, and the expected output.
 //!
-//! A file `NAME.cases` has cases with an empty line between two of them. Each line of a case begins
-//! with a word or a sign: `$` stands before what is asked, and `>` before each line that is to be
-//! answered. The text that the question is about is made line by line, and these words add to it:
+//! [`check`] prints for each case whether the output of the program under test is the expected one. The crate
+//! has no contracts.
+//!
+//! A file `NAME.cases` has cases separated by empty lines. Each line of a case begins with a keyword or a sign:
+//! `$` marks the question, and `>` each line of the expected output. The input text of the question is built
+//! line by line. These keywords append to it:
 //!
 //! - `text TEXT`: the text and a line end.
 //! - `part TEXT`: the text without a line end.
 //! - `byte NUMBER`: one byte.
-//! - `file NAME`: the bytes of a file.
-//! - `lines FIRST LAST NAME`: lines of a file, which are counted from 1.
+//! - `file NAME`: the content of a file.
+//! - `lines FIRST LAST NAME`: lines of a file, counted from 1.
 //!
-//! And these change what stands there so far:
+//! These keywords change the text so far:
 //!
-//! - `change OLD ~> NEW`: the first such part is replaced.
-//! - `repeat COUNT PART`: the first such part stands there `COUNT` times.
-//! - `within NAME`: it stands in the place of the `@` in a file.
+//! - `change OLD ~> NEW`: replaces the first occurrence of `OLD`.
+//! - `repeat COUNT PART`: repeats the first occurrence of `PART`, so that it occurs `COUNT` times.
+//! - `within NAME`: inserts the text at the `@` of a file.
 //!
-//! Other lines are remarks.
+//! Other lines are comments.
 #![tactic(auto)]
 
 mod answer_checks;

@@ -1,4 +1,4 @@
--- The list that a loop over numbered things has made so far, and with one more.
+-- The list that a loop over numbered elements has built so far, and with one more element.
 use Rattle.std.proofs.Common.{◌≡◌, ℕ, ◌+◌, ◌<◌, List, [], ◌∷◌, ◌++◌, length, map, take, get_or, Option, Some, ap, sym}
 use Rattle.std.proofs.Common.{◌∙◌, append_assoc, arith}
 use Rattle.std.specs.Prelude.{flat_map, slice_get}
@@ -10,7 +10,7 @@ use Rattle.list_lemmas.proofs.ListOperations.{enumerate_from-push, length-take_w
 use Rattle.annex_resolve.proofs.MappedLists.{map_next}
 use Rattle.annex_resolve.proofs.ResolvedTermsAndSums.{take_next}
 
--- the number of one more thing is how many stand before it
+-- the number of the next element is the number of earlier ones
 numbered_more : {A : Type 0} (xs more : List A) (i : ℕ) (x : A) → more ≡ xs ++ x ∷ [] → length xs ≡ i
     → enumerate_from 0 more ≡ enumerate_from 0 xs ++ (i, x) ∷ []
 numbered_more xs more i x pushed long =
@@ -23,13 +23,13 @@ numbers_next v xs i x within is =
     let h = length-take_within xs i within in
     numbered_more (map v (take i xs)) (map v (take (i + 1) xs)) i (v x) (map_next v xs i x within is) (rw length-map h)
 
--- ---- one more by its number
+-- ---- one more element by its number
 pub next_numbered : {A : Type 0} (xs : List A) (i : ℕ) (x : A) → i < length xs → x ≡ get_or xs i x
     → enumerate_from 0 (take (i + 1) xs) ≡ enumerate_from 0 (take i xs) ++ (i, x) ∷ []
 next_numbered xs i x within is =
     numbered_more (take i xs) (take (i + 1) xs) i x (take_next xs i x within is) (length-take_within xs i within)
 
--- what stands at a number within a list
+-- the element at a number within a list
 pub record At {A : Type 0} (xs : List A) (i : ℕ) : Type 0 where
   pub value : A
   pub there : slice_get xs i ≡ Some value
@@ -45,7 +45,7 @@ standing_at (z ∷ zs) i within =
       is = sym (get_or_from_slice_get (z ∷ zs) i (get_or (z ∷ zs) i z) (get_or (z ∷ zs) i z) there);
     }
 
--- what is made of it, where it is looked up by its number
+-- its image, if it is looked up by its number
 pub made_next : {A B : Type 0} (f : A → B) (g : Option A → B) (xs : List A) (i : ℕ) (made more : List B) (y : B)
     → ((x : A) → g (Some x) ≡ f x) → i < length xs
     → made ≡ map f (take i xs) → y ≡ g (slice_get xs i) → more ≡ made ++ y ∷ [] → more ≡ map f (take (i + 1) xs)
@@ -54,7 +54,7 @@ made_next f g xs i made more y same within so_far is pushed =
     pushed ∙ ap (λ l. l ++ y ∷ []) so_far ∙ ap (λ v. map f (take i xs) ++ v ∷ []) (is ∙ ap g at.there ∙ same at.value)
     ∙ sym (map_next f xs i at.value within at.is)
 
--- what is found of one more
+-- the findings of one more element
 pub one_more : {A B C : Type 0} (f : ℕ × B → List C) (v : A → B) (xs : List A) (i : ℕ) (x : A) (b m a : List C)
     → i < length xs → x ≡ get_or xs i x
     → m ≡ b ++ flat_map f (enumerate_from 0 (map v (take i xs))) → a ≡ m ++ f (i, v x)
@@ -67,7 +67,7 @@ one_more f v xs i x b m a within is before added =
     ∙ ap (λ l. before_all ++ l) (append-nil (f (i, v x))) in
     added ∙ ap (λ l. l ++ f (i, v x)) before ∙ append_assoc b before_all (f (i, v x)) ∙ ap (λ l. b ++ l) (sym whole)
 
--- what is made of one more
+-- the image of one more element
 pub entries_next : {A C : Type 0} (f : ℕ × A → C) (xs : List A) (i : ℕ) (x : A) (b m a : List C) → i < length xs
     → x ≡ get_or xs i x
     → m ≡ b ++ map f (enumerate_from 0 (take i xs)) → a ≡ m ++ f (i, x) ∷ []

@@ -1,4 +1,4 @@
--- The associations of one name in a list of properties, and the first that counts in several lists.
+-- The associations of one name in a list of properties, and the first one that counts in several lists.
 use Rattle.std.proofs.Common.{◌≡◌, ◌∙◌, ℕ, Bool, true, false, cond, ◌&&◌, ◌++◌, List, [], ◌∷◌, Option, Some, refl, sym}
 use Rattle.std.proofs.Common.{ap, find}
 use Rattle.std.specs.Option.{option_or, option_and_then}
@@ -12,7 +12,7 @@ use Rattle.aadl_names.specs.NameResolution.{implementation_at, type_number, type
 use Rattle.aadl_uses.specs.proof.ImplementationTypes.{type_number_at}
 use Rattle.component_checks.specs.PropertyLookup.{type_lists, own_lists, root_lists, first_in}
 
--- ---- the first of those that count
+-- ---- the first of the ones that count
 hit_by : {A : Type 0} (p : A → Bool) (x : A) (xs : List A) (b : Bool) → (b && p x) ≡ true
     → find p (cond b (x ∷ xs) xs) ≡ Some x
 hit_by p x xs true h = rw h refl
@@ -31,7 +31,7 @@ pub named_later : (name : List ℕ) (x : Association ℕ) (xs : Associations ℕ
     → association_named (associate x xs) name ≡ association_named xs name
 named_later name x xs h = miss_by (is_named name) x _ (counts x) h
 
--- ---- a property of the implementation of a number: its own, or its type's
+-- ---- a property of the implementation with a number: its own, or its type's
 pub root_given : (tree : PackageTree ℕ) (n : ℕ) (p : PropertyName) (x : Implementation ℕ) (own : Option (Association ℕ))
     → Some x ≡ implementation_at tree n → own ≡ association_named x.properties (name_of p)
     → option_or own (first_in p (type_lists (type_numbered tree (type_number_at tree n))))
@@ -43,7 +43,7 @@ root_given tree n p x own is given =
     (first_in p (type_lists (type_numbered tree (option_and_then (type_number tree) o))))) (sym is)
     ∙ ap (λ o. first_in p (own_lists tree o)) is
 
--- ---- one list behind the other
+-- ---- concatenated lists
 
 pub first_of_one : (p : PropertyName) (xs : Associations ℕ) → first_in p (xs ∷ []) ≡ association_named xs (name_of p)
 first_of_one p xs = option_or-none (association_named xs (name_of p))

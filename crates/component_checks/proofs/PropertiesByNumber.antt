@@ -1,4 +1,4 @@
--- For ComponentProperties: what lists of properties say of a component, one list after another, by its numbers.
+-- For ComponentProperties: the properties of a component from one list after another, by its numbers.
 use Rattle.std.proofs.Common.{◌≡◌, ◌∙◌, ℕ, ◌+◌, ◌<◌, Bool, List, [], ◌∷◌, ◌++◌, length, take, get_or, reverse}
 use Rattle.std.proofs.Common.{append_assoc, Option, Some, None, refl, sym, ap, map}
 use Rattle.std.specs.Prelude.{flat_map, option_map, slice_get}
@@ -32,7 +32,7 @@ map_or f (Some a) b = refl
 timed : Option (Option ℕ) → Option Bool → ComponentProperties
 timed period periodic = record { period = period; periodic = periodic }
 
--- one list behind the other
+-- concatenated lists
 pub timed_append : (a b : List (Associations ℕ)) → timed_by (a ++ b) ≡ nearer (timed_by a) (timed_by b)
 unfolding timed
 timed_append a b =
@@ -102,7 +102,7 @@ connections_numbered tree n i =
     ∙ ap (λ l. slice_get l i) (of_connections d)
     ∙ slice_get-map (λ c. carried_by c.properties) (connections_of (implementation_in d)) i
 
--- ---- a list, and what is said by number behind it
+-- ---- a list, and the properties by number after it
 behind_list : (lists : List (Associations ℕ)) (xs : Associations ℕ) (own behind said result : ComponentProperties)
     → own ≡ timed_by (xs ∷ []) → behind ≡ said → said ≡ timed_by lists
     → result ≡ nearer own behind → result ≡ timed_by (xs ∷ lists)
@@ -137,7 +137,7 @@ sub_is tree at x owns number own behind result are declared names is_own is_behi
     ∙ own_numbered tree (referred tree x.classifier)) is
     ∙ ap (λ o. timed_by (sub_lists tree o)) declared
 
--- ---- one place further in
+-- ---- one component further in
 along_next : (tree : PackageTree ℕ) (root : ℕ) (subs : List SubAt) (i : ℕ) (x : SubAt) → i < length subs
     → x ≡ get_or subs i x
     → lists_along tree root (take (i + 1) subs) ≡ lists_at tree x ++ lists_along tree root (take i subs)

@@ -1,4 +1,4 @@
--- Times of at most an hour.
+-- Times of at most one hour.
 use Rattle.std.proofs.Common.{◌≡◌, ℕ, ◌*◌, ◌^◌, ◌<◌, ◌≤◌, Bool, true, false, cond, ◌&&◌, nat_eq, nat_le, Option, Some}
 use Rattle.std.proofs.Common.{None, refl, ap, subst, arith}
 use Rattle.std.specs.Option.{option_and_then}
@@ -34,14 +34,14 @@ pub ranges_twice : (o : Option (ℕ × ℕ))
 ranges_twice None = refl
 ranges_twice (Some r) = ranges_by r (nat_le r.0 HOUR && nat_le r.1 HOUR) refl
 
--- what is looked at twice is refused once
+-- a limit that is applied twice has the effect of one application
 pub skew_twice : (o : Option ℕ) → skew_of (option_and_then within_hour o) ≡ skew_of o
 skew_twice o = ap (option_and_then not_zero) (within_twice o)
 
 pub range_twice : (o : Option (ℕ × ℕ)) → range_of (option_and_then range_within o) ≡ range_of o
 range_twice o = ap (option_and_then in_order) (ranges_twice o)
 
--- ---- bounds that count are within an hour
+-- ---- valid timing bounds are within one hour
 zero_by : (t k : ℕ) (zero : Bool) → t ≤ HOUR → cond zero None (Some t) ≡ Some k → k ≤ HOUR
 zero_by t k true small is = absurd (none-some k is)
 zero_by t k false small is = subst (λ (n : ℕ). n ≤ HOUR) (same_Some t k is) small

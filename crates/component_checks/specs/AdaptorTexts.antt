@@ -13,7 +13,7 @@ is_digit c = nat_le 48 c && nat_le c 57
 abbrev pub is_first_digit : ℕ → Bool
 is_first_digit c = nat_le 49 c && nat_le c 57
 
--- a number of one or two digits, the first not 0
+-- a number of one or two digits, the first of which is not 0
 abbrev pub position_number : List ℕ → Option ℕ
 position_number [] = None
 position_number (d ∷ []) = if is_first_digit d then Some (d - 48) else None

@@ -1,5 +1,5 @@
--- The skew, ranges, bounds and rates of a design, and what refuses each: one that is missing or refused is None, and
--- silences what needs it.
+-- The skew, ranges, timing bounds and rates of a design. Each is `None` if it is missing or rejected; checks that
+-- need it then report nothing.
 use Rattle.std.specs.Prelude.{ℕ, ◌/◌, ◌%◌, Bool, not, ◌&&◌, nat_eq, nat_le, Option, Some, None, if◌then◌else◌}
 use Rattle.std.specs.Option.{option_and_then}
 use Rattle.pals_base.specs.declared.period_bound_and_releases.Gamma.{Gamma}
@@ -12,7 +12,7 @@ within_hour n = if nat_le n HOUR then Some n else None
 abbrev pub range_within : ℕ × ℕ → Option (ℕ × ℕ)
 range_within r = if nat_le r.0 HOUR && nat_le r.1 HOUR then Some r else None
 
--- ---- the three bounds: a skew above 0, and ranges that are not reversed
+-- ---- the three timing bounds: a positive skew, and ranges that are not reversed
 abbrev pub not_zero : ℕ → Option ℕ
 not_zero n = if nat_eq n 0 then None else Some n
 
@@ -32,7 +32,7 @@ gamma_by (Some eps) (Some alpha) None = None
 gamma_by (Some eps) (Some alpha) (Some mu) =
     Some (record { eps = eps; alpha_min = alpha.0; alpha_max = alpha.1; mu_min = mu.0; mu_max = mu.1 })
 
--- ---- rates: a component's period divides that of the root, 1 to 64 times
+-- ---- rates: a component's period divides the period of the root, 1 to 64 times
 abbrev pub divides : ℕ → ℕ → Bool
 divides p t = not (nat_eq p 0) && nat_eq (t % p) 0
 

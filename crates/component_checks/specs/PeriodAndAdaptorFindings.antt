@@ -1,4 +1,4 @@
--- What is wrong with periods, rates and adaptors, and with the root's period against the bound.
+-- The violations of periods, rates and adaptors, and of the root's period against the bound.
 use Rattle.std.specs.Prelude.{ℕ, ◌+◌, ◌/◌, Bool, true, false, not, ◌&&◌, nat_eq, nat_lt, List, [], ◌∷◌, ◌++◌, codes}
 use Rattle.std.specs.Prelude.{Option, Some, None, if◌then◌else◌}
 use Rattle.std.specs.Option.{is_some}
@@ -19,7 +19,7 @@ use Rattle.component_checks.specs.BoundsAndRates.{divides}
 abbrev pub name_and_number : List ℕ → ℕ → List ℕ
 name_and_number front n = front ++ codes " " ++ decimal n
 
--- ---- the period of a component at a path, below a root's
+-- ---- the period of a component at a path, against the root's
 abbrev pub period_findings : ℕ → List ℕ → Option ℕ → Option ℕ → List Violation
 period_findings at path None p = []
 period_findings at path (Some t) None = []
@@ -27,7 +27,7 @@ period_findings at path (Some t) (Some p) =
     if divides p t then found_if (nat_lt RATE (t / p)) at RATE_TOO_HIGH (name_and_number path (t / p))
     else finding at NOT_DIVISOR (name_and_number (name_and_number path p) t) ∷ []
 
--- a bad type takes every adaptor
+-- a missing type allows every adaptor
 abbrev pub kind_suits : Option Adaptor → Option Kind → Bool
 kind_suits a None = true
 kind_suits a (Some k) = suits_kind a k
@@ -36,7 +36,7 @@ abbrev pub is_right : Option Adaptor → Option Kind → ℕ → ℕ → Bool
 is_right None kind p q = false
 is_right (Some a) kind p q = is_allowed (Some a) p q && kind_suits (Some a) kind
 
--- ---- the rates at both ends of a link or a feed, its name and its adaptor: none is given, or a text, which may name no adaptor
+-- ---- the rates at both ends of a link or a feed, its name and its adaptor text
 abbrev pub adaptor_findings : ℕ → List ℕ → Option (Option Adaptor) → Option Kind → ℕ → ℕ → List Violation
 adaptor_findings at name None kind p q = finding at NO_ADAPTOR name ∷ []
 adaptor_findings at name (Some adaptor) kind p q =
@@ -48,7 +48,7 @@ pair_findings at name given kind p q =
     else if divides_or_divided p q then adaptor_findings at name given kind p q
     else finding at RATES_DONT_DIVIDE (name_and_number (name_and_number name p) q) ∷ []
 
--- ---- the root's period against the bound, with the greatest rate
+-- ---- the root's period against the bound, for the maximum rate
 abbrev pub bound_findings : ℕ → Option ℕ → Option Gamma → ℕ → List Violation
 bound_findings at None g rate = []
 bound_findings at (Some t) None rate = []

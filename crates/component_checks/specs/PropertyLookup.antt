@@ -1,4 +1,4 @@
--- Where a property is looked up.
+-- The look-up of properties.
 use Rattle.std.specs.Prelude.{◌-◌, List, [], ◌∷◌, ◌++◌, length, reverse, flat_map, Option, Some, None, slice_get, ℕ}
 use Rattle.std.specs.Option.{option_and_then, option_or}
 use Rattle.aadl_tree.specs.Values.{Association, Associations}
@@ -31,7 +31,7 @@ lists_at tree s = sub_lists tree (sub_of tree s)
 abbrev pub root_lists : PackageTree ℕ → ℕ → List (Associations ℕ)
 root_lists tree root = own_lists tree (implementation_at tree root)
 
--- at the subcomponents on the way from the root to a component, the innermost first, and last at the root
+-- at the subcomponents on the path from the root to a component, the innermost first, and last at the root
 abbrev pub lists_along : PackageTree ℕ → ℕ → List SubAt → List (Associations ℕ)
 lists_along tree root subs = flat_map (lists_at tree) (reverse subs) ++ root_lists tree root
 

@@ -1,4 +1,5 @@
--- What is wrong with the root: its period and the bounds, each missing, reversed or 0, and the period below the bound.
+-- The violations of the root: its period or a timing bound is missing, a range is reversed, the skew is 0, or the
+-- period is below the bound.
 use Rattle.std.specs.Prelude.{ℕ, Bool, false, not, nat_eq, nat_lt, List, [], ◌++◌, Option, Some, None}
 use Rattle.std.specs.Option.{option_and_then, is_some}
 use Rattle.pals_base.specs.declared.period_bound_and_releases.Gamma.{Gamma}
@@ -27,7 +28,7 @@ root_skew tree root = skew_of (time_at (at_root tree root Skew))
 abbrev pub root_range : PackageTree ℕ → ℕ → PropertyName → Option (ℕ × ℕ)
 root_range tree root p = range_of (range_at (at_root tree root p))
 
--- the bounds, where none is missing or refused
+-- the timing bounds, if none is missing or rejected
 abbrev pub root_gamma : PackageTree ℕ → ℕ → Option Gamma
 root_gamma tree root = gamma_by (root_skew tree root) (root_range tree root Execution) (root_range tree root Network)
 
@@ -46,7 +47,7 @@ missing tree root number details p =
 abbrev pub missing_bound : PackageTree ℕ → ℕ → PropertyName → List Violation
 missing_bound tree root p = missing tree root GAMMA_MISSING (shown p) p
 
--- ---- a skew of 0, and a range whose lower end is above the upper
+-- ---- a skew of 0, and a range whose lower end is above the upper end
 abbrev pub is_zero : Option ℕ → Bool
 is_zero None = false
 is_zero (Some n) = nat_eq n 0
@@ -66,7 +67,7 @@ abbrev pub reversed_range : PropertyName → Option (Association ℕ) → List V
 reversed_range p x =
     found_if (is_reversed (option_and_then range_within (range_at x))) (place_of x) GAMMA_ORDER (shown p)
 
--- ---- all, with the greatest rate of the components
+-- ---- all violations, for the maximum rate of the components
 abbrev pub missing_findings : PackageTree ℕ → ℕ → List Violation
 missing_findings tree root =
     missing tree root NO_PERIOD [] Period ++ missing_bound tree root Skew ++ missing_bound tree root Execution

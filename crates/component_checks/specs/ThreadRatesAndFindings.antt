@@ -1,5 +1,4 @@
--- The period and the rate of a component, the greatest rate of all, and what is wrong with a component: its
--- dispatch, and its period.
+-- The period and the rate of a component, the maximum rate, and the violations of a component's dispatch and period.
 use Rattle.std.specs.Prelude.{ℕ, max, Bool, false, not, List, ◌++◌, codes, fold, Option, Some, None}
 use Rattle.std.specs.Option.{option_and_then}
 use Rattle.aadl_tree.specs.Names.{Reference, same_name}
@@ -19,7 +18,7 @@ use Rattle.annex_resolve.specs.declared.violation.TheConstants.{NOT_PERIODIC}
 use Rattle.component_checks.specs.PropertyLookup.{lists_along, root_lists, sub_lists, innermost, first_in}
 use Rattle.component_checks.specs.Times.{time_at}
 
--- ---- periods, from the nearest place that gives one; none above an hour
+-- ---- periods, given nearest to the component; `None` above one hour
 abbrev pub root_period : PackageTree ℕ → ℕ → Option ℕ
 root_period tree root = option_and_then within_hour (time_at (first_in Period (root_lists tree root)))
 
@@ -29,7 +28,7 @@ own_period tree root subs = option_and_then within_hour (time_at (first_in Perio
 abbrev pub thread_rate : PackageTree ℕ → ℕ → ThreadAt → Option ℕ
 thread_rate tree root thread = rate_of (root_period tree root) (own_period tree root thread.subs)
 
--- the greatest rate that is not refused, or 1
+-- the maximum of the valid rates, or 1
 abbrev pub greater_rate : ℕ → Option ℕ → ℕ
 greater_rate k None = k
 greater_rate k (Some rate) = max k rate
@@ -37,7 +36,7 @@ greater_rate k (Some rate) = max k rate
 abbrev pub greatest_rate : List (Option ℕ) → ℕ
 greatest_rate rates = fold greater_rate 1 rates
 
--- ---- the dispatch is periodic: by the subcomponent, its implementation or its type
+-- ---- the dispatch is periodic: at the subcomponent, its implementation or its type
 abbrev pub is_word : List ℕ → Option (Reference ℕ) → Bool
 is_word word None = false
 is_word word (Some r) = same_name (spelled_reference r) word

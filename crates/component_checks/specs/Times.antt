@@ -1,4 +1,4 @@
--- The times of properties, and those that are above an hour.
+-- The times of properties, and the times above one hour.
 use Rattle.std.specs.Prelude.{ℕ, Bool, false, ◌&&◌, ◌||◌, nat_lt, List, [], flat_map, codes, Option, Some, None}
 use Rattle.std.specs.Prelude.{if◌then◌else◌}
 use Rattle.std.specs.Option.{option_and_then}
@@ -15,7 +15,7 @@ use Rattle.annex_resolve.specs.declared.violation.Violation.{Violation}
 use Rattle.annex_resolve.specs.FindingRecords.{found_if}
 use Rattle.annex_resolve.specs.declared.violation.TheConstants.{NUMBER_TOO_BIG}
 
--- what an association gives, if there is one
+-- the value that an association gives, if there is one
 abbrev pub time_at : Option (Association ℕ) → Option ℕ
 time_at x = option_and_then (λ a. time_of (association_value a)) x
 
@@ -38,7 +38,7 @@ is_too_big Execution v = has_above (range_of v)
 is_too_big Network v = has_above (range_of v)
 is_too_big _ v = false
 
--- the names by which findings speak of the properties with times
+-- the names of the properties with times in violations
 abbrev pub shown : PropertyName → List ℕ
 shown Period = codes "Period"
 shown Dispatch = codes "Dispatch_Protocol"
@@ -49,7 +49,7 @@ shown Execution = codes "Execution"
 shown Network = codes "Network"
 shown Initial = codes "Initial_Value"
 
--- ---- each association of a list at a kind of place
+-- ---- each association of a list, for one kind of property holder
 abbrev pub big_as : Association ℕ → PropertyName → List Violation
 big_as x p =
     found_if (is_named (name_of p) x && is_too_big p (association_value x)) (association_at x) NUMBER_TOO_BIG (shown p)
@@ -57,7 +57,7 @@ big_as x p =
 abbrev pub association_big : PropertyHolder → Association ℕ → List Violation
 association_big holder x = flat_map (big_as x) (recognised holder)
 
--- what applies elsewhere does not count
+-- associations that apply elsewhere are ignored
 abbrev pub counted_big : PropertyHolder → Association ℕ → List Violation
 counted_big holder x = if counts x then association_big holder x else []
 

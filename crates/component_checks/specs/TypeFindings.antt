@@ -1,4 +1,4 @@
--- What is wrong with the types of ports, variables and first values.
+-- The violations of the types of ports, variables and initial values.
 use Rattle.std.specs.Prelude.{ℕ, Bool, not, ◌||◌, List, [], ◌++◌, flat_map, codes, Option, Some, None, if◌then◌else◌}
 use Rattle.std.specs.Option.{is_some}
 use Rattle.std.specs.Str.{bytes_eq}
@@ -24,14 +24,14 @@ is_in f = goes_in (Some f.direction)
 abbrev pub port_findings : Feature ℕ → List Violation
 port_findings p = found_if (not (is_some (kind_in p.data_type))) p.name.at BAD_TYPE []
 
--- ---- and so is a variable's; its first value is of that type
+-- ---- the type of a variable is Integer or Boolean, and its initial value fits the type
 abbrev pub name_findings : Option Kind → Identifier ℕ → List Violation
 name_findings kind x = found_if (not (is_some kind)) x.at BAD_TYPE []
 
 abbrev pub is_truth : List ℕ → Bool
 is_truth text = bytes_eq text (codes "true") || bytes_eq text (codes "false")
 
--- the type of a first value, by its text
+-- the type of an initial value, by its text
 abbrev pub text_kind : Option (List ℕ) → Option Kind
 text_kind None = None
 text_kind (Some text) = Some (if is_truth text then Boolean else Integer)

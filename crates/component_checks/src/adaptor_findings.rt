@@ -1,4 +1,4 @@
-//! What is wrong with the adaptor of a link or a feed, and with the rates at its ends.
+//! Checks of the adaptor of a link or a feed, and of the rates at its ends.
 ghost use Rattle.std.specs.Prelude.{◌≡◌, ◌<◌, ◌++◌, OnOk};
 ghost use Rattle.annex_resolve.specs.FindingRecords.{found_if};
 ghost use Rattle.component_checks.specs.PeriodAndAdaptorFindings.{kind_suits, is_right};
@@ -12,8 +12,8 @@ use pals_base::allowed_adaptors::{divides_or_divided, is_allowed, suits_kind};
 use pals_base::{Adaptor, ItemList, Kind, NoMemory, Text, TryClone};
 use std::alloc::Global;
 
-// Whether an adaptor's text is that of one which is allowed between these rates and for this type. A
-// bad type takes every adaptor.
+// Whether the text names an adaptor that is allowed between these rates and for this type. A missing type
+// allows every adaptor.
 fn is_right(adaptor: Option<Adaptor>, kind: Option<Kind>, source: u32, target: u32) -> bool
     requires source { 0 < source }
     requires target { 0 < target }
@@ -35,7 +35,7 @@ fn suits(adaptor: Option<Adaptor>, kind: Option<Kind>) -> bool
     }
 }
 
-// Adds a finding with a name alone, where something is wrong.
+// Appends a violation whose only detail is a name, under a condition.
 fn add_named(
     alloc: Global,
     found: &mut ItemList<Violation>,
@@ -56,12 +56,13 @@ fn add_named(
     Ok(())
 }
 
-/// A link or a feed: the place of its carrier, its name, its adaptor and the type of its target.
+/// The properties of a link or a feed: the position of the connection whose properties apply, its name, its
+/// adaptor, and the type of the target.
 #[derive(Drop)]
 pub struct Carrier {
     pub at: usize,
     pub name: Text,
-    /// None is given, or a text, which may name no adaptor.
+    /// `None` without an adaptor text; `Some(None)` if the text does not name an adaptor.
     pub adaptor: Option<Option<Adaptor>>,
     pub kind: Option<Kind>,
 }
@@ -69,7 +70,7 @@ pub struct Carrier {
 impl Carrier {
     ghost use Rattle.component_checks.specs.PeriodAndAdaptorFindings.{adaptor_findings, pair_findings};
 
-    // Where the rates differ and one divides the other.
+    // For distinct rates, one of which divides the other.
     fn add_adaptor_findings(
         &self,
         alloc: Global,
@@ -98,7 +99,7 @@ impl Carrier {
         }
     }
 
-    /// Adds what is wrong with the adaptor between two rates.
+    /// Appends the violations of the adaptor between two rates. Errors: out of memory.
     pub fn add_pair_findings(
         &self,
         alloc: Global,

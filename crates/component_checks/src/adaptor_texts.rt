@@ -1,4 +1,4 @@
-//! Adaptors, read from their texts.
+//! Parses the texts of adaptors.
 ghost use Rattle.std.specs.Prelude.{◌≡◌, drop};
 ghost use Rattle.component_checks.specs.AdaptorTexts.{is_digit, is_first_digit, position_number, adaptor_named};
 
@@ -16,7 +16,7 @@ fn is_first_digit(byte: u8) -> bool
     b'1' <= byte && byte <= b'9'
 }
 
-// A number of one or two digits, the first not 0.
+// A number of one or two digits, the first of which is not 0.
 fn position_number(digits: &[u8]) -> Option<u32>
     ensures { result ≡ position_number digits.now }
 {
@@ -29,7 +29,7 @@ fn position_number(digits: &[u8]) -> Option<u32>
     }
 }
 
-// Whether a text is `at` and a number behind it, of which these are the digits.
+// The number in a text of the form `at n`.
 fn place_of(text: &[u8]) -> Option<u32>
     ensures { result ≡ position_number (drop 3 text.now) }
 {
@@ -39,7 +39,8 @@ fn place_of(text: &[u8]) -> Option<u32>
     position_number(&text[3..])
 }
 
-/// The adaptor of a text: its name, with small letters, or `at n` with one space and n from 1 to 99.
+/// Returns the adaptor with this text: its name in lower case, or `at n` with one space and n from 1 to 99.
+/// Returns `None` for any other text.
 pub fn adaptor_named(text: &[u8]) -> Option<Adaptor>
     ensures { result ≡ adaptor_named text.now }
 {

@@ -1,4 +1,4 @@
-//! The skew, ranges, bounds and rates of a design, each none where it is missing or refused.
+//! The skew, ranges, timing bounds and rates of a design. Each is `None` if it is missing or rejected.
 ghost use Rattle.std.specs.Prelude.{◌≡◌};
 ghost use Rattle.component_checks.specs.BoundsAndRates.{within_hour, range_within, not_zero, in_order, skew_of};
 ghost use Rattle.component_checks.specs.BoundsAndRates.{range_of, gamma_by, divides, is_rate, rate_of};
@@ -13,7 +13,7 @@ fn within_hour(time: Nanos) -> Option<Nanos>
     if time <= HOUR { Some(time) } else { None }
 }
 
-// A range, if neither of its ends is above an hour.
+// A range, if both ends are at most one hour.
 fn range_within(range: (Nanos, Nanos)) -> Option<(Nanos, Nanos)>
     ensures { result ≡ range_within range }
 {
@@ -41,7 +41,7 @@ fn in_order(range: (Nanos, Nanos)) -> Option<(Nanos, Nanos)>
     }
 }
 
-/// The skew, in nanoseconds; none where it is missing, 0 or above an hour.
+/// Returns the skew in nanoseconds, or `None` if it is missing, 0 or above one hour.
 pub fn skew_of(given: Option<Nanos>) -> Option<Nanos>
     ensures { result ≡ skew_of given }
 {
@@ -54,8 +54,8 @@ pub fn skew_of(given: Option<Nanos>) -> Option<Nanos>
     }
 }
 
-/// The range of execution or of the network, in nanoseconds; none where it is missing, reversed or
-/// above an hour.
+/// Returns the range of execution times or network delays in nanoseconds, or `None` if it is missing, reversed
+/// or above one hour.
 pub fn range_of(given: Option<(Nanos, Nanos)>) -> Option<(Nanos, Nanos)>
     ensures { result ≡ range_of given }
 {
@@ -68,7 +68,7 @@ pub fn range_of(given: Option<(Nanos, Nanos)>) -> Option<(Nanos, Nanos)>
     }
 }
 
-/// The bounds, where none of the three is missing.
+/// Returns the timing bounds, if all three are present.
 pub fn gamma_by(
     skew: Option<Nanos>,
     execution: Option<(Nanos, Nanos)>,
@@ -88,22 +88,22 @@ pub fn gamma_by(
     })
 }
 
-/// Whether a period divides another.
+/// Returns whether a period divides another.
 pub fn divides(period: Nanos, whole: Nanos) -> bool
     ensures { result ≡ divides period whole }
 {
     period != 0 && whole % period == 0
 }
 
-// Whether a period gives a component a rate from 1 to the greatest.
+// Whether a period gives a component a rate between 1 and the maximum rate.
 fn is_rate(root: Nanos, own: Nanos) -> bool
     ensures { result ≡ is_rate root own }
 {
     divides(own, root) && 1 <= root / own && root / own <= u64::from(RATE)
 }
 
-/// How many steps a component of a period makes in a round of the root's period, where it may make as
-/// many.
+/// Returns the number of steps per round of a component with period `own` if the root's period is `root`, or
+/// `None` if it is not a valid rate.
 pub fn rate_of(root: Option<Nanos>, own: Option<Nanos>) -> Option<u32>
     ensures { result ≡ rate_of root own }
 {

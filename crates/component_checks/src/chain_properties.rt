@@ -1,4 +1,4 @@
-//! What the list of a connection says of the chains that it carries.
+//! The properties of a connection that apply to its connection chains.
 ghost use Rattle.std.specs.Prelude.{◌≡◌, codes, option_map, option_copied};
 ghost use Rattle.aadl_tree.specs.proof.PlaceMaps.{kept_place};
 ghost use Rattle.aadl_tree.specs.proof.ValueViews.{association_view, associations_view, value_view};
@@ -15,17 +15,17 @@ use aadl_names::PropertyName;
 use aadl_tree::{Association, Value};
 use pals_base::Adaptor;
 
-/// What the list of a connection says of the chains that it carries.
+/// The properties of a connection that apply to its connection chains.
 #[derive(Clone, Copy)]
 pub struct ChainProperties {
-    /// Whether they are delayed.
+    /// Whether the timing is delayed.
     pub delayed: bool,
-    /// Their adaptor: none is given, or a text, which may name no adaptor.
+    /// The adaptor: `None` without an adaptor text; `Some(None)` if the text does not name an adaptor.
     pub adaptor: Option<Option<Adaptor>>,
 }
 
 impl ChainProperties {
-    /// What a list says.
+    /// Reads the properties of a list.
     pub fn of(list: &[Association]) -> ChainProperties
         ensures { result ≡ carried_by (associations_view kept_place list.now) }
     {
@@ -38,7 +38,7 @@ impl ChainProperties {
     }
 }
 
-// Whether the timing that is given is delayed.
+// Whether the given timing is delayed.
 fn is_delayed(given: Option<&Association>) -> bool
     ensures { result ≡ says (codes "Delayed") (option_map (association_view kept_place) (option_copied given.entry)) }
 {
@@ -48,7 +48,7 @@ fn is_delayed(given: Option<&Association>) -> bool
     }
 }
 
-// The adaptor that is given, if it is a text.
+// The given adaptor, if it is a text.
 fn adaptor_of(given: Option<&Association>) -> Option<Option<Adaptor>>
     ensures { result ≡ adaptor_of (option_map (association_view kept_place) (option_copied given.entry)) }
 {
@@ -58,7 +58,7 @@ fn adaptor_of(given: Option<&Association>) -> Option<Option<Adaptor>>
     }
 }
 
-// The adaptor of a text, if it is a text.
+// The adaptor of a value, if the value is a text.
 fn adaptor_in(value: &Value) -> Option<Option<Adaptor>>
     ensures { result ≡ option_map adaptor_named (text_of (value_view kept_place value.now)) }
 {

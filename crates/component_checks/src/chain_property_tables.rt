@@ -1,4 +1,4 @@
-//! What the lists of the connections of a package say, each list read once.
+//! The properties of all connections of a package; each list is read once.
 ghost use Rattle.std.specs.Prelude.{◌≡◌, IfOk, map};
 ghost use Rattle.aadl_tree.specs.proof.PlaceMaps.{kept_place};
 ghost use Rattle.aadl_tree.specs.proof.PackageViews.{placed};
@@ -10,7 +10,7 @@ use aadl_tree::{Connection, Declaration, PackageTree};
 use pals_base::{ItemList, NoMemory};
 use std::alloc::Global;
 
-/// What stands at a number in the list of a number.
+/// Returns the properties of a connection, by the numbers of its declaration and its own number there.
 pub fn carried_at(
     carried: &[ItemList<ChainProperties>],
     list: usize,
@@ -24,7 +24,7 @@ pub fn carried_at(
     }
 }
 
-// What connections say, in order.
+// The properties of these connections, in order.
 fn connections_of(
     alloc: Global,
     connections: &[Connection],
@@ -39,7 +39,7 @@ fn connections_of(
     Ok(carried)
 }
 
-// What the connections of a declaration say.
+// The properties of the connections of a declaration.
 fn connections_in(
     alloc: Global,
     declaration: &Declaration,
@@ -53,7 +53,8 @@ fn connections_in(
     }
 }
 
-/// What the connections of a package say, by the numbers of their declarations and their own there.
+/// Returns the properties of all connections of a package, by the numbers of their declarations and their own
+/// numbers there. Errors: out of memory.
 pub fn all_of_connections(
     alloc: Global,
     tree: &PackageTree,

@@ -1,4 +1,4 @@
-//! What lists of properties say of a component.
+//! The properties of a component.
 ghost use Rattle.std.specs.Prelude.{◌≡◌, ◌∷◌, [], option_map, option_copied};
 ghost use Rattle.aadl_tree.specs.proof.PlaceMaps.{kept_place};
 ghost use Rattle.aadl_tree.specs.proof.ValueViews.{association_view, associations_view};
@@ -11,17 +11,17 @@ use aadl_names::PropertyName;
 use aadl_tree::Association;
 use pals_base::Nanos;
 
-/// What lists of properties say of a component, the nearest list first.
+/// The properties of a component, from several lists; the nearest list takes precedence.
 #[derive(Clone, Copy)]
 pub struct ComponentProperties {
-    /// The period in nanoseconds, where one is given; none above an hour.
+    /// The period in nanoseconds, if one is given; `Some(None)` if it is above one hour.
     pub period: Option<Option<Nanos>>,
-    /// Whether the dispatch is periodic, where one is given.
+    /// Whether the dispatch is periodic, if one is given.
     pub periodic: Option<bool>,
 }
 
 impl ComponentProperties {
-    /// What no list says.
+    /// Returns the properties without any list.
     pub fn none() -> ComponentProperties
         ensures { result ≡ timed_by [] }
     {
@@ -31,7 +31,7 @@ impl ComponentProperties {
         }
     }
 
-    /// What one list says.
+    /// Reads the properties of one list.
     #[tactic(auto, using(crate::proofs::NamedAssociations::first_of_one))]
     pub fn of(list: &[Association]) -> ComponentProperties
         ensures { result ≡ timed_by (associations_view kept_place list.now ∷ []) }
@@ -42,7 +42,7 @@ impl ComponentProperties {
         }
     }
 
-    /// The same, and where nothing is given what lists further out say.
+    /// Returns these properties, with missing ones taken from `further`.
     pub fn or(self, further: ComponentProperties) -> ComponentProperties
         ensures { result ≡ nearer self further }
     {
@@ -53,7 +53,7 @@ impl ComponentProperties {
     }
 }
 
-// The period that is given.
+// The given period.
 fn period_at(given: Option<&Association>) -> Option<Option<Nanos>>
     ensures { result ≡ period_at (option_map (association_view kept_place) (option_copied given.entry)) }
 {
@@ -63,7 +63,7 @@ fn period_at(given: Option<&Association>) -> Option<Option<Nanos>>
     }
 }
 
-// Whether the dispatch that is given is periodic.
+// Whether the given dispatch is periodic.
 fn dispatch_at(given: Option<&Association>) -> Option<bool>
     ensures { result ≡ dispatch_at (option_map (association_view kept_place) (option_copied given.entry)) }
 {

@@ -1,4 +1,4 @@
-//! What the lists of a package say of its components, each list read once.
+//! The properties of all components of a package; each list is read once.
 ghost use Rattle.std.specs.Prelude.{◌≡◌, IfOk, map};
 ghost use Rattle.aadl_tree.specs.proof.PlaceMaps.{kept_place};
 ghost use Rattle.aadl_tree.specs.proof.PackageViews.{placed};
@@ -14,7 +14,7 @@ use aadl_uses::{SubAt, Uses};
 use pals_base::{ItemList, NoMemory};
 use std::alloc::Global;
 
-/// What stands at a number, or nothing.
+/// Returns the entry at a number, or no properties.
 pub fn numbered(timed: &[ComponentProperties], number: Option<usize>) -> ComponentProperties
     ensures { result ≡ spec.numbered timed.now number }
 {
@@ -27,7 +27,7 @@ pub fn numbered(timed: &[ComponentProperties], number: Option<usize>) -> Compone
     }
 }
 
-/// What stands at a number in the list of a number, or nothing.
+/// Returns the entry at a number in the list at another number, or no properties.
 pub fn numbered_in(
     timed: &[ItemList<ComponentProperties>],
     list: usize,
@@ -41,7 +41,7 @@ pub fn numbered_in(
     }
 }
 
-// What a type says.
+// The properties of a type.
 fn of_type(declaration: &Declaration) -> ComponentProperties
     ensures { result ≡ spec.type_timed (declaration_view kept_place declaration.now) }
 {
@@ -51,7 +51,7 @@ fn of_type(declaration: &Declaration) -> ComponentProperties
     }
 }
 
-/// What the types of a package say, by their numbers.
+/// Returns the properties of the types of a package, by their numbers. Errors: out of memory.
 pub fn all_of_types(
     alloc: Global,
     tree: &PackageTree,
@@ -65,7 +65,7 @@ pub fn all_of_types(
     Ok(types)
 }
 
-// What the implementation of a number says, and its type.
+// The properties of the implementation with a number, and of its type.
 fn own_of(uses: &Uses<'_>, types: &[ComponentProperties], number: usize) -> ComponentProperties
     requires { types.now ≡ map spec.type_timed (placed uses.now.names.tree.now).declarations }
     ensures { result ≡ timed_by (root_lists (placed uses.now.names.tree.now) number) }
@@ -77,7 +77,8 @@ fn own_of(uses: &Uses<'_>, types: &[ComponentProperties], number: usize) -> Comp
     own.or(numbered(types, uses.type_number(number)))
 }
 
-/// What the implementations of a package say, and their types, by their numbers.
+/// Returns the properties of the implementations of a package and of their types, by number. Errors: out of
+/// memory.
 pub fn all_own(
     alloc: Global,
     uses: &Uses<'_>,
@@ -94,7 +95,7 @@ pub fn all_own(
     Ok(own)
 }
 
-// What a subcomponent says, its implementation and that one's type.
+// The properties of a subcomponent, of its implementation, and of the implementation's type.
 fn sub_of(uses: &Uses<'_>, own: &[ComponentProperties], at: SubAt) -> ComponentProperties
     requires { own.now ≡ map (spec.own_timed (placed uses.now.names.tree.now))
         (placed uses.now.names.tree.now).declarations }
@@ -107,7 +108,7 @@ fn sub_of(uses: &Uses<'_>, own: &[ComponentProperties], at: SubAt) -> ComponentP
     said.or(numbered(own, uses.below(at.declaration, at.sub)))
 }
 
-// What the subcomponents of the declaration of a number say, in order.
+// The properties of the subcomponents of the declaration with a number, in order.
 fn subs_of(
     alloc: Global,
     uses: &Uses<'_>,
@@ -126,7 +127,8 @@ fn subs_of(
     Ok(timed)
 }
 
-/// What the subcomponents of a package say, by the numbers of their declarations and their own there.
+/// Returns the properties of the subcomponents of a package, by the numbers of their declarations and their own
+/// numbers there. Errors: out of memory.
 pub fn all_of_subs(
     alloc: Global,
     uses: &Uses<'_>,

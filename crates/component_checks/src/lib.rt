@@ -1,6 +1,9 @@
-//! What is wrong with the components of an instance: their dispatch and periods, the root's period and bounds, times
-//! above an hour, the types of ports and variables, and the numbers of rates, adaptors and the bound. A number that
-//! is missing or refused is none, and nothing is found on it.
+//! The checks of the components of an instance model: their dispatch and periods, the root's period and timing
+//! bounds, times above one hour, and the types of ports and variables. The crate also computes the numbers of a
+//! design: rates, adaptors and timing bounds.
+//!
+//! Each check appends the violations of its definition to a list. A missing or rejected number is `None` and
+//! causes no further violations. The crate does not check names, behaviours or connection chains.
 #![tactic(auto)]
 
 pub mod adaptor_findings;

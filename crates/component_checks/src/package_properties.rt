@@ -1,4 +1,4 @@
-//! What the lists of properties of a package say.
+//! The properties of a package.
 ghost use Rattle.std.specs.Prelude.{◌≡◌, IfOk, map, option_map, slice_get};
 ghost use Rattle.std.proofs.Props.{props};
 ghost use Rattle.aadl_tree.specs.proof.PackageViews.{placed};
@@ -16,21 +16,20 @@ use aadl_uses::{SubAt, Uses};
 use pals_base::{ItemList, NoMemory};
 use std::alloc::Global;
 
-// What the lists of properties of a package say, by the numbers of declarations, subcomponents and
-// connections.
+// The properties in the lists of a package, by the numbers of declarations, subcomponents and connections.
 #[derive(Drop)]
 struct PackageProperties {
-    // of each implementation, with its type
+    // of each implementation and its type
     own: ItemList<ComponentProperties>,
-    // of each subcomponent, with its implementation and that one's type
+    // of each subcomponent, its implementation, and the implementation's type
     subs: ItemList<ItemList<ComponentProperties>>,
     // of each connection
     connections: ItemList<ItemList<ChainProperties>>,
 }
 
-/// A package with what is looked up of it, and what its lists of properties say.
+/// A package with its look-ups, and with the properties of its components and connections.
 pub struct Properties<'t> {
-    /// The package with what is looked up of it.
+    /// The package with its look-ups.
     pub uses: &'t Uses<'t>,
     said: PackageProperties,
     ghost of_own: { said.own ≡ map (spec.own_timed (placed uses.now.names.tree.now))
@@ -46,7 +45,7 @@ impl Drop for Properties<'_> {
     }
 }
 
-// What implementations say, and their types.
+// The properties of implementations and their types.
 fn own_in(alloc: Global, uses: &Uses<'_>) -> Result<ItemList<ComponentProperties>, NoMemory>
     ensures { IfOk result (λ own. own ≡ map (spec.own_timed (placed uses.now.names.tree.now))
         (placed uses.now.names.tree.now).declarations) }
@@ -55,7 +54,7 @@ fn own_in(alloc: Global, uses: &Uses<'_>) -> Result<ItemList<ComponentProperties
     all_own(alloc, uses, types.as_slice())
 }
 
-// What the lists of a package say.
+// The properties in the lists of a package.
 fn said_in(alloc: Global, uses: &Uses<'_>) -> Result<PackageProperties, NoMemory>
     ensures own { IfOk result (λ said. said.own
         ≡ map (spec.own_timed (placed uses.now.names.tree.now)) (placed uses.now.names.tree.now).declarations) }
@@ -75,7 +74,7 @@ fn said_in(alloc: Global, uses: &Uses<'_>) -> Result<PackageProperties, NoMemory
 }
 
 impl<'t> Properties<'t> {
-    /// What the lists of a package say.
+    /// Reads the properties of a package. Errors: out of memory.
     pub fn of(alloc: Global, uses: &'t Uses<'t>) -> Result<Properties<'t>, NoMemory>
         ensures { IfOk result (λ properties. properties.uses.now.names.tree.now ≡ uses.now.names.tree.now) }
     {
@@ -83,21 +82,22 @@ impl<'t> Properties<'t> {
         Ok(Properties { uses, said })
     }
 
-    /// What is said of the root.
+    /// Returns the properties of the root.
     pub fn of_root(&self, root: usize) -> ComponentProperties
         ensures { result ≡ timed_by (root_lists (placed self.now.uses.now.names.tree.now) root) }
     {
         numbered(self.said.own.as_slice(), Some(root))
     }
 
-    /// What is said at a subcomponent.
+    /// Returns the properties of a subcomponent.
     pub fn of_sub(&self, sub: SubAt) -> ComponentProperties
         ensures { result ≡ timed_by (lists_at (placed self.now.uses.now.names.tree.now) sub) }
     {
         numbered_in(self.said.subs.as_slice(), sub.declaration, sub.sub)
     }
 
-    /// What is said of a component below the root, by the nearest place on the way there.
+    /// Returns the properties of a component below the root: for each property, the value that is given nearest
+    /// to the component on its path.
     pub fn along(&self, root: usize, subs: &[SubAt]) -> ComponentProperties
         ensures { result ≡ timed_by (lists_along (placed self.now.uses.now.names.tree.now) root subs.now) }
     {
@@ -108,8 +108,8 @@ impl<'t> Properties<'t> {
         nearest
     }
 
-    /// What is said of a component by its own places alone: the subcomponent that it is, its
-    /// implementation and its type.
+    /// Returns the properties that a component itself has: from its subcomponent, its implementation, and its
+    /// type, but not from components around it.
     pub fn of_component(&self, subs: &[SubAt]) -> ComponentProperties
         ensures { result ≡ timed_by (sub_lists (placed self.now.uses.now.names.tree.now)
             (innermost (placed self.now.uses.now.names.tree.now) subs.now)) }
@@ -120,7 +120,7 @@ impl<'t> Properties<'t> {
         }
     }
 
-    /// What a connection says of the chains that it carries.
+    /// Returns the properties of a connection that apply to its connection chains.
     pub fn of_connection(&self, declaration: usize, connection: usize) -> Option<ChainProperties>
         ensures { result ≡ option_map (λ c. carried_by c.properties)
             (slice_get (connections_of (implementation_at (placed self.now.uses.now.names.tree.now) declaration))

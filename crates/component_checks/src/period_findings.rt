@@ -1,4 +1,4 @@
-//! What is wrong with a component's period below the root's, and with the root's period against the bound.
+//! Checks of a component's period against the root's, and of the root's period against the bound.
 ghost use Rattle.std.specs.Prelude.{◌≡◌, ◌≤◌, ◌++◌, IfOk, OnOk};
 ghost use Rattle.std.specs.Option.{ForSome};
 ghost use Rattle.pals_base.specs.declared.limits.TheConstants.{RATE};
@@ -13,15 +13,15 @@ use pals_base::limits::RATE;
 use pals_base::{Gamma, ItemList, Nanos, NoMemory, Text};
 use std::alloc::Global;
 
-/// A name and a number behind it.
+/// Returns a name followed by a number, separated by a space. Errors: out of memory.
 pub(crate) fn name_and_number(alloc: Global, name: &str, number: u64) -> Result<Text, NoMemory>
     ensures { IfOk result (λ text. text ≡ name_and_number name.now number) }
 {
     Ok(Text::new(format!(in alloc; "{name} {number}")?))
 }
 
-/// Adds what is wrong with a component's period, in nanoseconds, below a root's: it does not divide
-/// it, or divides it too often. The details are the component's path and the numbers.
+/// Appends the violations of a component's period, in nanoseconds: it does not divide the root's period, or its
+/// rate is too high. The details are the component's path and the numbers. Errors: out of memory.
 pub fn add_period_findings(
     alloc: Global,
     found: &mut ItemList<Violation>,
@@ -58,8 +58,8 @@ pub fn add_period_findings(
     Ok(())
 }
 
-/// Adds the finding that the root's period is below the least one of the bound, where `rate` is the
-/// greatest rate of the design.
+/// Appends a violation if the root's period is below the minimum period of the bound. `rate` is the maximum
+/// rate of the design. Errors: out of memory.
 pub fn add_bound_findings(
     alloc: Global,
     found: &mut ItemList<Violation>,

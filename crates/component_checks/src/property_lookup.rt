@@ -1,4 +1,4 @@
-//! Where a property is looked up.
+//! The look-up of properties.
 ghost use Rattle.std.specs.Prelude.{◌≡◌, ◌&&◌, option_map, option_copied};
 ghost use Rattle.aadl_tree.specs.proof.PlaceMaps.{kept_place};
 ghost use Rattle.aadl_tree.specs.proof.PackageViews.{placed};
@@ -15,14 +15,14 @@ use aadl_names::name_comparison::is_spelled;
 use aadl_tree::{Association, PackageTree, Subcomponent};
 use aadl_uses::{SubAt, Uses};
 
-/// The subcomponent of two numbers: its declaration's, and its own there.
+/// Returns the subcomponent with the number of its declaration and its own number there.
 pub fn sub_of<'t>(tree: &'t PackageTree, sub: SubAt) -> Option<&'t Subcomponent>
     ensures { option_map (subcomponent_view kept_place) (option_copied result) ≡ spec.sub_of (placed tree.now) sub }
 {
     subcomponent_at(tree, sub.declaration, sub.sub)
 }
 
-// Whether an association gives a property to what it stands at.
+// Whether an association gives a property to its owner.
 #[tactic(auto, using(aadl_tree::proofs::ValueViews::view_out_association))]
 fn gives(association: &Association, property: PropertyName) -> bool
     ensures { result
@@ -32,7 +32,7 @@ fn gives(association: &Association, property: PropertyName) -> bool
     association.applies_to.is_empty() && is_spelled(&association.name, property.name())
 }
 
-/// The first association of a property in a list.
+/// Returns the first association of a property in a list.
 pub fn property_in(list: &[Association], property: PropertyName) -> Option<&Association>
     ensures { option_map (association_view kept_place) (option_copied result)
         ≡ association_named (associations_view kept_place list.now) (name_of property) }
@@ -61,7 +61,7 @@ fn type_property<'t>(
     }
 }
 
-/// A property of the root: its implementation's, or its type's.
+/// Returns a property of the root, from its implementation or else from its type.
 pub fn root_property<'t>(
     uses: &Uses<'t>,
     root: usize,
@@ -79,7 +79,7 @@ pub fn root_property<'t>(
     }
 }
 
-/// The subcomponent that a component is.
+/// Returns the subcomponent of a component.
 pub fn innermost<'t>(tree: &'t PackageTree, subs: &[SubAt]) -> Option<&'t Subcomponent>
     ensures { option_map (subcomponent_view kept_place) (option_copied result)
         ≡ spec.innermost (placed tree.now) subs.now }

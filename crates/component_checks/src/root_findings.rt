@@ -1,4 +1,4 @@
-//! What is wrong with the root.
+//! Checks of the root.
 ghost use Rattle.std.specs.Prelude.{◌≡◌, ◌≤◌, ◌++◌, OnOk, not, option_map, option_copied};
 ghost use Rattle.std.specs.Option.{is_some};
 ghost use Rattle.pals_base.specs.declared.limits.TheConstants.{RATE};
@@ -44,7 +44,7 @@ fn root_range(uses: &Uses<'_>, root: usize, property: PropertyName) -> Option<(N
     }
 }
 
-/// The bounds of the root, where none of the three is missing or refused.
+/// Returns the timing bounds of the root, if none of the three is missing or rejected.
 pub fn root_gamma(uses: &Uses<'_>, root: usize) -> Option<Gamma>
     ensures { result ≡ spec.root_gamma (placed uses.now.names.tree.now) root }
 {
@@ -54,7 +54,7 @@ pub fn root_gamma(uses: &Uses<'_>, root: usize) -> Option<Gamma>
     gamma_by(skew, execution, network)
 }
 
-// Where the root's name stands.
+// The byte offset of the root's name.
 fn root_place(tree: &PackageTree, root: usize) -> usize
     ensures { result ≡ spec.root_place (placed tree.now) root }
 {
@@ -71,7 +71,7 @@ fn lacks(uses: &Uses<'_>, root: usize, property: PropertyName) -> bool
     root_property(uses, root, property).is_none()
 }
 
-// Adds the finding that the root lacks one of the bounds.
+// Appends a violation if the root lacks one of the timing bounds.
 fn add_missing_bound(
     alloc: Global,
     uses: &Uses<'_>,
@@ -86,7 +86,7 @@ fn add_missing_bound(
     add_named(alloc, found, missing, at, GAMMA_MISSING, shown(property))
 }
 
-// Adds the findings that the root lacks its period or bounds.
+// Appends violations if the root lacks its period or timing bounds.
 fn add_missing_findings(
     alloc: Global,
     uses: &Uses<'_>,
@@ -103,7 +103,7 @@ fn add_missing_findings(
     add_missing_bound(alloc, uses, root, PropertyName::Network, found)
 }
 
-// Adds the finding that a skew is 0.
+// Appends a violation if a skew is 0.
 fn add_zero_skew(
     alloc: Global,
     given: Option<&Association>,
@@ -126,7 +126,7 @@ fn add_zero_skew(
     )
 }
 
-// Whether a range's lower end is above the upper.
+// Whether the lower end of a range is above the upper end.
 fn is_reversed(range: Option<(Nanos, Nanos)>) -> bool
     ensures { result ≡ spec.is_reversed range }
 {
@@ -136,7 +136,7 @@ fn is_reversed(range: Option<(Nanos, Nanos)>) -> bool
     }
 }
 
-// Adds the finding that a range's lower end is above the upper.
+// Appends a violation if the lower end of a range is above the upper end.
 fn add_reversed_range(
     alloc: Global,
     property: PropertyName,
@@ -159,7 +159,7 @@ fn add_reversed_range(
     )
 }
 
-// Adds the findings that the skew is 0, or a range reversed.
+// Appends violations if the skew is 0 or a range is reversed.
 fn add_order_findings(
     alloc: Global,
     uses: &Uses<'_>,
@@ -176,7 +176,7 @@ fn add_order_findings(
     add_reversed_range(alloc, PropertyName::Network, network, found)
 }
 
-// Where a property stands, or 0.
+// The byte offset of a property, or 0 if it is missing.
 fn place_of(given: Option<&Association>) -> usize
     ensures { result ≡ spec.place_of (option_map (association_view kept_place) (option_copied given.entry)) }
 {
@@ -186,8 +186,9 @@ fn place_of(given: Option<&Association>) -> usize
     }
 }
 
-/// Adds what is wrong with the root, where `rate` is the greatest rate of its components: its period or
-/// a bound is missing, the skew is 0, a range is reversed, the period is below the bound.
+/// Appends the violations of the root: its period or a timing bound is missing, the skew is 0, a range is
+/// reversed, or the period is below the bound. `rate` is the maximum rate of its components. Errors: out of
+/// memory.
 pub fn add_root_findings(
     alloc: Global,
     properties: &Properties<'_>,

@@ -1,4 +1,4 @@
-//! What is wrong with a component: with its dispatch and its period.
+//! Checks of a component's dispatch and period.
 ghost use Rattle.std.specs.Prelude.{◌≡◌, ◌++◌, OnOk};
 ghost use Rattle.aadl_tree.specs.proof.PackageViews.{placed};
 ghost use Rattle.annex_resolve.specs.FindingRecords.{found_if};
@@ -22,7 +22,7 @@ fn is_periodic(properties: &Properties<'_>, subs: &[SubAt]) -> bool
     properties.of_component(subs).periodic.unwrap_or(false)
 }
 
-// Where a component is declared.
+// The byte offset of a component's declaration.
 fn thread_place(tree: &PackageTree, thread: &ThreadAt) -> usize
     ensures { result ≡ spec.thread_place (placed tree.now) thread.now }
 {
@@ -32,7 +32,7 @@ fn thread_place(tree: &PackageTree, thread: &ThreadAt) -> usize
     }
 }
 
-/// Adds a finding with a text, where something is wrong.
+/// Appends a violation with a text under a condition. Errors: out of memory.
 pub fn add_named(
     alloc: Global,
     found: &mut ItemList<Violation>,
@@ -53,8 +53,8 @@ pub fn add_named(
     Ok(())
 }
 
-/// Adds what is wrong with a component: its dispatch is not periodic, or its period does not divide
-/// the root's, or does too often.
+/// Appends the violations of a component: its dispatch is not periodic, its period does not divide the root's,
+/// or its rate is too high. Errors: out of memory.
 pub fn add_thread_findings(
     alloc: Global,
     properties: &Properties<'_>,

@@ -1,4 +1,4 @@
-//! The periods of the root and of threads, and the rates that they give.
+//! The periods and rates of threads, and the root's period.
 ghost use Rattle.std.specs.Prelude.{◌≡◌};
 ghost use Rattle.aadl_tree.specs.proof.PackageViews.{placed};
 ghost use Rattle.component_checks.specs.ThreadRatesAndFindings as spec;
@@ -8,22 +8,22 @@ use crate::rate_of;
 use aadl_uses::{SubAt, ThreadAt};
 use pals_base::Nanos;
 
-/// The period of the root in nanoseconds; none where it is missing or above an hour.
+/// Returns the period of the root in nanoseconds, or `None` if it is missing or above one hour.
 pub fn root_period(properties: &Properties<'_>, root: usize) -> Option<Nanos>
     ensures { result ≡ spec.root_period (placed properties.now.uses.now.names.tree.now) root }
 {
     properties.of_root(root).period.flatten()
 }
 
-/// The period of a component in nanoseconds, from the nearest place that gives one; none where it is
-/// missing or above an hour.
+/// Returns the period of a component in nanoseconds, given nearest to it on its path, or `None` if it is
+/// missing or above one hour.
 pub fn own_period(properties: &Properties<'_>, root: usize, subs: &[SubAt]) -> Option<Nanos>
     ensures { result ≡ spec.own_period (placed properties.now.uses.now.names.tree.now) root subs.now }
 {
     properties.along(root, subs).period.flatten()
 }
 
-/// How many steps a component makes in a round, where it may make as many.
+/// Returns the number of steps per round of a component, or `None` if it has no valid rate.
 pub fn thread_rate(properties: &Properties<'_>, root: usize, thread: &ThreadAt) -> Option<u32>
     ensures { result ≡ spec.thread_rate (placed properties.now.uses.now.names.tree.now) root thread.now }
 {
@@ -32,7 +32,7 @@ pub fn thread_rate(properties: &Properties<'_>, root: usize, thread: &ThreadAt) 
     rate_of(whole, own)
 }
 
-// The greater of two rates, where the second is not refused.
+// The larger of two rates; a rejected rate is ignored.
 fn greater_rate(greatest: u32, rate: Option<u32>) -> u32
     ensures { result ≡ spec.greater_rate greatest rate }
 {
@@ -42,7 +42,7 @@ fn greater_rate(greatest: u32, rate: Option<u32>) -> u32
     }
 }
 
-/// The greatest of the rates that are not refused, or 1.
+/// Returns the maximum of the valid rates, or 1 if there is none.
 pub fn greatest_rate(rates: &[Option<u32>]) -> u32
     ensures { result ≡ spec.greatest_rate rates.now }
 {

@@ -1,4 +1,4 @@
-//! The times of properties, and those that are above an hour.
+//! The times of properties, and the check that they are at most one hour.
 ghost use Rattle.std.specs.Prelude.{◌≡◌, ◌*◌, ◌++◌, nat_lt, OnOk};
 ghost use Rattle.pals_base.specs.declared.limits.TheConstants.{HOUR};
 ghost use Rattle.std.specs.Option.{option_and_then};
@@ -47,7 +47,7 @@ fn product(number: u64, unit: u64) -> u128
     u128::from(number) * u128::from(unit)
 }
 
-// A number with its unit, where it is a time.
+// A number with its unit, if it is a time.
 #[tactic(auto, unfolding(aadl_names::specs::PropertyValueShapes::time_in))]
 fn time_in(x: &Quantity) -> Option<u128>
     ensures { result ≡ properties.time_in (quantity_view kept_place x.now) }
@@ -69,7 +69,7 @@ fn is_signed(sign: Option<Sign>) -> bool
     }
 }
 
-// The time that a value is, in nanoseconds.
+// The value as a time, in nanoseconds.
 fn time_of(value: &Value) -> Option<u128>
     ensures { result ≡ properties.time_of (value_view kept_place value.now) }
 {
@@ -79,7 +79,7 @@ fn time_of(value: &Value) -> Option<u128>
     }
 }
 
-// Two times, where both are there.
+// Two times, if both exist.
 fn pair_of(low: Option<u128>, high: Option<u128>) -> Option<(u128, u128)>
     ensures { result ≡ properties.pair_of low high }
 {
@@ -92,7 +92,7 @@ fn pair_of(low: Option<u128>, high: Option<u128>) -> Option<(u128, u128)>
     }
 }
 
-// The range of times that a value is, in nanoseconds.
+// The value as a range of times, in nanoseconds.
 fn range_of(value: &Value) -> Option<(u128, u128)>
     ensures { result ≡ properties.range_of (value_view kept_place value.now) }
 {
@@ -111,7 +111,7 @@ fn is_above(time: u128) -> bool
     u128::from(HOUR) < time
 }
 
-/// The time that a value is, in nanoseconds, where it is at most an hour.
+/// Returns the value as a time in nanoseconds, if it is at most one hour.
 pub fn time_within(value: &Value) -> Option<Nanos>
     ensures { result ≡ option_and_then within_hour (properties.time_of (value_view kept_place value.now)) }
 {
@@ -127,7 +127,7 @@ pub fn time_within(value: &Value) -> Option<Nanos>
     }
 }
 
-/// The range of times that a value is, in nanoseconds, where neither end is above an hour.
+/// Returns the value as a range of times in nanoseconds, if both ends are at most one hour.
 pub fn range_within(value: &Value) -> Option<(Nanos, Nanos)>
     ensures { result ≡ option_and_then range_within (properties.range_of (value_view kept_place value.now)) }
 {
@@ -143,7 +143,8 @@ pub fn range_within(value: &Value) -> Option<(Nanos, Nanos)>
     }
 }
 
-/// Whether a value is a time above an hour, or a range with such an end, where the property takes one.
+/// Returns whether a property takes a time or a range, and the value is a time above one hour or a range with
+/// such an end.
 pub fn is_too_big(property: PropertyName, value: &Value) -> bool
     ensures { result ≡ spec.is_too_big property (value_view kept_place value.now) }
 {
@@ -163,7 +164,7 @@ pub fn is_too_big(property: PropertyName, value: &Value) -> bool
     }
 }
 
-/// The name by which findings speak of a property.
+/// Returns the name of a property in violations.
 pub fn shown(property: PropertyName) -> &'static str
     ensures { result.now ≡ spec.shown property }
 {
@@ -179,7 +180,7 @@ pub fn shown(property: PropertyName) -> &'static str
     }
 }
 
-// Adds the finding that an association gives a property a time above an hour.
+// Appends a violation if an association gives a property a time above one hour.
 #[tactic(auto, using(aadl_tree::proofs::ValueViews::view_out_association))]
 fn add_big_as(
     alloc: Global,
@@ -201,7 +202,7 @@ fn add_big_as(
     Ok(())
 }
 
-// Adds what is above an hour in an association at a kind of place.
+// Appends the times above one hour in an association, for one kind of property holder.
 fn add_association_big(
     alloc: Global,
     holder: PropertyHolder,
@@ -217,8 +218,8 @@ fn add_association_big(
     Ok(())
 }
 
-// Adds what is above an hour in an association at a kind of place, where the association does not
-// apply elsewhere.
+// Appends the times above one hour in an association, for one kind of property holder, unless the association
+// applies elsewhere.
 #[tactic(auto, using(aadl_tree::proofs::ValueViews::view_out_association))]
 fn add_counted_big(
     alloc: Global,
@@ -235,8 +236,8 @@ fn add_counted_big(
     add_association_big(alloc, holder, association, found)
 }
 
-/// Adds the times above an hour in a list of properties at a kind of place. What applies elsewhere
-/// does not count.
+/// Appends the times above one hour in a list of properties, for one kind of property holder. Ignores
+/// associations that apply elsewhere. Errors: out of memory.
 pub fn add_times_too_big(
     alloc: Global,
     holder: PropertyHolder,

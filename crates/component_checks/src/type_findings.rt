@@ -1,4 +1,4 @@
-//! What is wrong with the types of ports, variables and first values.
+//! Checks of the types of ports, variables and initial values.
 ghost use Rattle.std.specs.Prelude.{◌≡◌, ◌++◌, OnOk, flat_map, map, option_map, option_copied};
 ghost use Rattle.aadl_tree.specs.Names.{identifiers};
 ghost use Rattle.aadl_tree.specs.proof.PlaceMaps.{kept_place};
@@ -23,7 +23,7 @@ use annex_resolve::{Violation, add_if, expect};
 use pals_base::{ItemList, Kind, NoMemory};
 use std::alloc::Global;
 
-/// The type that a reference names, if there is one.
+/// Returns the type that a reference names, if it is Integer or Boolean.
 pub fn kind_in(reference: &Option<Reference>) -> Option<Kind>
     ensures { result ≡ kind_in (option_map (reference_view kept_place) reference.now) }
 {
@@ -33,7 +33,7 @@ pub fn kind_in(reference: &Option<Reference>) -> Option<Kind>
     }
 }
 
-/// Whether a port is an in port.
+/// Returns whether a port is an in port.
 pub fn is_in(port: &Feature) -> bool
     ensures { result ≡ spec.is_in (feature_view kept_place port.now) }
 {
@@ -43,7 +43,7 @@ pub fn is_in(port: &Feature) -> bool
     }
 }
 
-/// Adds the ports that are neither Integer nor Boolean.
+/// Appends the ports that are neither Integer nor Boolean. Errors: out of memory.
 pub fn add_port_findings(
     alloc: Global,
     ports: &[Feature],
@@ -59,7 +59,7 @@ pub fn add_port_findings(
     Ok(())
 }
 
-// Adds the variables of a type that is none.
+// Appends the variables whose type is neither Integer nor Boolean.
 fn add_name_findings(
     alloc: Global,
     kind: Option<Kind>,
@@ -76,7 +76,7 @@ fn add_name_findings(
     Ok(())
 }
 
-// Whether a text is that of a Boolean.
+// Whether a text is a Boolean literal.
 fn is_truth(text: &[u8]) -> bool
     ensures { result ≡ spec.is_truth text.now }
 {
@@ -109,7 +109,7 @@ fn only_kind(values: &[Value]) -> Option<Kind>
     }
 }
 
-// The type of a first value.
+// The type of an initial value.
 fn first_kind(value: &Value) -> Option<Kind>
     ensures { result ≡ spec.text_kind (only_text (value_view kept_place value.now)) }
 {
@@ -119,7 +119,7 @@ fn first_kind(value: &Value) -> Option<Kind>
     }
 }
 
-// Adds the finding that a first value is not of its variable's type.
+// Appends a violation if an initial value does not fit its variable's type.
 fn add_first_findings(
     alloc: Global,
     kind: Option<Kind>,
@@ -141,7 +141,7 @@ fn add_first_findings(
     }
 }
 
-// Adds what is wrong with a declaration of variables.
+// Appends the violations of a declaration of variables.
 fn add_variable_findings(
     alloc: Global,
     variable: &VariableDeclaration,
@@ -155,8 +155,8 @@ fn add_variable_findings(
     add_first_findings(alloc, kind, first, found)
 }
 
-/// Adds what is wrong with the variables of a behaviour: those that are neither Integer nor Boolean,
-/// and first values of another type.
+/// Appends the violations of the variables of a behaviour: types other than Integer and Boolean, and initial
+/// values of another type. Errors: out of memory.
 pub fn add_variables_findings(
     alloc: Global,
     annex: &AnnexTree,

@@ -1,4 +1,4 @@
-//! Values that are words.
+//! Values that are single words.
 ghost use Rattle.std.specs.Prelude.{◌≡◌};
 ghost use Rattle.aadl_tree.specs.proof.PlaceMaps.{kept_place};
 ghost use Rattle.aadl_tree.specs.proof.ValueViews.{value_view};
@@ -8,7 +8,7 @@ ghost use Rattle.component_checks.specs.ThreadRatesAndFindings as spec;
 use aadl_names::name_comparison::is_reference;
 use aadl_tree::Value;
 
-/// Whether a value is a reference that is this word.
+/// Returns whether a value is a reference that consists of this word.
 pub fn is_word(word: &str, value: &Value) -> bool
     ensures { result ≡ spec.is_word word.now (reference_of (value_view kept_place value.now)) }
 {

@@ -1,4 +1,4 @@
--- An instance in which nothing is found has a design.
+-- An instance model without findings has a design.
 use Rattle.std.proofs.Common.{◌≡◌, ◌∙◌, ℕ, ◌≤◌, Bool, List, refl, sym, ap, subst}
 use Rattle.std.proofs.lemmas.Option.{same_Some}
 use Rattle.list_lemmas.proofs.ListOperations.{map-map}
@@ -135,7 +135,7 @@ has_design law tree s named i nothing =
     let found = all_parts tree (shown_by tree i.parts) there.used there.none in
     of_shown (HasDesign tree) tree s i (accepted i.flat there.used there.is_use found named law)
 
--- ---- there is one
+-- ---- existence
 same_design : (a b : DesignParts) → a.period ≡ b.period → a.gamma ≡ b.gamma → a.components ≡ b.components
     → a.links ≡ b.links
     → a.feeds ≡ b.feeds → a.taps ≡ b.taps → a.ignored ≡ b.ignored → a ≡ b

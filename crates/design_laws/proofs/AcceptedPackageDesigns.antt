@@ -1,4 +1,4 @@
--- A package in which nothing is wrong has a design, which keeps the rules of designs.
+-- A package without faults and violations has a design, which satisfies the rules of designs.
 use Rattle.std.proofs.Common.{◌≡◌, ◌∙◌, ℕ, ◌≤◌, max, List, [], ◌∷◌, ◌++◌, map, fold, Option, Some, None, refl, ap}
 use Rattle.std.proofs.Common.{subst}
 use Rattle.std.proofs.lemmas.Option.{same_Some}
@@ -40,7 +40,7 @@ given_names differ tree given = record {
   differ = λ root n x none is. differ tree root n x given none is;
 }
 
--- ---- rules, and that there is a design
+-- ---- the rules, and the existence of the design
 shown_is : (tree : PackageTree ℕ) (root : List ℕ) (parts : InstanceParts) → IsFlat tree root parts
     → IsShown tree (shown_by tree parts)
 shown_is tree root parts flat = record {
@@ -75,7 +75,7 @@ is_there law tree root parts named flat nothing =
     (nothing_found tree (shown_by tree parts) nothing) in
     (there.0, record { parts = parts; flat = flat; nothing_wrong = nothing; design_of = there.1 })
 
--- ---- the first of what is all there
+-- ---- the first element of a list that is complete
 record Firsts {X : Type 0} (o : Option X) (os : Option (List X)) (xs : List X) : Type 0 where
   first : X
   rest : List X
@@ -89,9 +89,9 @@ first_of (Some x) None xs is = absurd (cc is)
 first_of (Some x) (Some ys) xs is =
     record { first = x; rest = ys; is_first = refl; is_rest = refl; both = same_Some (x ∷ ys) xs is }
 
--- ---- the greatest rate of the components is that of the threads
+-- ---- the maximum rate of the components is the maximum rate of the threads
 module _ (tree : PackageTree ℕ) (root : ℕ) where
-  -- a component, and those behind it
+  -- a component, and the components after it
   rate_by : (path : List ℕ) (rate : Option ℕ) (b : Option BehaviourParts) (c : Component)
       → component_by path rate b ≡ Some c → rate ≡ Some c.rate
   rate_by path None b c is = absurd (cc is)

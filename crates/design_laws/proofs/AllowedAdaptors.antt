@@ -1,4 +1,4 @@
--- Adaptors on which nothing is found are allowed.
+-- Adaptors without findings are allowed.
 use Rattle.std.proofs.Common.{◌≡◌, ℕ, nat_eq, Bool, true, false, cond, ◌||◌, List, [], ◌∷◌, Option, Some, None, refl}
 use Rattle.std.proofs.Common.{ap, subst}
 use Rattle.std.specs.Prelude.{option_map}
@@ -15,13 +15,13 @@ use Rattle.component_checks.specs.PeriodAndAdaptorFindings.{pair_findings}
 use Rattle.component_checks.specs.AdaptorTexts.{adaptor_named}
 use Rattle.design_laws.proofs.EmptyFindingLists as tests
 
--- the adaptor of a text fits two rates and a type
+-- the adaptor in a text fits two rates and a type
 pub record Fits (text : Option (List ℕ)) (kind : Option Kind) (p q : ℕ) : Type 0 where
   pub divides : divides_or_divided p q ≡ true
   pub allowed : is_allowed (option_and_then adaptor_named text) p q ≡ true
   pub suits : kind_suits (option_and_then adaptor_named text) kind ≡ true
 
--- ---- equal rates, and none
+-- ---- equal rates without an adaptor
 
 self_divides : (p : ℕ) → divides_or_divided p p ≡ true
 self_divides p = ap (λ n. nat_eq n 0 || nat_eq n 0) (mod_self p)
@@ -33,7 +33,7 @@ none_suits : (kind : Option Kind) → kind_suits None kind ≡ true
 none_suits None = refl
 none_suits (Some k) = refl
 
--- ---- an adaptor that is right
+-- ---- a valid adaptor
 right_fits : (a : Option Adaptor) (kind : Option Kind) (p q : ℕ) → is_right a kind p q ≡ true
     → (is_allowed a p q ≡ true) × (kind_suits a kind ≡ true)
 right_fits None kind p q h = absurd (false≢true h)

@@ -1,4 +1,4 @@
--- No fault of the names in a behaviour is `Memory`, the want of memory.
+-- No fault in the names of a behaviour is `Memory`, an allocation failure.
 use Rattle.std.proofs.Common.{ℕ, Bool, List, Option, Some, None}
 use Rattle.aadl_tree.specs.Names.{Identifier, listed_in}
 use Rattle.aadl_tree.specs.Expressions as e

@@ -1,4 +1,5 @@
--- The orders of paths and of ends of chains go one way: nothing stands both before and behind another.
+-- The orders of paths and of the ends of connection chains are asymmetric: no element is both before and after
+-- another.
 use Rattle.std.proofs.Common.{◌≡◌, ◌⊎◌, inl, inr, ℕ, nat_lt, true, List, reverse, subst, arith}
 use Rattle.std.proofs.lemmas.Bool.{ltb-true}
 use Rattle.list_lemmas.proofs.Booleans.{or_and_cases}
@@ -14,7 +15,7 @@ pub paths_one_way : (a b : List ℕ) → PathBefore a b → PathBefore b a → �
 paths_one_way a b h g = one_way_paths (reverse a) (reverse b) h g
 
 -- ---- targets
--- no path goes before itself
+-- no path precedes itself
 not_same : (p q : List ℕ) → path_before (reverse p) (reverse q) ≡ true → same_path q p ≡ true → ⊥
 not_same p q before same =
     let e = same_path-true q p same in

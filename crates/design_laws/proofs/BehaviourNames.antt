@@ -1,4 +1,4 @@
--- The names of a behaviour's ports, variables and states are those of the text, are words, and differ.
+-- The names of a behaviour's ports, variables and states are the names in the text. They are distinct words.
 use Rattle.std.proofs.Common.{◌≡◌, ◌≢◌, ◌∙◌, ℕ, Bool, true, false, not, List, [], ◌∷◌, ◌++◌, map, AllPairs, Option}
 use Rattle.std.proofs.Common.{Some, None, refl, sym, ap, subst}
 use Rattle.std.specs.Prelude.{flat_map, filter, IsTrue, All}
@@ -33,7 +33,7 @@ use Rattle.design_laws.proofs.PairwiseDistinctNames.{same_itself, Differs}
 use Rattle.design_laws.proofs.ElementAndPairwiseProperties.{all_unmapped, pairs_unmapped, pairs_first, pairs_second, pairs_across}
 use Rattle.design_laws.proofs.ElementAndPairwiseProperties.{all_kept, split, all_true}
 
--- ---- names that differ
+-- ---- distinct names
 abbrev Apart : List ℕ → List ℕ → Type 0
 Apart a b = same_name a b ≡ false
 
@@ -54,7 +54,7 @@ spelling x = x.spelling
 abbrev port_name : Feature ℕ → List ℕ
 port_name f = f.name.spelling
 
--- ---- the names of a behaviour are those of the text
+-- ---- the names of a behaviour are the names in the text
 ins_named : (fs : List (Feature ℕ)) → map (λ (p : PortDecl). p.name) (map named_of (map port_of fs)) ≡ map port_name fs
 ins_named [] = refl
 ins_named (f ∷ fs) = ap (λ l. f.name.spelling ∷ l) (ins_named fs)
@@ -119,7 +119,7 @@ module _ (ports : List (Feature ℕ)) (annex : AnnexTree ℕ) where
   outs : List (Feature ℕ)
   outs = filter (λ f. not (is_in f)) ports
 
-  -- the names, as the text has them
+  -- the names in the text
   text_names : List (List ℕ)
   text_names = map port_name (ins ++ outs) ++ map spelling ids
 

@@ -1,4 +1,4 @@
--- The skew, ranges, rates and periods on which nothing is found are within their limits.
+-- The skew, ranges, rates and periods without findings are within their limits.
 use Rattle.std.proofs.Common.{◌≡◌, ◌∙◌, ℕ, ◌*◌, ◌/◌, ◌%◌, ◌≤◌, nat_le, nat_lt, nat_eq, Bool, true, false, not, cond}
 use Rattle.std.proofs.Common.{◌&&◌, List, [], ◌∷◌, Option, Some, None, refl, ap, subst, zero, suc, arith}
 use Rattle.std.specs.Option.{option_and_then}
@@ -18,7 +18,7 @@ use Rattle.annex_resolve.specs.FindingRecords.{finding, found_if}
 use Rattle.model_violations.proofs.RatesWithinLimits.{bounds_of}
 use Rattle.design_laws.proofs.EmptyFindingLists.{not_wrong}
 
--- ---- what a test lets through
+-- ---- values that pass a test
 
 pub stopped : {X : Type 0} (b : Bool) (x y : X) → cond b None (Some x) ≡ Some y → (b ≡ false) × (x ≡ y)
 stopped true x y is = absurd (cc is)
@@ -124,7 +124,7 @@ one_rate_fits t (Some p) k is =
     let b = bounds_of (t / p) r.1 in
     subst (IsRateOf t) q.1 (record { low = b.0; high = b.1; divides = no_rest p t (divides_by p t r.0) })
 
--- ---- a period on which nothing is found
+-- ---- a period without findings
 
 pub leaves_time : (at t : ℕ) (g : Gamma) (k : ℕ) → bound_findings at (Some t) (Some g) k ≡ [] → least_period g k ≤ t
 leaves_time at t g k none =

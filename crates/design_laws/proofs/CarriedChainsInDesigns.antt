@@ -1,4 +1,4 @@
--- Links, feeds and taps of an instance in which nothing is found are those of a design.
+-- Links, feeds and taps of an instance model without findings are valid in a design.
 use Rattle.std.proofs.Common.{◌≡◌, ◌∙◌, inl, inr, ℕ, ◌<◌, Bool, true, false, List, [], ◌∷◌, Option, Some, None, refl}
 use Rattle.std.proofs.Common.{sym, ap, subst}
 use Rattle.std.specs.Prelude.{slice_get, option_map}
@@ -75,7 +75,7 @@ module _ {tree : PackageTree ℕ} {name : List ℕ} {parts : InstanceParts} (fla
   end_goes_in p (inl s) thread = s.1
   end_goes_in p (inr s) thread = absurd (not_root p thread s.0)
 
-  -- ---- both ends of a chain are ports of one type
+  -- ---- both ends of a connection chain are ports of one type
   pub record Joins (used : ℕ → Bool) (from to : Port) : Type 0 where
     pub source : Feature ℕ
     pub target : Feature ℕ
@@ -106,7 +106,7 @@ module _ {tree : PackageTree ℕ} {name : List ℕ} {parts : InstanceParts} (fla
           target_kind = sym (ap kind_by g.1) ∙ k.1;
         }
 
-    -- a link's ends, a feed's and a tap's are apart
+    -- separate lemmas for the ends of a link, of a feed and of a tap
     pub link_joins : (e : CarriedChain) → walks.IsLink tree parts.root e → Joins used e.from e.to
     link_joins e (chain, is, from, to, carries) =
         joins chain e.from e.to is.leads (λ same. false≢true (sym (start_goes_out e.from is.start from)
@@ -120,7 +120,7 @@ module _ {tree : PackageTree ℕ} {name : List ℕ} {parts : InstanceParts} (fla
     tap_joins e (chain, is, from, to, carries) =
         joins chain e.from e.to is.leads (λ same. not_root e.from from (ap (λ (p : Port). p.path) same ∙ to))
 
-  -- ---- the carrier
+  -- ---- the connection whose properties apply
   pub connection_is : (crossing : Bool) (chain : List ConnectionAt) (e : CarriedChain) → (c : Carries tree parts.root crossing chain e)
       → connection_of tree (chain_at tree parts e).carrier ≡ Some c.link
   connection_is crossing chain e c = ap (λ o. slice_get (connections_of o) e.connection) c.is_component ∙ c.is_link

@@ -1,4 +1,4 @@
--- The ports of threads at which chains end, as the design numbers them.
+-- The ports of threads at the ends of connection chains, as the design numbers them.
 use Rattle.std.proofs.Common.{◌≡◌, ◌∙◌, ℕ, ◌+◌, ◌≤◌, true, false, not, List, map, length, take, Option, Some, None}
 use Rattle.std.proofs.Common.{Contains, refl, sym, ap}
 use Rattle.std.specs.Prelude.{slice_get, filter, count_by, option_map}
@@ -31,7 +31,7 @@ use Rattle.design_laws.proofs.InstanceBehaviours.{ThreadIs}
 use Rattle.design_laws.proofs.MatchedLists.{Zipped, zipped_at}
 use Rattle.design_laws.proofs.PortAndThreadNumbers.{kept_at, IsNode, is_node}
 
--- ---- ports as a behaviour has them
+-- ---- the ports of a behaviour
 behaviour_ports : (tree : PackageTree ℕ) (x : Implementation ℕ) (o : Option (ℕ × AnnexTree ℕ)) (b : BehaviourParts)
     → behaviour_by tree x o ≡ Some b
     → (b.ins ≡ map named_of (ins_in (ports_of tree x))) × (b.outs ≡ map named_of (outs_in (ports_of tree x)))
@@ -40,7 +40,7 @@ behaviour_ports tree x (Some a) b is =
     let e = same_Some (behaviour_of (values.values_of tree x a.1) (values.scope_of tree x a.1) a.1) b is in
     (ap (λ (c : BehaviourParts). c.ins) (sym e), ap (λ (c : BehaviourParts). c.outs) (sym e))
 
--- ---- which way a port goes
+-- ---- the direction of a port
 in_test : (d : Direction) → goes_in (Some d) ≡ true → (fs : List (Feature ℕ))
     → count_by (λ (o : Feature ℕ). same_direction d o.direction) fs ≡ count_by types.is_in fs
 in_test directions.In is fs = refl
@@ -51,7 +51,7 @@ out_test : (d : Direction) → goes_in (Some d) ≡ false → (fs : List (Featur
 out_test directions.In is fs = absurd (false≢true (sym is))
 out_test directions.Out is fs = refl
 
--- ---- a component of the design stands for the thread at a path
+-- ---- the component of the design for the thread at a path
 pub record IsComponentAt (tree : PackageTree ℕ) (root : ℕ) (path : List ℕ) (c : Component) : Type 0 where
   pub thread : ThreadIs tree root path
   pub rate_seen : thread_rate tree root (thread_at tree root path) ≡ Some c.rate
@@ -59,7 +59,7 @@ pub record IsComponentAt (tree : PackageTree ℕ) (root : ℕ) (path : List ℕ)
   pub small : length c.behaviour.ins + length c.behaviour.outs ≤ PORTS
 
 module _ (tree : PackageTree ℕ) (root : ℕ) (threads : List (List ℕ)) (cs : List Component) where
-  -- the thread at a path has a number, and a component of that number
+  -- the thread at a path has a number, and the component of that number exists
   pub record AtNode (path : List ℕ) : Type 0 where
     pub node : IsNode threads path
     pub component : Component
@@ -161,6 +161,6 @@ module _ (tree : PackageTree ℕ) (root : ℕ) (threads : List (List ℕ)) (cs :
       ∙ ap (option_map (thread_at tree root)) at.node.is)) in
       ap flat read ∙ at.sits.rate_seen
 
-  -- ---- as the design has it
+  -- ---- the number in the design
   pub component_there : (path : List ℕ) → (at : AtNode path) → slice_get cs (node_at threads path).0 ≡ Some at.component
   component_there path at = ap (slice_get cs) at.node.number ∙ at.is

@@ -1,4 +1,4 @@
--- The types of ports along a chain of connections on which nothing is found.
+-- The types of ports along a connection chain without findings.
 use Rattle.std.proofs.Common.{◌≡◌, ◌∙◌, ℕ, ◌+◌, Bool, true, List, [], ◌∷◌, ◌++◌, Option, Some, None, refl, sym, ap}
 use Rattle.std.proofs.Common.{subst, arith}
 use Rattle.std.specs.Prelude.{slice_get, option_map}
@@ -34,7 +34,7 @@ use Rattle.design_laws.specs.proof.PortKinds.{port_kind}
 use Rattle.design_laws.proofs.SoundInstanceParts.{declared_at, implementation_clean, stands_at, is_used}
 use Rattle.design_laws.proofs.InstanceBehaviours.{first_is, ports_clean}
 
--- ---- a site that is declared has a port
+-- ---- a declared site has a port
 named_there : (ports : List (Feature ℕ)) (word : List ℕ) (p : ℕ) → port_named ports word ≡ Some p
     → (f : Feature ℕ) × (slice_get ports p ≡ Some f)
 named_there ports word p is =
@@ -70,7 +70,7 @@ module _ (tree : PackageTree ℕ) (x : Implementation ℕ) where
   unfolding end_port
   site_there end s e = there_by end.first end.second s e
 
--- ---- the port of a site is that of the component which stands there
+-- ---- the port of a site is a port of the component at the site
 module _ (tree : PackageTree ℕ) (root : ℕ) where
   site_is : (path : List ℕ) (n : ℕ) (x : Implementation ℕ) (s : NumberedPort) → number_at_path tree root path ≡ Some n
       → implementation_at tree n ≡ Some x
@@ -102,7 +102,7 @@ module _ (tree : PackageTree ℕ) (root : ℕ) where
             ∙ (site_is place.path g.number g.component g.target g.stands g.is_component ∙ f.1),
       )
 
-  -- both ends of a chain of connections are ports
+  -- both ends of a connection chain are ports
   pub first_there : (c : ConnectionAt) (cs : List ConnectionAt) (from to : Port) → Leads tree root (c ∷ cs) from to
       → (f : Feature ℕ) × (port_of tree root from ≡ Some f)
   first_there c [] from to l =
@@ -114,7 +114,7 @@ module _ (tree : PackageTree ℕ) (root : ℕ) where
       → (f : Feature ℕ) × (port_of tree root to ≡ Some f)
   last_there c cs from to l = target_there c l.0 to l.2
 
--- ---- types that fit are the same
+-- ---- types that fit are equal
 same_by : (a b : Kind) → same_kind a b ≡ true → a ≡ b
 same_by Integer Integer e = refl
 same_by Integer Boolean e = absurd (false≢true e)
@@ -126,7 +126,7 @@ same_kinds None b k l first second e = absurd (cc first)
 same_kinds (Some a) None k l first second e = absurd (cc second)
 same_kinds (Some a) (Some b) k l first second e = ap Some (same_by a b e)
 
--- ---- along a chain
+-- ---- along a connection chain
 module _ {tree : PackageTree ℕ} {name : List ℕ} {parts : InstanceParts} (flat : IsFlat tree name parts) (used : ℕ → Bool)
     (is_use : IsUse tree parts.root used) (none : used_findings tree (shown_by tree parts) used ≡ []) where
   typed_by : (path : List ℕ) (p : ℕ) (o : Option (Implementation ℕ)) (f : Feature ℕ)
@@ -191,7 +191,7 @@ module _ {tree : PackageTree ℕ} {name : List ℕ} {parts : InstanceParts} (fla
       (sym target ∙ k.1)
       (sym source ∙ j.1) (ends_fit place from to g)) ∙ sym target)
 
-  -- all ports on a chain have one type
+  -- all ports of a connection chain have one type
   pub kinds_along : (cs : List ConnectionAt) (from to : Port) → Leads tree parts.root cs from to
       → port_kind tree parts.root from ≡ port_kind tree parts.root to
   kinds_along [] from to l = ap (port_kind tree parts.root) l

@@ -1,5 +1,5 @@
--- Declarations without cycles have an order in which each stands behind those that it contains: each pass places one
--- more.
+-- Declarations without cycles have an order in which each follows the declarations that it contains: each pass places
+-- one more.
 use Rattle.std.proofs.Common.{◌≡◌, ◌⊎◌, inl, inr, ℕ, zero, suc, ◌+◌, ◌<◌, ◌≤◌, Bool, true, false, nat_eq, List, []}
 use Rattle.std.proofs.Common.{length, refl, subst, arith}
 use Rattle.std.specs.List.{list_all}
@@ -33,7 +33,7 @@ by_declared g n old q (inr past) = record { new = old; is = placed_not g n old (
 placed : (g : Graph) (n : ℕ) (old : List ℕ) → IsSequence g old → Placed g n old
 placed g n old q = by_declared g n old q (cases_lt n (length g))
 
--- ---- a round
+-- ---- a pass
 record Round (g : Graph) (at : ℕ) (old : List ℕ) : Type 0 where
   new : List ℕ
   are : ArePlaced g at old new
@@ -46,7 +46,7 @@ round g (suc at) old q =
     let e : at + 1 ≡ suc at = omega arith in
     subst (λ (n : ℕ). Round g n old) e (record { new = p.new; are = placed_more g at old r.new p.new r.are p.is })
 
--- ---- rounds
+-- ---- passes
 record Longer (g : Graph) (n : ℕ) : Type 0 where
   keys : List ℕ
   sequence : IsSequence g keys

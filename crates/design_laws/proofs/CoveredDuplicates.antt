@@ -1,4 +1,4 @@
--- Each finding that a name is declared twice is among the possible name faults of the package.
+-- Each finding of a duplicate declaration is one of the possible name faults of the package.
 use Rattle.std.proofs.Common.{◌≡◌, ℕ, List, [], ◌∷◌, ◌++◌, Option, Some, None, Contains, refl, subst}
 use Rattle.std.specs.Prelude.{flat_map, slice_get}
 use Rattle.std.specs.List.{filter_map}
@@ -32,7 +32,7 @@ use Rattle.design_laws.proofs.PossibleNameFaults.{none_of, of_type, of_implement
 abbrev pub again_of : Identifier ℕ → PackageFault
 again_of x = Twice x.spelling x.at
 
--- ---- what is declared in an annex
+-- ---- declarations in an annex
 variable_has : (v : VariableDeclaration ℕ) (y : Identifier ℕ) → Contains (identifiers v.names) y
     → Contains (of_variable v) (again_of y)
 variable_has v y there = Contains-append_left (of_identifiers v.names) (of_associations v.properties) (again_of y)
@@ -59,7 +59,7 @@ module _ (transitions : AnnexTree ℕ → List PackageFault) (x : AnnexTree ℕ)
       (Contains-append_left (flat_map of_state (listed_in x.states)) (transitions x) (again_of y)
       (among_all of_state (listed_in x.states) from.item (again_of y) from.there (state_has from.item y from.here)))
 
--- ---- what is declared in a declaration
+-- ---- the members of a declaration
 feature_has : (x : TypeDeclaration ℕ) (y : Feature ℕ) → Contains x.features y → Contains (of_type x) (again_of y.name)
 feature_has x y there = Contains-append_right (Twice x.name.spelling x.at ∷ []) _ (again_of y.name)
     (Contains-append_left (flat_map of_feature x.features)

@@ -1,4 +1,4 @@
--- Each finding in the names of a package is among the possible name faults, or of another kind.
+-- Each finding in the names of a package is one of the possible name faults, or has another kind.
 use Rattle.std.proofs.Common.{◌≡◌, ℕ, ◌+◌, Bool, not, ◌&&◌, List, [], ◌∷◌, ◌++◌, Option, Some, None, Contains, sym}
 use Rattle.std.proofs.Common.{subst}
 use Rattle.std.specs.Prelude.{flat_map}

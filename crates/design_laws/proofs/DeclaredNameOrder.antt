@@ -90,7 +90,7 @@ module _ (x : AnnexTree ℕ) where
       (subst (λ l. Placed states (flat_map (λ (s : StateDeclaration ℕ). identifiers s.names) l))
       (same_list x.states) here))
 
--- names that are placed in each annex that is a behaviour are placed in the first one's
+-- names that are at places of each behaviour annex are at places of the first one
 module _ (names : AnnexTree ℕ → List (Identifier ℕ)) (each : (x : AnnexTree ℕ) → Rise (annex_tree_parts x)
     → Placed (annex_tree_parts x) (names x)) where
   in_content : (at : ℕ) (language : Identifier ℕ) (x : AnnexTree ℕ) (content : AnnexContent ℕ) → content ≡ behaviour x

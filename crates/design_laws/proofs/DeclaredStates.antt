@@ -25,7 +25,7 @@ use Rattle.design_laws.proofs.PairwiseDistinctNames.{all_none}
 use Rattle.design_laws.proofs.ElementAndPairwiseProperties.{all_true}
 use Rattle.design_laws.proofs.BehaviourNames.{same_states}
 
--- ---- the first that passes is one of them, where some passes
+-- ---- the first element that passes is in the list, if some element passes
 abbrev place : {X : Type 0} → (X → Bool) → List X → ℕ
 place p [] = 0
 place p (x ∷ xs) = cond (p x) 0 (suc (place p xs))

@@ -1,4 +1,4 @@
--- The components of an instance in which nothing is found.
+-- The components of an instance model without findings.
 use Rattle.std.proofs.Common.{◌≡◌, ◌≢◌, ◌∙◌, inl, inr, ℕ, ◌≤◌, max, Bool, List, [], ◌∷◌, map, length, fold, codes}
 use Rattle.std.proofs.Common.{Option, Some, None, AllPairs, refl, sym, ap, subst, arith, length-append}
 use Rattle.aadl_tree.specs.Names.{identifiers, listed_in}
@@ -48,7 +48,7 @@ use Rattle.design_laws.proofs.InstanceBoundsAndRates.{root_time, rate_is}
 use Rattle.design_laws.proofs.PathTexts.{path_is, paths_differ, before_other}
 use Rattle.design_laws.proofs.MatchedLists.{Zipped, Made, all_made, zipped_length, all_zipped, pairs_zipped}
 
--- ---- how much a behaviour has
+-- ---- the sizes of a behaviour
 variables_by : (vs : List (VariableDeclaration ℕ)) → length (flat_map variables_in vs) ≡ length
     (flat_map (λ (v : VariableDeclaration ℕ). identifiers v.names) vs)
 variables_by [] = refl
@@ -245,7 +245,7 @@ module _ {tree : PackageTree ℕ} {name : List ℕ} {parts : InstanceParts} (fla
       pairs_zipped IsOf PathBefore (λ (a b : Component). a.path ≢ b.path) other_paths parts.threads components.all
       (pairs_from PathBefore parts.threads flat.threads.in_order) components.each
 
-  -- ---- the greatest rate
+  -- ---- the maximum rate
   rates_by : (k : ℕ) (paths : List (List ℕ)) (cs : List Component) → Zipped IsOf paths cs
       → fold greater_rate k (map (λ path. thread_rate tree parts.root (thread_at tree parts.root path)) paths) ≡ fold
       (λ n (c : Component). max n c.rate) k cs

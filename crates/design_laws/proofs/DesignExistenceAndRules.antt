@@ -1,5 +1,5 @@
--- Where nothing is found in an instance it is not so that it has no design, and its design keeps the rules of
--- designs, if no more is known than that some package without a fault has the instance.
+-- If an instance model has no findings, it is contradictory that it has no design, and its design satisfies the rules
+-- of designs. The only assumption is that some package without a fault has the instance model.
 use Rattle.std.proofs.Common.{ℕ, subst}
 use Rattle.std.proofs.Props.{props}
 use Rattle.std.proofs.Math.Logic.{∥∥₁_elim}

@@ -1,4 +1,4 @@
--- The links, feeds and taps of the design, over its components.
+-- The links, feeds and taps of the design, in terms of its components.
 use Rattle.std.proofs.Common.{get_or, ◌≡◌, ◌≢◌, ◌∙◌, inl, inr, ℕ, ◌≤◌, Bool, List, [], ◌∷◌, map, length, codes, Some}
 use Rattle.std.proofs.Common.{refl, sym, ap, subst, arith}
 use Rattle.std.specs.Prelude.{flat_map, All}
@@ -66,7 +66,7 @@ module _ {tree : PackageTree ℕ} {name : List ℕ} {parts : InstanceParts} (fla
         ignored;
   }
 
-  -- ---- what each list is made of
+  -- ---- the parts of each list
   pub record LinkIs (e : CarriedChain) (l : Link) : Type 0 where
     pub link : walks.IsLink tree parts.root e
     pub found : link_findings tree (map (thread_at tree parts.root) parts.threads) (rates_of tree (shown_by tree parts))
@@ -150,7 +150,7 @@ module _ {tree : PackageTree ℕ} {name : List ℕ} {parts : InstanceParts} (fla
   taps = all_made (λ e. tap_in (chain_at tree parts e)) TapIs parts.taps
       (taps_by parts.taps (recursion_from_All (walks.IsTap tree parts.root) parts.taps flat.taps.each))
 
-  -- ---- in ports at which they end
+  -- ---- the in ports at the ends
   link_port : (ls : List Link) (fs : List Feed) (ts : List Tap) (e : CarriedChain) → walks.IsLink tree parts.root e
       → InPort flat (design_of ls fs ts) sits e.to
   link_port ls fs ts e (chain, is, from, to, carries) =

@@ -1,4 +1,4 @@
--- Of the faults in names that are possible in annexes, each place has at most one.
+-- Of the possible faults in the names of annexes, at most one is at each position.
 use Rattle.std.proofs.Common.{ℕ, Bool, List, [], ◌∷◌, Option, Some, None}
 use Rattle.std.specs.Prelude.{flat_map}
 use Rattle.std.proofs.lemmas.List.Elements.{Contains-append_left}

@@ -1,4 +1,4 @@
--- Of the faults in the names that expressions use, each place has at most one.
+-- Of the faults in the names that expressions use, at most one is at each position.
 use Rattle.std.proofs.Common.{ℕ, [], ◌∷◌, Option, Some, None}
 use Rattle.aadl_tree.specs.declared.mark.Mark.TheVariants as k
 use Rattle.aadl_tree.specs.Terminals.{mark}

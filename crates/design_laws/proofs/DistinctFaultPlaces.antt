@@ -1,4 +1,4 @@
--- Lists of faults that have one at most at each place, all at places of the text's parts.
+-- Lists of faults with at most one at each position, where each position is a place of the text's parts.
 use Rattle.std.proofs.Common.{◌≡◌, ◌⊎◌, inl, inr, ◌∙◌, ℕ, Bool, true, false, cond, List, [], ◌∷◌, ◌++◌, Contains, refl}
 use Rattle.std.proofs.Common.{sym, subst, append_assoc, arith}
 use Rattle.std.specs.Prelude.{flat_map}
@@ -12,8 +12,8 @@ use Rattle.aadl_names.proofs.ListMembers.{only_here}
 use Rattle.aadl_names.specs.proof.PlaceOrder.{places_of}
 use Rattle.design_laws.proofs.PlacedNames.{Rise, rise_front, rise_back, in_front, in_back}
 
--- each of the findings stands at a place that the parts keep, and where places rise along the parts, two at one place
--- are equal
+-- each finding is at a place that the parts keep; if places increase along the parts, two findings at one place are
+-- equal
 pub record OnePerPlace (parts : List (SpellingPart ℕ)) (found : List PackageFault) : Type 0 where
   pub inside : (f : PackageFault) → Contains found f → Contains (places_of parts) (place_of f)
   pub single : Rise parts → (f g : PackageFault) → Contains found f → Contains found g → place_of f ≡ place_of g → f ≡ g
@@ -49,7 +49,7 @@ pub clear_section : (s : Section) (ps : List (SpellingPart ℕ)) {fs : List Pack
 clear_section s [] c = clear_tail {p = may (empty_section s)} c
 clear_section s (p ∷ ps) c = clear_tail {p = plain (section_mark s)} c
 
--- ---- findings of parts one behind the other
+-- ---- findings of consecutive parts
 module _ (a b : List (SpellingPart ℕ)) (fs gs : List PackageFault) (c : OnePerPlace a fs) (d : OnePerPlace b gs) where
   inside_by : (f : PackageFault) → Contains fs f ⊎ Contains gs f → Contains (places_of (a ++ b)) (place_of f)
   inside_by f (inl h) = in_front a b (place_of f) (c.inside f h)
@@ -84,7 +84,7 @@ pub clear_flat : {V : Type 0} (f : V → List (SpellingPart ℕ)) (g : V → Lis
 clear_flat f g each [] = clear_none []
 clear_flat f g each (v ∷ vs) = clear_append (each v) (clear_flat f g each vs)
 
--- ---- fewer findings, or others in their order
+-- ---- a part of the findings, or the same in another order
 pub clear_fewer : {parts : List (SpellingPart ℕ)} {fs gs : List PackageFault}
     → ((f : PackageFault) → Contains gs f → Contains fs f) → OnePerPlace parts fs
     → OnePerPlace parts gs
@@ -120,7 +120,7 @@ module _ (a b c d : List PackageFault) (f : PackageFault) where
   turned_by (inl h) = Contains-append_left a (c ++ (b ++ d)) f h
   turned_by (inr h) = middle_by (Contains-append_cases b (c ++ d) f h)
 
--- the second and the third of four lists turned round
+-- the second and the third of four lists exchanged
 pub clear_turned : {parts : List (SpellingPart ℕ)} (a b c d : List PackageFault) → OnePerPlace parts (a ++ (c ++ (b ++ d)))
     → OnePerPlace parts (a ++ (b ++ (c ++ d)))
 clear_turned a b c d h =

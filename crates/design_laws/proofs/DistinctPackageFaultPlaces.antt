@@ -1,4 +1,4 @@
--- Of the faults in names that are possible in a package, each place has at most one.
+-- Of the possible faults in the names of a package, at most one is at each position.
 use Rattle.std.proofs.Common.{ℕ, List, [], ◌∷◌, ◌++◌, Contains}
 use Rattle.std.specs.Prelude.{flat_map}
 use Rattle.std.proofs.lemmas.List.Elements.{Contains-append_left}
@@ -26,8 +26,8 @@ use Rattle.design_laws.proofs.PossibleNameFaults.{of_type, of_implementation, of
 use Rattle.design_laws.proofs.DistinctAnnexFaultPlaces.{identifier_clear, associations_clear, properties_clear}
 use Rattle.design_laws.proofs.DistinctAnnexFaultPlaces.{transitions_of, behaviour_clear, annex_clear}
 
--- ---- what a subcomponent and a connection refer to
--- a reference begins where its first word stands
+-- ---- the references of a subcomponent and of a connection
+-- the place of a reference is the place of its first word
 begins : (rest : List (SpellingPart ℕ)) (name : Identifier ℕ) (qualifiers : List (Identifier ℕ))
     → Contains (places_of (flat_map qualifier_parts qualifiers ++ (identifier_parts name ++ rest)))
     (elim qualifiers as (λ _. ℕ) [ [] ↦ name.at | y ∷ ys ↦ y.at ])
@@ -43,7 +43,7 @@ end_clear x = clear_one (end_parts x) (Unknown (spelled_end x) x.first.at)
     (Contains-append_left (x.first.at ∷ []) (places_of (parts_if (behind k.Dot identifier_parts) x.second)) x.first.at
     (is_here x.first.at))
 
--- ---- what is declared in a declaration
+-- ---- the members of a declaration
 feature_clear : (x : Feature ℕ) → OnePerPlace (feature_parts x) (of_feature x)
 feature_clear x =
     clear_append (identifier_clear x.name)

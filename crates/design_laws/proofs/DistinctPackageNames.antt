@@ -1,4 +1,4 @@
--- The names of a package in which nothing is declared twice differ.
+-- The names of a package without duplicate declarations are distinct.
 use Rattle.std.proofs.Common.{◌≡◌, ◌≢◌, ◌∙◌, ◌⊎◌, inl, inr, ℕ, zero, suc, ◌<◌, true, List, [], ◌∷◌, ◌++◌, map, Option}
 use Rattle.std.proofs.Common.{Some, None, Contains, refl, ap, subst, arith}
 use Rattle.std.specs.Prelude.{flat_map, slice_get}
@@ -137,7 +137,7 @@ module _ (ds : List (Declaration ℕ)) (r : Rise (flat_map declaration_parts ds)
   other_kind m n t x first second e = let same : slice_get ds m ≡ Some (implementation x) = ap (slice_get ds) e
       ∙ second in absurd (cc (first, same))
 
-  -- the ports of a type, and what an implementation declares
+  -- the ports of a type, and the declarations of an implementation
   ports_by : (m n : ℕ) (d : Option (Declaration ℕ)) (x : Implementation ℕ) (ys : List SpelledName) → slice_get ds m ≡ d
       → slice_get ds n ≡ Some (implementation x)
       → Entered (declaration_parts (implementation x)) ys → Pairs Apart (port_entries (features_of (type_in d)) ++ ys)

@@ -1,5 +1,5 @@
--- Lemmas on what holds of all elements and of each two elements of a list: of its images, of its parts, and of the
--- two halves that a test makes.
+-- Lemmas on properties of all elements and of all pairs of a list: for its images, its parts, and the two halves that
+-- a test selects.
 use Rattle.std.proofs.Common.{◌≡◌, ◌∙◌, ℕ, zero, suc, ◌+◌, ◌<◌, Bool, true, false, not, cond, List, [], ◌∷◌, ◌++◌, map}
 use Rattle.std.proofs.Common.{Option, Some, refl, sym, ap, subst, arith}
 use Rattle.std.specs.Prelude.{filter, slice_get, find}
@@ -9,7 +9,7 @@ use Rattle.std.proofs.lemmas.Bool.{and_from}
 use Rattle.list_lemmas.proofs.Elements.{found_either, AllByRecursion-append, AllByRecursion-at}
 use Rattle.list_lemmas.proofs.PairwiseProperties.{Pairs}
 
--- ---- what is made of a list
+-- ---- the image of a list
 
 pub all_unmapped : {X Y : Type 0} (P : Y → Type 0) (f : X → Y) (xs : List X) → AllByRecursion P (map f xs)
     → AllByRecursion (λ x. P (f x)) xs
@@ -21,7 +21,7 @@ pub pairs_unmapped : {X Y : Type 0} (R : Y → Y → Type 0) (f : X → Y) (xs :
 pairs_unmapped R f [] h = tt
 pairs_unmapped R f (x ∷ xs) h = (all_unmapped (R (f x)) f xs h.0, pairs_unmapped R f xs h.1)
 
--- ---- one list behind the other
+-- ---- concatenated lists
 pub all_first : {X : Type 0} (P : X → Type 0) (xs ys : List X) → AllByRecursion P (xs ++ ys) → AllByRecursion P xs
 all_first P [] ys h = tt
 all_first P (x ∷ xs) ys h = (h.0, all_first P xs ys h.1)
@@ -43,7 +43,7 @@ pub pairs_across : {X : Type 0} (R : X → X → Type 0) (xs ys : List X) → Pa
 pairs_across R [] ys h = tt
 pairs_across R (x ∷ xs) ys h = (all_second (R x) xs ys h.0, pairs_across R xs ys h.1)
 
--- ---- what passes a test, and then what does not
+-- ---- the elements that pass a test, and then the elements that fail it
 all_kept_by : {X : Type 0} (P : X → Type 0) (b : Bool) (x : X) (ys : List X) → P x → AllByRecursion P ys
     → AllByRecursion P (cond b (x ∷ ys) ys)
 all_kept_by P true x ys here rest = (here, rest)

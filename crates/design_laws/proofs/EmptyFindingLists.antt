@@ -1,4 +1,4 @@
--- What follows where a test passes, or a list of findings is empty.
+-- Consequences of a test that passes, or of an empty list of findings.
 use Rattle.std.proofs.Common.{◌≡◌, ℕ, ◌+◌, zero, suc, Bool, true, false, not, cond, List, [], ◌∷◌, map, Some, refl, ap}
 use Rattle.std.proofs.Common.{◌∙◌, arith}
 use Rattle.std.specs.Prelude.{flat_map, filter, slice_get}
@@ -7,7 +7,7 @@ use Rattle.std.proofs.lemmas.Bool.{not-false}
 use Rattle.list_lemmas.proofs.ListOperations.{append_is_nil}
 use Rattle.annex_resolve.specs.FindingRecords.{found_if}
 
--- nothing is wrong
+-- no findings
 pub not_wrong : (wrong : Bool) (at number : ℕ) (details : List ℕ) → found_if wrong at number details ≡ []
     → wrong ≡ false
 not_wrong true at number details e = absurd (cc e)

@@ -1,5 +1,4 @@
--- `Covered`, which says that each of some faults is a possible name fault or of another kind, and its rules for
--- joined lists.
+-- `Covered`: each of some faults is a possible name fault or has another kind; and its rules for concatenated lists.
 use Rattle.std.proofs.Common.{◌≡◌, ◌⊎◌, inl, inr, ℕ, Bool, true, false, cond, List, [], ◌∷◌, ◌++◌, map, filter, Option}
 use Rattle.std.proofs.Common.{Some, None, Contains, refl, sym, ap, subst}
 use Rattle.std.specs.Prelude.{flat_map}
@@ -47,8 +46,8 @@ pub from_filter : {X : Type 0} (p : X → Bool) (xs : List X) (x : X) → Contai
 from_filter p xs x c =
     All-contains (Contains xs) (filter p xs) x (All-filter p (Contains xs) xs (All-contains_itself xs)) c
 
--- ---- each of the findings is something of another kind, or among those that are possible
--- a finding of this number says no more than where it stands
+-- ---- each finding has another kind or is a possible one
+-- a finding of this kind has no content besides its position
 abbrev pub IsWrongKind : PackageFault → Type 0
 IsWrongKind f = number_of f ≡ number_of (WrongKind 0)
 

@@ -1,4 +1,4 @@
--- Whether there is a fault of some kind can be told, and the first one is found, one kind after another.
+-- The existence of a fault of some kind is decidable, and the first one is found, one kind after another.
 use Rattle.std.proofs.Common.{◌≡◌, ◌⊎◌, inl, inr, ℕ, zero, suc, ◌<◌, ◌≤◌, [], ◌∷◌, Contains, Option, None, refl, sym}
 use Rattle.std.proofs.Common.{subst, arith}
 use Rattle.std.proofs.lemmas.Bool.{cases_lt}
@@ -9,7 +9,7 @@ use Rattle.aadl_uses.specs.proof.FirstRecursion.{FirstIn}
 use Rattle.aadl_chains.specs.proof.FoundChainFaults.{FindsAll}
 use Rattle.aadl_chains.proofs.AccumulatedFaults.{finds_nothing, finds_both, finds_same, first_found}
 
--- all that have P are found, after what was found before
+-- the first fault that satisfies P, after the faults found before
 pub record Finds (P : PackageFault → Type 0) (old : Option PackageFault) : Type 0 where
   pub new : Option PackageFault
   pub all : FindsAll P old new
@@ -22,7 +22,7 @@ pub alike_found : (P Q : PackageFault → Type 0) (old : Option PackageFault) �
     → ((f : PackageFault) → Q f → P f) → Finds P old → Finds Q old
 alike_found P Q old to from x = record { new = x.new; all = finds_same P Q old x.new to from x.all }
 
--- one finding, where something holds that can be told
+-- one finding, under a condition that is decidable
 pub found_if : (D : Type 0) (fault : PackageFault) (old : Option PackageFault) → D ⊎ (D → ⊥)
     → Finds (λ f. D × (f ≡ fault)) old
 found_if D fault old (inl d) = record {

@@ -1,4 +1,4 @@
--- Of the faults in a package's names, those of one kind at one place are equal.
+-- Of the faults in a package's names, two of one kind at one position are equal.
 use Rattle.std.proofs.Common.{◌≡◌, ◌⊎◌, inl, inr, ◌∙◌, ℕ, List, Contains, refl, sym, ap}
 use Rattle.aadl_tree.specs.Declarations.{PackageTree, package_parts}
 use Rattle.aadl_tree.specs.TextTreesAndFaults.{IsTreeOf}
@@ -18,11 +18,11 @@ use Rattle.design_laws.proofs.DistinctPackageFaultPlaces.{possible_clear}
 all_covered : (tree : PackageTree ℕ) (root : ℕ) → Covered (package_faults tree root) (possible tree)
 all_covered tree root = covered_append (wrong_covered tree root) (twice_covered tree)
 
--- places rise along the package of a text
+-- places increase along the package of a text
 pub rises : (text : List ℕ) (tree : PackageTree ℕ) → IsTreeOf text tree → Rise (package_parts tree)
 rises text tree given = record { each = λ p q stands. places_rise text tree given p q stands }
 
--- what is of another kind is known by its place
+-- a fault of another kind is determined by its position
 of_kind : (f : PackageFault) → IsWrongKind f → f ≡ WrongKind (place_of f)
 of_kind (WrongKind at) e = refl
 of_kind NoRoot e = absurd (cc e)

@@ -1,4 +1,4 @@
--- The first connection that is on no chain, or is the second into a port.
+-- The first connection that is on no connection chain, or that is the second one into a port.
 use Rattle.std.proofs.Common.{◌≡◌, ◌↔◌, ℕ, Bool, false, ◌&&◌, IsTrue, List, length, slice_get, Contains, Option, Some}
 use Rattle.std.proofs.Common.{None, refl, sym, subst, ◌∙◌}
 use Rattle.std.proofs.lemmas.Option.{none-some, same_Some, slice_get_within}

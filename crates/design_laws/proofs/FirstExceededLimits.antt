@@ -1,4 +1,4 @@
--- The first limit that an instance exceeds, or that it exceeds none.
+-- The first limit that an instance model exceeds, or a proof that it exceeds none.
 use Rattle.std.proofs.Common.{◌≡◌, ◌⊎◌, inl, inr, ℕ, suc, ◌+◌, ◌<◌, ◌≤◌, min, Bool, true, false, List, [], ◌∷◌, length}
 use Rattle.std.proofs.Common.{get_or, Contains, AllPairs, Option, Some, None, refl, sym, ap, subst, ◌∙◌, arith}
 use Rattle.std.specs.List.{AllByRecursion}
@@ -32,7 +32,7 @@ told_more a b = by (cases_lt a b)
     by (inl lt) = inl lt
     by (inr ge) = inr (λ lt. absurd (omega arith))
 
--- ---- one of a list has a property, or none has
+-- ---- some element of a list has a property, or no element has it
 some_in : {X : Type 0} (Q : X → Type 0) → ((x : X) → Q x ⊎ (Q x → ⊥)) → (xs : List X)
     → ((x : X) × Contains xs x × Q x) ⊎ ((x : X) → Contains xs x → Q x → ⊥)
 some_in Q tell [] = inr (λ x h q. Contains-nil x h)
@@ -48,7 +48,7 @@ some_in {X = X} Q tell (x ∷ xs) = by (tell x) (some_in Q tell xs)
     by (inr never) (inl h) = inl (h.0, Contains-append_right (x ∷ []) xs h.0 h.1, h.2)
     by (inr never) (inr none) = inr (λ y h q. neither never none y (Contains-cons_cases x xs y h) q)
 
--- ---- no more of them than all
+-- ---- a part has at most as many elements as the whole
 in_list : {X : Type 0} (xs : List X) (x : X) → Contains xs x → Among xs x
 in_list [] x h = Contains-nil x h
 in_list (y ∷ xs) x h = by (λ k. in_list xs x k) (Contains-cons_cases y xs x h)

@@ -1,4 +1,4 @@
--- A package without a fault has the parts of an instance.
+-- A package without a fault has the parts of an instance model.
 use Rattle.std.proofs.Common.{◌≡◌, ◌⊎◌, inl, inr, ℕ, List, map, reverse, false, refl, arith}
 use Rattle.std.proofs.lemmas.List.{length-map}
 use Rattle.aadl_tree.specs.Declarations.{PackageTree}

@@ -1,4 +1,4 @@
--- The first four checks of a package: one of them gives its first fault, or the package passes them all.
+-- The first four checks of a package: one of them gives the first fault, or the package passes all.
 use Rattle.std.proofs.Common.{◌≡◌, ◌⊎◌, ◌↔◌, inl, inr, ℕ, ◌<◌, List, [], length, Contains, Option, Some, None, refl}
 use Rattle.std.proofs.Common.{arith}
 use Rattle.std.proofs.lemmas.List.{length-map}
@@ -27,7 +27,7 @@ use Rattle.design_laws.specs.proof.SoundPackages.{IsSound}
 use Rattle.design_laws.proofs.FirstRecursion.{first_recursive}
 use Rattle.design_laws.proofs.FirstConnectionFault.{first_end}
 
--- all that a root contains
+-- all declarations that a root contains
 pub uses : (tree : PackageTree ℕ) (root : ℕ) → root < length tree.declarations
     → (used : List ℕ) × ((n : ℕ) → Contains used n ↔ IsInUse tree root n)
 uses tree root lt =

@@ -1,4 +1,4 @@
--- The first subcomponent that leads back to where it stands.
+-- The first subcomponent that leads back to the declaration that contains it.
 use Rattle.std.proofs.Common.{◌≡◌, ℕ, length, Option, Some, None, refl, sym, arith, ◌∙◌}
 use Rattle.std.proofs.lemmas.List.{length-map}
 use Rattle.std.proofs.lemmas.Option.{none-some, same_Some, slice_get_within}
@@ -17,7 +17,7 @@ use Rattle.aadl_uses.proofs.RecursionSuspects.{declared}
 use Rattle.design_laws.proofs.ReachedDeclarations.{leads_back}
 use Rattle.design_laws.proofs.FaultSearches.{Finds, none_found, alike_found, found_if, Below, found_below, first_in}
 
--- the fault of a subcomponent by its numbers
+-- the fault of a subcomponent, from its numbers
 abbrev LeadsBackAt : PackageTree ℕ → ℕ → ℕ → PackageFault → Type 0
 LeadsBackAt tree n s fault =
     (sub : Subcomponent ℕ) × (sub_at tree n s ≡ Some sub) × LeadsBack (containment tree) n s

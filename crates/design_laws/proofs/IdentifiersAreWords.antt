@@ -1,4 +1,4 @@
--- Identifiers are words, as the trees of a text keep them.
+-- Identifiers are words in the trees of a text.
 use Rattle.std.proofs.Common.{◌≡◌, ◌∙◌, ℕ, Bool, true, false, ◌&&◌, List, [], ◌∷◌, map, length, nat_le, Option, Some}
 use Rattle.std.proofs.Common.{None, IsTrue, refl, sym, ap, subst}
 use Rattle.std.specs.Prelude.{flat_map, slice_get, slice_index, option_map, All}
@@ -37,7 +37,7 @@ use Rattle.aadl_tree.specs.proof.PackageViews.{placed}
 use Rattle.aadl_names.specs.BehaviourAnnexes.{behaviour_in, behaviours, variables_of, states_of}
 use Rattle.design_laws.specs.proof.PackageNames.{IsNamed, HasWords}
 
--- ---- what the lexer takes for a word is one
+-- ---- a word token of the lexer is a word
 led : (s : List ℕ) → is_ascii_alphabetic (slice_index s 0) ≡ is_led_by_letter s
 led [] = refl
 led (c ∷ cs) = refl

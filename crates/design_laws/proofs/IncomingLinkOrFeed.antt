@@ -1,4 +1,4 @@
--- The one link or feed into a port of a thread, or that there is none.
+-- The only link or feed into a port of a thread, or a proof that there is none.
 use Rattle.std.proofs.Common.{◌≡◌, ◌⊎◌, inl, inr, ℕ, false, List, ◌∷◌, Some, None, refl, sym, ap, subst, ◌∙◌}
 use Rattle.aadl_tree.specs.Declarations.{PackageTree}
 use Rattle.aadl_uses.specs.proof.PackageContainment.{containment}
@@ -15,7 +15,7 @@ use Rattle.aadl_chains.proofs.TracedChains.{traces_nothing, traces_itself, trace
 use Rattle.aadl_chains.specs.proof.UpwardWalks.{WalkEnd, Crossing, nowhere, at_root, crosses, walk_back, OneEach, IsThreadPort}
 use Rattle.design_laws.proofs.OutPortSources.{Gives, gives}
 
--- the one that comes into a port
+-- the connection into a port
 pub record HasIncoming (tree : PackageTree ℕ) (root : ℕ) (to : Port) : Type 0 where
   pub one : CarriedChain
   pub there : one.to ≡ to

@@ -1,4 +1,4 @@
--- Where one state alone is initial, and is complete, a behaviour may begin there.
+-- If exactly one state is initial, and it is complete, a behaviour can start there.
 use Rattle.std.proofs.Common.{◌≡◌, ℕ, ◌+◌, ◌<◌, suc, Bool, true, false, nat_lt, ◌==◌, cond, List, [], ◌∷◌, length, map}
 use Rattle.std.proofs.Common.{Some, None, refl, sym, ap, ◌∙◌, subst, arith}
 use Rattle.std.specs.Prelude.{filter, slice_get, option_map}

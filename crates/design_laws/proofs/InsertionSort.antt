@@ -1,11 +1,11 @@
--- Each list has a stable sort: each element is inserted among those behind it.
+-- Each list has a stable sort: each element is inserted into the sorted list of the elements after it.
 use Rattle.std.proofs.Common.{◌≡◌, ◌∙◌, ap, subst, refl, ℕ, zero, suc, ◌+◌, ◌<◌, Bool, true, false, cond, not, ◌&&◌}
 use Rattle.std.proofs.Common.{List, [], ◌∷◌, length, get_or, arith}
 use Rattle.std.specs.Prelude.{filter}
 use Rattle.std.specs.Cmp.{IsStrictWeakOrder}
 use Rattle.std.specs.List.Sorted.{ties, IsSortedBy, IsStableBy}
 
--- a list with the same elements, in order, in which what ties stays in its order
+-- a list with the same elements, in order, in which equivalent elements keep their order
 pub record HasSorted {X : Type 0} (lt : X → X → Bool) (xs : List X) : Type 0 where
   pub list : List X
   pub in_order : IsSortedBy lt list
@@ -20,7 +20,7 @@ module _ {X : Type 0} (lt : X → X → Bool) (order : IsStrictWeakOrder lt) whe
   sorted [] = []
   sorted (x ∷ xs) = put x (sorted xs)
 
-  -- nothing that is less stands first
+  -- no smaller element is first
   abbrev NotAbove : X → List X → Type 0
   NotAbove x [] = Unit {0}
   NotAbove x (y ∷ ys) = lt y x ≡ false
@@ -49,7 +49,7 @@ module _ {X : Type 0} (lt : X → X → Bool) (order : IsStrictWeakOrder lt) whe
   ascends [] = tt
   ascends (x ∷ xs) = put_ascends x (sorted xs) (ascends xs)
 
-  -- ---- what ties stays in its order
+  -- ---- equivalent elements keep their order
   keep : Bool → X → List X → List X
   keep b x xs = cond b (x ∷ xs) xs
 
@@ -65,7 +65,7 @@ module _ {X : Type 0} (lt : X → X → Bool) (order : IsStrictWeakOrder lt) whe
   right true b e = e
   right false b e = absurd cc
 
-  -- what ties with the same ties
+  -- elements equivalent to one element are equivalent
   both_tie : (z x y : X) → ties lt z x ≡ true → ties lt z y ≡ true → lt y x ≡ false
   both_tie z x y h k =
       order.chain y z x (not_true (lt y z) (right (not (lt z y)) (not (lt y z)) k))

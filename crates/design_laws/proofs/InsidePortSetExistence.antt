@@ -1,4 +1,4 @@
--- There is a set of all ports that reach threads, by an order of declarations.
+-- The set of all ports that reach threads exists, by an order of declarations.
 use Rattle.std.proofs.Common.{◌≡◌, ℕ, zero, suc, ◌+◌, ◌<◌, ◌≤◌, Bool, true, false, List, [], length, slice_get, Option}
 use Rattle.std.proofs.Common.{Some, None, refl, subst, arith}
 use Rattle.list_lemmas.proofs.ElementPositions.{slice_get-some, Contains-from_slice_get}

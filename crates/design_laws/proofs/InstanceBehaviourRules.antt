@@ -1,4 +1,4 @@
--- Behaviours of a design keep the rules of behaviours.
+-- Behaviours of a design satisfy the rules of behaviours.
 use Rattle.std.proofs.Common.{ℕ}
 use Rattle.std.specs.Prelude.{All}
 use Rattle.aadl_tree.specs.Declarations.{PackageTree}
@@ -22,8 +22,8 @@ have_rules law tree s named i nothing =
     of_shown (λ (x : ShownInstance). All (HasRules tree) x.threads) tree s i
     (ruling.have_rules i.flat there.used there.is_use found.declarations named law)
 
--- all threads of an instance keep the rules, where no more is known than that a package without a fault has the
--- instance
+-- all threads of an instance model satisfy the rules; the only assumption is that a package without a fault has the
+-- instance model
 pub all_rules : ThreadLaw → (tree : PackageTree ℕ) (s : ShownInstance) → AreNamed tree → ∥ IsShown tree s ∥₁
     → NothingFound tree s
     → All (HasRules tree) s.threads

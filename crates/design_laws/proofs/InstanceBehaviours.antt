@@ -1,4 +1,4 @@
--- The behaviours of the threads of an instance in which nothing is found.
+-- The behaviours of the threads of an instance model without findings.
 use Rattle.std.proofs.Common.{◌≡◌, ◌∙◌, ℕ, suc, ◌+◌, Bool, true, false, cond, List, [], ◌∷◌, ◌++◌, map, reverse, Option}
 use Rattle.std.proofs.Common.{Some, None, refl, sym, ap, subst, arith}
 use Rattle.aadl_tree.specs.Names.{same_name}
@@ -39,7 +39,7 @@ use Rattle.design_laws.specs.InstanceDesigns.{thread_behaviour, HasRules}
 use Rattle.design_laws.proofs.SoundInstanceParts.{names_clean, declared_at, implementation_clean, type_clean, stands_at}
 use Rattle.design_laws.proofs.SoundInstanceParts.{is_used}
 
--- ---- the component that stands at a path is that of its innermost subcomponent
+-- ---- the component at a path is the one of its innermost subcomponent
 
 innermost_last : (tree : PackageTree ℕ) (front : List SubAt) (x : SubAt)
     → innermost tree (front ++ x ∷ []) ≡ sub_of tree x
@@ -63,7 +63,7 @@ component_is tree root s path n stands =
     (sub_at tree n s))
     ∙ sym (ap (λ o. option_and_then (implementation_at tree) (option_and_then (λ k. below tree k s) o)) stands))
 
--- ---- the root is no thread
+-- ---- the root is not a thread
 pub record FirstIs {X : Type 0} (p : X → Bool) (from n : ℕ) (xs : List X) : Type 0 where
   pub place : ℕ
   pub one : X
@@ -143,8 +143,8 @@ pub thread_is : {tree : PackageTree ℕ} {name : List ℕ} {parts : InstancePart
     → IsThreadAt tree parts.root path → ThreadIs tree parts.root path
 thread_is flat path t = thread_by flat path t.0 t.1.0 t.1.1
 
--- ---- nothing is found in them
--- nothing found makes a thread's implementation behave
+-- ---- no findings in them
+-- a thread's implementation without findings has a behaviour
 abbrev pub ThreadLaw : Type 0
 ThreadLaw =
     (tree : PackageTree ℕ) (root n : ℕ) (x : Implementation ℕ) → HasWords tree → NamesDiffer tree x
@@ -207,7 +207,7 @@ module _ {tree : PackageTree ℕ} {name : List ℕ} {parts : InstanceParts} (fla
         (All-weaker (IsThreadAt tree parts.root) (λ path. HasRules tree (thread_at tree parts.root path)) rules_at
         parts.threads flat.threads.each)
 
--- no thread stands at the root
+-- the root is not a thread
 pub root_no_thread : {tree : PackageTree ℕ} {name : List ℕ} {parts : InstanceParts} → IsFlat tree name parts
     → ThreadIs tree parts.root [] → ⊥
 root_no_thread {tree} {name} {parts} flat t =

@@ -1,4 +1,4 @@
--- The root's period and bounds, and the rates of threads, of an instance in which nothing is found.
+-- The root's period and bounds, and the rates of threads, of an instance model without findings.
 use Rattle.std.proofs.Common.{◌≡◌, ◌∙◌, ℕ, ◌/◌, ◌≤◌, nat_eq, nat_le, nat_lt, Bool, true, false, not, cond, List, []}
 use Rattle.std.proofs.Common.{◌∷◌, ◌++◌, reverse, Option, Some, None, refl, sym, ap, subst, arith}
 use Rattle.std.specs.Prelude.{flat_map, slice_get}
@@ -68,7 +68,7 @@ use Rattle.design_laws.proofs.PropertyTimes.{period_at_sub, period_at, skew_at, 
 use Rattle.design_laws.proofs.PropertyTimes.{LooksGood, looks_good, first_good, first_behind, IsTime, period_good}
 use Rattle.design_laws.proofs.PropertyTimes.{skew_good, execution_good, network_good}
 
--- ---- numbers compare as equal both ways
+-- ---- equality of numbers is symmetric
 
 flag_by : (tree : PackageTree ℕ) (o : Option ℕ) (m : ℕ) → is_same_number o m ≡ is_number m o
 flag_by tree None m = refl
@@ -122,7 +122,7 @@ type_properties tree root m t none is =
 -- ---- some association
 module _ {tree : PackageTree ℕ} {name : List ℕ} {parts : InstanceParts} (flat : IsFlat tree name parts) (used : ℕ → Bool)
     (is_use : IsUse tree parts.root used) (none : used_findings tree (shown_by tree parts) used ≡ []) where
-  -- ---- what an implementation in use, and its type, give
+  -- ---- the properties that an implementation in use and its type give
   module _ (p : PropertyName) (n : ℕ) (x : Implementation ℕ) (in_use : used n ≡ true)
       (is : slice_get tree.declarations n ≡ Some (implementation x))
       (known : Among (recognised (holders.Declaration x.category (nat_eq n parts.root))) p) where
@@ -165,7 +165,7 @@ module _ {tree : PackageTree ℕ} {name : List ℕ} {parts : InstanceParts} (fla
       pub both_good : AllByRecursion (LooksGood p) (own_lists tree (Some x))
       both_good = (own_good, types_good (type_number tree x) refl)
 
-  -- ---- what a subcomponent gives
+  -- ---- the properties that a subcomponent gives
   periods_good : (n : ℕ) (x : Implementation ℕ) → used n ≡ true → implementation_at tree n ≡ Some x
       → AllByRecursion (LooksGood Period) (own_lists tree (Some x))
   periods_good n x in_use is =
@@ -263,7 +263,7 @@ module _ {tree : PackageTree ℕ} {name : List ℕ} {parts : InstanceParts} (fla
       (λ m t number. subst (λ b. Among (recognised (holders.Declaration t.category b)) p)
       (sym (type_flag x m is number)) (known t.category)))
 
-  -- what the root gives of a property
+  -- the value of a property that the root gives
   pub record Gives (p : PropertyName) : Type 0 where
     pub association : Association ℕ
     pub is : at_root tree parts.root p ≡ Some association

@@ -1,4 +1,4 @@
--- An instance by the flattened design that it shows.
+-- An instance model in terms of its flattened design.
 use Rattle.std.proofs.Common.{◌≡◌, ◌∙◌, ℕ, List, map, sym, ap, subst}
 use Rattle.aadl_tree.specs.Declarations.{PackageTree}
 use Rattle.aadl_uses.specs.declared.thread_locations.ThreadAt.{ThreadAt}
@@ -8,7 +8,7 @@ use Rattle.aadl_instance.specs.InstancesByNumbers.{chain_at}
 use Rattle.model_violations.specs.Violations.{ShownInstance, shown_by}
 use Rattle.design_laws.specs.proof.AcceptedInstances.{IsShown}
 
--- ---- an instance is shown by its flattened design
+-- ---- a flattened design shows its instance model
 pub shown_is : (tree : PackageTree ℕ) (s : ShownInstance) → (i : IsShown tree s) → s ≡ shown_by tree i.parts
 shown_is tree s i =
     let p = i.parts in
@@ -35,7 +35,7 @@ shown_is tree s i =
     i.taps_are in
     a ∙ (b ∙ (c ∙ (d ∙ e)))
 
--- what a shown instance has, if each by its flattened design has it
+-- a property of the shown instance model, if the flattened design has it
 pub of_shown : (P : ShownInstance → Type 0) (tree : PackageTree ℕ) (s : ShownInstance) → (i : IsShown tree s)
     → P (shown_by tree i.parts) → P s
 of_shown P tree s i h = subst P (sym (shown_is tree s i)) h

@@ -1,4 +1,4 @@
--- The types of ports and variables, and first values.
+-- The types of ports and variables, and initial values.
 use Rattle.std.proofs.Common.{◌≡◌, ◌∙◌, ℕ, Bool, true, false, not, cond, ◌||◌, List, [], ◌∷◌, ◌++◌, map, length, codes}
 use Rattle.std.proofs.Common.{Option, Some, None, pos, refl, ap, arith, inl, inr, ◌⊎◌}
 use Rattle.std.specs.Prelude.{flat_map, filter, slice_get, IsTrue, option_map}
@@ -38,7 +38,7 @@ use Rattle.model_violations.specs.PortsAndVariables.{var_of, in_entry, out_entry
 use Rattle.design_laws.proofs.PairwiseDistinctNames.{all_none}
 use Rattle.design_laws.proofs.ElementAndPairwiseProperties.{all_kept, numbered, found_one, all_true}
 
--- ---- a type that is there
+-- ---- an existing type
 abbrev IsTyped : Declared → Type 0
 IsTyped d = d.kind ≡ Some (or_integer d.kind)
 
@@ -63,7 +63,7 @@ outs_typed fs none =
     AllByRecursion-map IsTyped port_of (filter (λ f. not (is_in f)) fs)
     (all_kept HasType (λ f. not (is_in f)) fs (ports_typed fs none))
 
--- ---- a first value of its type
+-- ---- an initial value of its type
 truth_by : (text : List ℕ) (a b : Bool) → bytes_eq text (codes "true") ≡ a → bytes_eq text (codes "false") ≡ b
     → (a || b) ≡ true
     → (bytes_eq text (codes "true") ≡ true) ⊎ (text ≡ codes "false")
@@ -154,7 +154,7 @@ variables_first annex none =
     (AllByRecursion-map (λ v. has_first v ≡ true) var_of (variables_of annex)
     (all_flat HasFirst variables_in variable_findings variable_first (listed_in annex.variables) none))
 
--- ---- what names stand for
+-- ---- the items that names denote
 module _ (b : BehaviourParts) where
   abbrev Fits : DeclaredName → Type 0
   Fits e = FitsMeaning b 0 e.meaning e.kind

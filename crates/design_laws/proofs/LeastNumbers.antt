@@ -1,15 +1,15 @@
--- Of the numbers below a bound there is a least one that has a property, or none has it.
+-- Of the numbers below a bound, either a smallest one has a property, or no number has it.
 use Rattle.std.proofs.Common.{◌≡◌, ◌⊎◌, inl, inr, ℕ, zero, suc, ◌<◌, ◌≤◌, subst, arith}
 use Rattle.std.proofs.lemmas.Bool.{cases_lt}
 
--- the least number that has P, below a bound
+-- the smallest number with P, below a bound
 pub record IsLeast (P : ℕ → Type 0) (bound : ℕ) : Type 0 where
   pub number : ℕ
   pub within : number < bound
   pub has : P number
   pub first : (before : ℕ) → before < number → P before → ⊥
 
--- none below a bound has P
+-- no number below a bound has P
 abbrev pub NoneHas : (ℕ → Type 0) → ℕ → Type 0
 NoneHas P bound = (n : ℕ) → n < bound → P n → ⊥
 

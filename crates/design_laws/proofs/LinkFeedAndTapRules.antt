@@ -1,4 +1,4 @@
--- Each link, feed and tap of an instance in which nothing is found keeps the rules of a design's.
+-- Each link, feed and tap of an instance model without findings satisfies the rules of designs.
 use Rattle.std.proofs.Common.{◌≡◌, ◌∙◌, ℕ, Bool, true, false, List, [], ◌++◌, map, Some, sym, ap, subst}
 use Rattle.std.specs.Prelude.{IsTrue}
 use Rattle.std.specs.Option.{option_and_then}
@@ -44,7 +44,7 @@ use Rattle.design_laws.proofs.CarriedChainsInDesigns.{rate_is}
 module _ {tree : PackageTree ℕ} {name : List ℕ} {parts : InstanceParts} (flat : IsFlat tree name parts) (used : ℕ → Bool)
     (is_use : IsUse tree parts.root used) (none : used_findings tree (shown_by tree parts) used ≡ [])
     (design : DesignParts) (sits : Zipped (IsComponentAt tree parts.root) parts.threads design.components) where
-  -- the type of the target, as findings see it
+  -- the type of the target, as the checks use it
   seen_kind : (p : Port) (f : Feature ℕ) (k : Kind) → IsThreadAt tree parts.root p.path
       → port_of tree parts.root p ≡ Some f
       → is_in tree parts.root p ≡ true → kind_in f.data_type ≡ Some k

@@ -1,5 +1,5 @@
--- Links and feeds stand in the order of their targets, and different ports of the root have different names, so
--- feeds of one name have one type.
+-- Links and feeds are in the order of their targets, and distinct ports of the root have distinct names, so feeds of
+-- one name have one type.
 use Rattle.std.proofs.Common.{◌≡◌, ◌≢◌, ◌∙◌, inl, inr, ◌⊎◌, ℕ, ◌+◌, ◌*◌, ◌<◌, nat_lt, true, false, List, [], ◌++◌}
 use Rattle.std.proofs.Common.{reverse, Some, sym, ap, subst, arith}
 use Rattle.aadl_tree.specs.Names.{same_name}
@@ -119,7 +119,7 @@ module _ {tree : PackageTree ℕ} {name : List ℕ} {parts : InstanceParts} (fla
             (same_thread a.to b.to i j e (ltb-true a.to.port b.to.port same.1)))
       ]
 
-  -- ---- one place is one port
+  -- ---- one place means one port
   one_path_by : (p q : Port) → InPort p → InPort q → (node_at parts.threads p.path).0 ≡ (node_at parts.threads q.path).0
       → p.path ≡ q.path
   one_path_by p q i j e =
@@ -150,7 +150,7 @@ module _ {tree : PackageTree ℕ} {name : List ℕ} {parts : InstanceParts} (fla
       let first : p ≡ record { path = q.path; port = p.port } = ap (λ l. record { path = l; port = p.port }) path in
       first ∙ ap (λ n. record { path = q.path; port = n }) port
 
--- ---- what stands in the order of targets has different ones
+-- ---- elements in the order of targets have distinct targets
 pub other_target : (a b : CarriedChain) → TargetBefore a b → OtherTarget a b
 other_target a b before same =
     elim (or_and_cases (path_before (reverse a.to.path) (reverse b.to.path)) (same_path a.to.path b.to.path)
@@ -175,7 +175,7 @@ module _ (tree : PackageTree ℕ) (root : ℕ) (x : Implementation ℕ) (is : im
       let here : component_at tree root p.path ≡ Some x = ap (component_at tree root) e ∙ is in
       ap (λ o. slice_get (ports_at tree o) p.port) (sym here) ∙ port
 
-  -- different ports have different names
+  -- distinct ports have distinct names
   pub other_name : (p q : Port) (f g : Feature ℕ) → p.path ≡ [] → q.path ≡ [] → port_of tree root p ≡ Some f
       → port_of tree root q ≡ Some g
       → p.port < q.port → f.name.spelling ≢ g.name.spelling

@@ -1,4 +1,4 @@
--- Lists of faults none of which is `Memory`, and how they are joined.
+-- Lists of faults without `Memory`, and how they are concatenated.
 use Rattle.std.proofs.Common.{◌⊎◌, inl, inr, ◌∙◌, ℕ, Bool, true, false, cond, List, [], ◌∷◌, ◌++◌, map, flat_map}
 use Rattle.std.proofs.Common.{Contains}
 use Rattle.std.specs.Prelude.{◌≢◌}

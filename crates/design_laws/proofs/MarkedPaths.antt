@@ -12,7 +12,7 @@ use Rattle.aadl_uses.proofs.MarkedPathCounts.{Begun, own_listed, listed_more, li
 use Rattle.design_laws.specs.proof.ReachOrderAndPaths.{IsAcyclic, HasPaths}
 use Rattle.design_laws.proofs.ContainmentOrders.{order}
 
--- ---- one declaration, by what its subcomponents name
+-- ---- one declaration, by the targets of its subcomponents
 abbrev Known : Graph → List Bool → ℕ → Type 0
 Known g marks n = (s m : ℕ) → below_in g n s ≡ Some m → HasPaths g marks m
 
@@ -41,7 +41,7 @@ by_known g marks n known =
     let x = begun g marks n (length (targets_in g n)) known in
     (x.paths, all_listed g marks n (length (targets_in g n)) x.paths (omega arith) x.listed)
 
--- ---- one behind the other
+-- ---- concatenation
 abbrev KnownBefore : Graph → List Bool → List ℕ → ℕ → Type 0
 KnownBefore g marks keys k = (j n : ℕ) → j < k → slice_get keys j ≡ Some n → HasPaths g marks n
 

@@ -1,4 +1,4 @@
--- What is made of each element of a list, where none is missing, goes with the list one by one.
+-- The images of the elements of a list, if none is missing, match the list one by one.
 use Rattle.std.proofs.Common.{◌≡◌, ◌∙◌, ℕ, zero, suc, List, [], ◌∷◌, map, length, Option, Some, AllPairs, refl, ap}
 use Rattle.std.proofs.Common.{subst}
 use Rattle.std.specs.Prelude.{slice_get, All}
@@ -8,7 +8,7 @@ use Rattle.std.proofs.lemmas.Option.{same_Some}
 use Rattle.list_lemmas.proofs.PairwiseProperties.{Pairs, all_pairs_from}
 use Rattle.design_laws.specs.InstanceDesigns.{put_first, all_of}
 
--- one list goes with another, one by one
+-- one list matches another, one by one
 abbrev pub Zipped : {X Y : Type 0} → (X → Y → Type 0) → List X → List Y → Type 0
 Zipped R [] [] = Unit {0}
 Zipped R [] (y ∷ ys) = ⊥
@@ -16,7 +16,7 @@ Zipped R (x ∷ xs) [] = ⊥
 Zipped R (x ∷ xs) (y ∷ ys) = R x y × Zipped R xs ys
 
 module _ {X Y : Type 0} (f : X → Option Y) (R : X → Y → Type 0) where
-  -- all of them are made
+  -- all images exist
   pub record Made (xs : List X) : Type 0 where
     pub all : List Y
     pub are : all_of (map f xs) ≡ Some all

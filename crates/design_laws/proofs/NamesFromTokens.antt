@@ -1,4 +1,4 @@
--- The names of the package of a text are words: each part of the tree is written at a token of the text.
+-- The names of the package of a text are words: each part of the tree is at a token of the text.
 use Rattle.std.proofs.Common.{◌≡◌, inl, inr, ℕ, zero, suc, Bool, false, List, [], ◌∷◌, ◌++◌, Option, Some, None, All}
 use Rattle.std.proofs.Common.{IsTrue, refl, ap, subst}
 use Rattle.std.specs.Prelude.{flat_map, slice_get}
@@ -74,7 +74,7 @@ spots_words inside text [] h = tt
 spots_words inside text (t ∷ ts) h =
     (by_class inside t.kind (bytes_of text t) h.0, spots_words (inside_behind inside t.kind) text ts h.1)
 
--- ---- the parts that are written there
+-- ---- the parts at these terminals
 abbrev IsWordPart : SpellingPart ℕ → Type 0
 IsWordPart (token kind places) = IsWordKind kind
 IsWordPart (may extra) = Unit {0}

@@ -1,4 +1,4 @@
--- Where the list of all that is wrong is empty, nothing is found.
+-- If the list of all violations is empty, there are no findings.
 use Rattle.std.proofs.Common.{◌≡◌, ℕ, Bool, true, List, [], ◌∷◌, refl, arith}
 use Rattle.std.specs.List.Sorted.{IsStableBy, ties}
 use Rattle.std.proofs.lemmas.Bool.Decides.{nat_tests}

@@ -1,5 +1,5 @@
--- A thread gives to an out port of a component, or no chain leads to it: the search downward ends, since what a
--- declaration contains stands before it in an order.
+-- Either a thread provides the value of an out port of a component, or no connection chain leads to the port. The
+-- search downward ends, since the declarations that a declaration contains precede it in an order.
 use Rattle.std.proofs.Common.{◌≡◌, ◌⊎◌, inl, inr, ℕ, zero, suc, ◌<◌, Bool, true, false, List, [], ◌∷◌, ◌++◌, reverse}
 use Rattle.std.proofs.Common.{Option, Some, None, refl, sym, ap, subst, ◌∙◌, arith}
 use Rattle.std.proofs.lemmas.Bool.{true≢false}
@@ -24,7 +24,7 @@ use Rattle.aadl_chains.proofs.FirstIncomingConnections.{inner_of}
 use Rattle.aadl_chains.proofs.DeclarationRanks.{rank, rank_falls}
 use Rattle.aadl_chains.proofs.TracedChains.{Descending, descend_first, descend_more, descend_thread, descend_none}
 
--- no chain leads to a port
+-- no connection chain leads to a port
 abbrev pub NoneLeads : PackageTree ℕ → ℕ → Port → Type 0
 NoneLeads tree root end = (cs : List ConnectionAt) (from : Port) → IsStart tree root from → Leads tree root cs from end → ⊥
 

@@ -1,4 +1,4 @@
--- There is a set of all ports that lead out, by an order of declarations.
+-- The set of all ports that lead out exists, by an order of declarations.
 use Rattle.std.proofs.Common.{◌≡◌, ◌⊎◌, ◌↔◌, inl, inr, ℕ, zero, suc, ◌+◌, ◌-◌, ◌≤◌, Bool, true, false, nat_eq, List, []}
 use Rattle.std.proofs.Common.{length, slice_get, Contains, Option, Some, None, refl, subst, arith}
 use Rattle.std.specs.List.{list_any}
@@ -71,7 +71,7 @@ module _ (tree : PackageTree ℕ) (root : ℕ) (d : Direction) (ins : List PortA
       }
   by_use n old (inr never) = record { new = old; are = inr (never, refl) }
 
-  -- ---- declarations, from the last of an order on
+  -- ---- declarations, from the last one of an order
   module _ (keys : List ℕ) (order : IsOrder (containment tree) keys)
       (used : (n : ℕ) → IsInUse tree root n ⊎ (IsInUse tree root n → ⊥)) where
     record Known (at : ℕ) : Type 0 where

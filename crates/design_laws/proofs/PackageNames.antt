@@ -1,4 +1,4 @@
--- For PackageNames: what is known of names holds of the package of each text.
+-- For PackageNames: the package of each text has these facts about names.
 use Rattle.std.proofs.Props.{props}
 use Rattle.std.proofs.Math.Logic.{∥∥₁_elim}
 use Rattle.aadl_tree.specs.declared.package.PackageTree as source

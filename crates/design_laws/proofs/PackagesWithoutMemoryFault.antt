@@ -1,4 +1,4 @@
--- No fault that is found in a package is `Memory`, and neither is its first fault.
+-- No fault of a package is `Memory`, and neither is its first fault.
 use Rattle.std.proofs.Common.{◌≡◌, inl, inr, ◌∙◌, sym, ℕ, Bool, List, [], ◌∷◌, ◌++◌, Option, Some, None}
 use Rattle.std.specs.Prelude.{◌≢◌, not}
 use Rattle.std.specs.List.{enumerate_from, filter_map}

@@ -1,4 +1,4 @@
--- Names that stand at different places differ, where none of them is declared twice.
+-- Names at distinct places are distinct if none of them is declared twice.
 use Rattle.std.proofs.Common.{◌≡◌, ◌≢◌, ℕ, nat_lt, Bool, true, false, cond, ◌&&◌, List, [], ◌∷◌, refl, sym, subst, ◌∙◌}
 use Rattle.std.proofs.Common.{arith}
 use Rattle.aadl_tree.specs.Names.{same_name}
@@ -18,11 +18,11 @@ use Rattle.aadl_names.specs.declared.declared_name.SpelledName.{SpelledName}
 use Rattle.aadl_names.specs.DuplicateNames.{again, twice}
 use Rattle.aadl_names.proofs.DuplicatesBesidePorts.{same_name-swapped}
 
--- ---- names compare as equal both ways
+-- ---- equality of names is symmetric
 pub same_itself : (a : List ℕ) → same_name a a ≡ true
 same_itself a = (bytes_eq-Decides (str_to_ascii_lowercase a) (str_to_ascii_lowercase a)).1 refl
 
--- ---- nothing is found
+-- ---- no findings
 
 pub all_none : {X Y : Type 0} (f : X → List Y) (xs : List X) → flat_map f xs ≡ [] → AllByRecursion (λ x. f x ≡ []) xs
 all_none f [] e = tt
@@ -34,12 +34,12 @@ all_false p [] e = tt
 all_false p (x ∷ xs) e =
     (or_false_left (p x) (list_any p xs) e, all_false p xs (or_false_right (p x) (list_any p xs) e))
 
--- what stands where a test is true
+-- the list under a true test
 pub where_true : {Y : Type 0} (b : Bool) (xs : List Y) → b ≡ true → cond b xs [] ≡ [] → xs ≡ []
 where_true true xs is e = e
 where_true false xs is e = absurd (false≢true is)
 
--- ---- each with each
+-- ---- all pairs
 abbrev clash : SpelledName → SpelledName → Bool
 clash x y = same_name x.name y.name && nat_lt y.at x.at
 
@@ -54,7 +54,7 @@ none_clashes xs e =
     (λ x none. all_false (clash x) xs (none_by (list_any (clash x) xs) (Twice x.name x.at) none)) xs
     (all_none (again xs) xs e)
 
--- each of two, both ways
+-- each of two, in both orders
 module _ {X : Type 0} (S : X → X → Type 0) where
   both_ways : (x : X) (ys : List X) → AllByRecursion (S x) ys → AllByRecursion (λ y. S y x) ys
       → AllByRecursion (λ y. S x y × S y x) ys
@@ -78,7 +78,7 @@ module _ {X : Type 0} (R S T : X → X → Type 0) (f : (x y : X) → R x y → 
   pairs_joined [] a b = tt
   pairs_joined (x ∷ xs) a b = (all_joined x xs a.0 b.0, pairs_joined xs a.1 b.1)
 
--- ---- two of one name at two places clash
+-- ---- two equal names at two places clash
 earlier : (p q : ℕ) → nat_lt q p ≡ false → nat_lt p q ≡ false → p ≡ q
 earlier p q a b = grind (arith, nat_tests)
 
@@ -101,7 +101,7 @@ names_differ xs none apart =
     (same_name-swapped x.name y.name) no.0 no.1 away)
     xs (square (λ x y. clash x y ≡ false) xs (none_clashes xs none)) apart
 
--- one name does not differ from itself
+-- no name is distinct from itself
 pub one_name : (a b : List ℕ) → a ≡ b → same_name a b ≡ false → ⊥
 one_name a b e differs = let same : same_name a b ≡ true = subst (λ c. same_name a c ≡ true) e (same_itself a) in
     false≢true (sym differs ∙ same)

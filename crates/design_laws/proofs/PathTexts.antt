@@ -1,4 +1,4 @@
--- Paths of threads: words joined by dots, which differ.
+-- Paths of threads: words joined by dots; distinct paths have distinct texts.
 use Rattle.std.proofs.Common.{◌≡◌, ◌≢◌, ◌∙◌, inl, inr, ◌⊎◌, ℕ, ◌<◌, nat_eq, nat_le, Bool, true, false, cond, ◌&&◌, List}
 use Rattle.std.proofs.Common.{[], ◌∷◌, ◌++◌, map, length, reverse, codes, Option, Some, None, refl, sym, ap, subst}
 use Rattle.std.proofs.Common.{arith, append_assoc}
@@ -47,7 +47,7 @@ word_no_dots name is =
     no_dots name (and_parts (nat_le (length name) NAME_BYTES && is_led_by_letter name)
     (list_all is_word_byte name) is).1
 
--- ---- what is joined by dots is split at them again
+-- ---- splitting at dots inverts joining by dots
 split_word : (w : List ℕ) → AllByRecursion NoDot w → slice_split is_dot w ≡ w ∷ []
 split_word [] all = refl
 split_word (c ∷ cs) all = ap (λ b. cond b ([] ∷ slice_split is_dot cs) (onto_first c (slice_split is_dot cs))) all.0
@@ -141,7 +141,7 @@ module _ (tree : PackageTree ℕ) (words : HasWords tree) (root : ℕ) where
       (all_turned (λ w. is_word w ≡ true) (names_along tree root (s ∷ path))
       (names_words (s ∷ path) n stands))
 
-  -- ---- paths of one spelling are one path
+  -- ---- paths with one spelling are equal
   module _ (differ : (n : ℕ) (x : Implementation ℕ) → implementation_at tree n ≡ Some x → NamesDiffer tree x) where
     abbrev SubsDiffer : List (Subcomponent ℕ) → Type 0
     SubsDiffer subs = Pairs (λ (a b : Subcomponent ℕ). same_name a.name.spelling b.name.spelling ≡ false) subs
@@ -208,7 +208,7 @@ module _ (tree : PackageTree ℕ) (words : HasWords tree) (root : ℕ) where
         ∙ (ap reverse turned ∙ reverse-reverse (names_along tree root (t ∷ q))) in
         same_paths (s ∷ p) (t ∷ q) m n first second names
 
--- ---- no path stands before itself
+-- ---- no path precedes itself
 pub before_other : (p q : List ℕ) → path_before (reverse p) (reverse q) ≡ true → p ≢ q
 before_other p q before e = let here : path_before (reverse p) (reverse p) ≡ true =
     subst (λ l. path_before (reverse p) (reverse l) ≡ true)

@@ -1,4 +1,4 @@
--- Names that stand at rising places in the parts of a tree, one behind the other.
+-- Names at increasing places in consecutive parts of a tree.
 use Rattle.std.proofs.Common.{◌≡◌, ◌∙◌, ℕ, ◌<◌, List, [], ◌∷◌, ◌++◌, Option, Some, None, Contains, refl, sym, ap, subst}
 use Rattle.std.proofs.Common.{append_assoc, arith}
 use Rattle.std.specs.Prelude.{flat_map}
@@ -15,7 +15,7 @@ use Rattle.aadl_tree.specs.Annexes.{declared_parts}
 use Rattle.aadl_tree.specs.Declarations.{section_parts}
 use Rattle.aadl_names.specs.proof.PlaceOrder.{places_in, places_of, StandsBefore}
 
--- ---- parts along which places rise
+-- ---- parts with increasing places
 pub record Rise (parts : List (SpellingPart ℕ)) : Type 0 where
   pub each : (p q : ℕ) → StandsBefore parts p q → p < q
 
@@ -132,7 +132,7 @@ placed_identifiers x r =
     (placed_identifier y)) x.rest (rise_back (identifier_parts x.first) rest r)) in
     placed_append (identifier_parts x.first) rest (x.first ∷ []) x.rest r (placed_identifier x.first) later
 
--- what is declared behind a word, where it is there
+-- the declarations after a keyword, if it is present
 abbrev pub listed : {V : Type 0} → Option (List V) → List V
 listed None = []
 listed (Some vs) = vs

@@ -1,4 +1,4 @@
--- The number of a port among those of its direction, and the number of a thread.
+-- The number of a port among the ports of its direction, and the number of a thread.
 use Rattle.std.proofs.Common.{◌≡◌, ◌∙◌, inl, inr, ◌⊎◌, ℕ, zero, suc, ◌+◌, ◌<◌, Bool, true, false, cond, List, [], ◌∷◌}
 use Rattle.std.proofs.Common.{length, reverse, take, Option, Some, AllPairs, Contains, refl, sym, ap, subst, arith}
 use Rattle.std.specs.Prelude.{slice_get, filter, count_by}
@@ -15,7 +15,7 @@ use Rattle.aadl_chains.proofs.SamePaths.{same_path-true, same_path-self}
 use Rattle.aadl_instance.specs.InstancesByNumbers.{node_at}
 use Rattle.design_laws.proofs.InstanceBehaviours.{first_is}
 
--- ---- what passes a test, by the number of those before it
+-- ---- the elements that pass a test, by the number of the earlier ones
 module _ {X : Type 0} (p : X → Bool) where
   kept_by : (b : Bool) (y x : X) (front ys : List X) → slice_get ys (length front) ≡ Some x
       → slice_get (cond b (y ∷ ys) ys) (length (cond b (y ∷ front) front)) ≡ Some x

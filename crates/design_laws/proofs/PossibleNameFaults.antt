@@ -1,5 +1,5 @@
--- What can be found of the names of a package, whatever its tests say: each name that is declared may be declared
--- twice, and what refers to something may refer to nothing. What a behaviour does with names counts as it is found.
+-- The possible faults in the names of a package, whatever the results of its tests: each declared name may be
+-- declared twice, and each reference may be undeclared. The name uses of a behaviour are given as found.
 use Rattle.std.proofs.Common.{ℕ, List, [], ◌∷◌, ◌++◌}
 use Rattle.std.specs.Prelude.{flat_map}
 use Rattle.aadl_tree.specs.Names.{Identifier, Identifiers, identifiers, listed_in}
@@ -26,7 +26,9 @@ of_association x = Twice (association_name x) (association_at x) ∷ []
 abbrev pub of_associations : Associations ℕ → List PackageFault
 of_associations xs = flat_map of_association (listed xs)
 
--- ---- annexes. What is found of their transitions is given: a type's annex has none, and an implementation's what its behaviour does
+-- ---- annexes
+-- The findings of the transitions are given: none for a type's annex, the findings of its behaviour for an
+-- implementation's.
 abbrev pub of_variable : VariableDeclaration ℕ → List PackageFault
 of_variable x = of_identifiers x.names ++ of_associations x.properties
 

@@ -1,4 +1,4 @@
--- The times of properties on which nothing is found: each that is looked up has its shape, and is within the hour.
+-- The times of properties without findings: each property that is looked up has its shape, and is at most one hour.
 use Rattle.std.proofs.Common.{◌≡◌, inl, inr, ℕ, ◌≤◌, nat_le, nat_lt, Bool, true, false, not, cond, ◌&&◌, List, [], ◌∷◌}
 use Rattle.std.proofs.Common.{◌++◌, Option, Some, None, refl, ap, subst, arith, sym}
 use Rattle.std.specs.Prelude.{flat_map, filter, find}
@@ -34,7 +34,7 @@ use Rattle.component_checks.specs.Times.{time_at, range_at, is_above, has_above,
 use Rattle.component_checks.specs.Times.{association_big, counted_big, list_big}
 use Rattle.design_laws.proofs.PairwiseDistinctNames.{where_true, all_none, all_false}
 
--- ---- one of a list
+-- ---- one element of a list
 pub of_among : {X : Type 0} (P : X → Type 0) (x : X) (xs : List X) → AllByRecursion P xs → Among xs x → P x
 of_among P x [] all a = absurd a
 of_among P x (y ∷ ys) all (inl e) = subst P (sym e) all.0
@@ -62,7 +62,7 @@ pub network_at : (c : Category) → Among (recognised (holders.Declaration c tru
 network_at c = among_right _ (Skew ∷ Execution ∷ Network ∷ []) Network (inr (inr (inl refl)))
 
 -- ---- one association
--- it has the property's shape, and is within the hour
+-- it has the property's shape, and is at most one hour
 pub record IsGood (p : PropertyName) (x : Association ℕ) : Type 0 where
   pub shape : has_shape p (association_value x) ≡ true
   pub small : is_too_big p (association_value x) ≡ false
@@ -87,7 +87,7 @@ good_by holder p x known shape big count named =
           (shown p) there);
     }
 
--- ---- the first of a name among those that count
+-- ---- the first property of a name among the ones that count
 both_all : {X : Type 0} (P Q : X → Type 0) (xs : List X) → AllByRecursion P xs → AllByRecursion Q xs
     → AllByRecursion (λ x. P x × Q x) xs
 both_all P Q [] a b = tt
@@ -112,7 +112,7 @@ module _ {X : Type 0} (P : X → Type 0) (c p : X → Bool) where
   found_kept [] x all e = absurd (cc e)
   found_kept (y ∷ xs) x all e = kept_by (c y) x y (filter c xs) refl all.0 (found_kept xs x all.1) e
 
--- what is looked up in the list is good
+-- the property that is looked up in the list is valid
 pub record LooksGood (p : PropertyName) (xs : Associations ℕ) : Type 0 where
   pub each : (x : Association ℕ) → association_named xs (name_of p) ≡ Some x → IsGood p x
 

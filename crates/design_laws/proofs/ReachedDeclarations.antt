@@ -1,4 +1,4 @@
--- What a declaration reaches is found by looking at each that was found.
+-- The declarations that a declaration reaches, found by a visit of each found declaration.
 use Rattle.std.proofs.Common.{◌≡◌, ◌⊎◌, ◌↔◌, inl, inr, ℕ, zero, suc, ◌+◌, ◌<◌, Bool, true, false, nat_eq, List, [], ◌∷◌}
 use Rattle.std.proofs.Common.{◌++◌, length, Option, Some, None, slice_get, refl, sym, subst, ◌∙◌, arith, append_assoc}
 use Rattle.std.specs.List.{list_any, IsDistinct}
@@ -13,7 +13,7 @@ use Rattle.aadl_uses.proofs.RecursionSuspects.{leads_by}
 use Rattle.design_laws.specs.proof.ReachOrderAndPaths.{HasReach}
 use Rattle.design_laws.proofs.DistinctNumbers.{insert_distinct, distinct_one}
 
--- ---- a list with what targets name
+-- ---- a list with the targets
 record Added (ts : List (Option ℕ)) (old : List ℕ) : Type 0 where
   new : List ℕ
   are : AreAdded ts old new
@@ -61,7 +61,7 @@ reach g from within here =
     let f = found g from (length g) in
     record { keys = f.keys; are = searched_end g from (length g) f.keys within here (omega arith) f.searched }
 
--- ---- what leads back
+-- ---- subcomponents that lead back
 by_reach : (g : Graph) (n s m : ℕ) → below_in g n s ≡ Some m → HasReach g m → LeadsBack g n s ⊎ (LeadsBack g n s → ⊥)
 by_reach g n s m e r = by (list_any (nat_eq n) r.keys) refl
   where

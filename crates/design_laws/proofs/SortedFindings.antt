@@ -1,4 +1,4 @@
--- Each instance has the sorted list of all its findings.
+-- Each instance model has the sorted list of all its violations.
 use Rattle.std.proofs.Common.{ℕ, Bool, List}
 use Rattle.aadl_tree.specs.Declarations.{PackageTree}
 use Rattle.aadl_instance.specs.InstancesByPaths.{InstanceParts, IsFlat}

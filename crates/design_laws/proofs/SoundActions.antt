@@ -1,4 +1,4 @@
--- Where nothing is found in actions, the resolved actions are well typed and their loops short.
+-- If actions have no findings, the resolved actions are well typed and their loops are short.
 use Rattle.std.proofs.Common.{◌≡◌, ℕ, ◌+◌, ◌*◌, ◌≤◌, min, true, false, not, nat_le, ◌&&◌, List, [], ◌++◌, Option, Some}
 use Rattle.std.proofs.Common.{None, refl, sym, subst, arith, inl, inr}
 use Rattle.std.proofs.Math.Nat.{min-eq_left, min-eq_right}
@@ -43,7 +43,7 @@ agrees Integer Boolean kinds same h = absurd (false≢true same)
 agrees Boolean Integer kinds same h = absurd (false≢true same)
 agrees Boolean Boolean kinds same h = h
 
--- a value of a type that fits a place
+-- a value whose type is allowed there
 given_fits : (b : BehaviourParts) (loops : ℕ) (kind wanted : Option Kind) (w : Kind) (e : plain.Expression)
     → HasKind b loops kind e → wanted ≡ Some w → fits kind wanted ≡ true → allows (kinds_of e b loops) w ≡ true
 given_fits b loops kind wanted w e (k, is, h) is_wanted fit =
@@ -59,7 +59,7 @@ test_sound b loops scope fit e none =
     is_truth b loops (expression_at e) (expression_kind scope e) (expression_of scope e)
     (expression_sound b loops scope fit e p.0) p.1
 
--- ---- a name that is set or sent
+-- ---- a name that is assigned or sent
 set_sound : (b : BehaviourParts) (loops around : ℕ) (m : Meaning) (wanted kind : Option Kind) (e : plain.Expression)
     → FitsMeaning b loops m wanted → sets m ≡ true → HasKind b loops kind e → fits kind wanted ≡ true
     → is_sound (given e m) b loops around ≡ true

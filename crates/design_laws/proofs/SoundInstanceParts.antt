@@ -1,5 +1,5 @@
--- Where an instance has no fault and nothing is found in it, nothing is wrong with any part of it, nor with the
--- first behaviour of a thread.
+-- If an instance model has no fault and no findings, no part of it has a finding, and neither does the first
+-- behaviour of a thread.
 use Rattle.std.proofs.Common.{◌≡◌, ◌∙◌, inl, inr, ℕ, zero, suc, ◌+◌, Bool, true, List, [], ◌∷◌, ◌++◌, Some, refl, sym}
 use Rattle.std.proofs.Common.{ap, subst, arith, Contains, map}
 use Rattle.std.specs.Prelude.{flat_map, slice_get}
@@ -49,7 +49,7 @@ module _ {tree : PackageTree ℕ} {name : List ℕ} {parts : InstanceParts} (fla
   pub not_over : (line : ℕ) (what : List ℕ) → IsOver tree parts.root line what → ⊥
   not_over line what over = not_found line (TooMany what) (inr (inr (inr (what, over, refl))))
 
--- ---- nothing found
+-- ---- no findings
 pub record NoFindings (tree : PackageTree ℕ) (s : ShownInstance) (used : ℕ → Bool) : Type 0 where
   pub root : root_findings tree s.root (greatest_rate (rates_of tree s)) ≡ []
   pub threads : flat_map (thread_findings tree s.root) s.threads ≡ []
@@ -81,7 +81,7 @@ all_parts tree s used none =
       declarations = append_is_nil_right (root ++ threads ++ chains) (used_findings tree s used) none;
     }
 
--- ---- what is in use
+-- ---- declarations in use
 pub declared_at : (tree : PackageTree ℕ) (n : ℕ) (x : Implementation ℕ) → implementation_at tree n ≡ Some x
     → slice_get tree.declarations n ≡ Some (implementation x)
 declared_at tree n x is = implementation_in-some (slice_get tree.declarations n) x is
@@ -137,7 +137,7 @@ module _ (tree : PackageTree ℕ) (s : ShownInstance) (used : ℕ → Bool) (non
       (subst (λ k. declaration_findings tree s.root used (type_used tree used) (carries (carriers_of s)) (k, type t)
       ≡ []) zero' here)
 
--- ---- what stands at a path
+-- ---- the declaration at a path
 pub record StandsAt (tree : PackageTree ℕ) (root : ℕ) (path : List ℕ) (x : Implementation ℕ) : Type 0 where
   pub number : ℕ
   pub stands : number_at_path tree root path ≡ Some number

@@ -1,4 +1,4 @@
--- The behaviour of a thread in which nothing is found.
+-- The behaviour of a thread without findings.
 use Rattle.std.proofs.Common.{◌≡◌, ℕ, true, [], Option, Some, None, refl, ap}
 use Rattle.std.specs.Prelude.{flat_map, slice_get, All}
 use Rattle.std.proofs.lemmas.List.Elements.{All-nil}
@@ -35,7 +35,7 @@ pub port_words : (tree : PackageTree ℕ) → HasWords tree → (o : Option ℕ)
 port_words tree words None = All-nil IsPort
 port_words tree words (Some m) = ports_by tree words m (slice_get tree.declarations m) refl
 
--- ---- what is known of the annex
+-- ---- facts about the annex
 module _ (tree : PackageTree ℕ) (root n : ℕ) (x : Implementation ℕ) (words : HasWords tree)
     (differ : NamesDiffer tree x)
     (clean : package_faults tree root ≡ [])

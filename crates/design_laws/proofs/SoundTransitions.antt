@@ -1,4 +1,5 @@
--- Where nothing is found, transitions are sound, each state has its ways, and no cycle avoids the complete states.
+-- Without findings, transitions are well formed, each state has its outgoing transitions, and no cycle avoids the
+-- complete states.
 use Rattle.std.proofs.Common.{◌≡◌, ℕ, ◌+◌, ◌-◌, ◌<◌, Bool, true, false, nat_eq, nat_lt, ◌&&◌, cond, List, [], ◌∷◌, ◌++◌}
 use Rattle.std.proofs.Common.{length, map, take, Option, Some, None, refl, sym, ap, ◌∙◌, subst, arith}
 use Rattle.std.specs.Prelude.{flat_map, filter, fold, slice_get, option_map}
@@ -76,7 +77,7 @@ edges_sound b scope states fit count (t ∷ ts) known none =
     and_from (is_edge b (edge_of scope states t)) (list_all (is_edge b) (map (edge_of scope states) ts))
     (edge_sound b scope states fit count t k.0 p.0) (edges_sound b scope states fit count ts k.1 p.1)
 
--- ---- the last way from a state
+-- ---- the last transition from a state
 module _ (scope : Scope) (states : List StateAt) where
   abbrev edges : List (Transition ℕ) → List plain.Edge
   edges ts = map (edge_of scope states) ts
@@ -116,7 +117,7 @@ module _ (scope : Scope) (states : List StateAt) where
       let at : length (ways (t ∷ ts)) - 1 ≡ length ts = omega (arith, count) in
       last_open false t ts none (subst (λ n. is_open (slice_get (ways (t ∷ ts)) n) ≡ false) at shut)
 
--- ---- what is found of a state
+-- ---- the findings of a state
 
 ways_by : (complete : Bool) (count : ℕ) (ends : Bool) → nat_eq count (cond complete 1 0) ≡ true
     → (complete ≡ false → nat_eq count 0 ≡ true → ends ≡ true)
@@ -187,7 +188,7 @@ module _ (b : BehaviourParts) (scope : Scope) (states : List StateAt) (ts : List
       sym (ap (λ o. unwrap_or o false) (slice_get-map_upwards (is_on_cycle b) (length b.states) n within))
       ∙ not_wrong (unwrap_or (slice_get (cycles_of b) n) false) s.at CYCLE_WITHOUT_COMPLETE s.name rest.1
 
-  -- the state of a number below their count
+  -- the state of a number below the number of states
   state_of : (n : ℕ) → n < length b.states → (s : StateAt) × (slice_get states n ≡ Some s)
   state_of n within =
       slice_get-some states n (subst (λ k. n < k) (ap length is_states ∙ length-map states declared) within)

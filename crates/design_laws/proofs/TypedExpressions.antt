@@ -1,4 +1,4 @@
--- Where no type is wrong, the resolved expression is well typed.
+-- If no type is wrong, the resolved expression is well typed.
 use Rattle.std.proofs.Common.{◌≡◌, ℕ, ◌+◌, Bool, true, false, nat_lt, ◌||◌, cond, [], ◌++◌, length, Option, Some, None}
 use Rattle.std.proofs.Common.{refl, sym, subst}
 use Rattle.std.specs.Option.{is_some}
@@ -41,7 +41,7 @@ use Rattle.annex_resolve.specs.ResolvedTrees.{expression_of, relations_of}
 use Rattle.design_laws.specs.proof.FittingAnnexNames.{FitsMeaning, FitsScope}
 use Rattle.design_laws.proofs.EmptyFindingLists.{is_right}
 
--- an expression may have the type that it was found to have
+-- an expression can have the type that the checks found
 abbrev pub HasKind : BehaviourParts → ℕ → Option Kind → plain.Expression → Type 0
 HasKind b loops kind e = (k : Kind) × (kind ≡ Some k) × (allows (kinds_of e b loops) k ≡ true)
 
@@ -83,7 +83,7 @@ signed_integer : (b : BehaviourParts) (loops : ℕ) (s : Sign) (e : plain.Expres
 signed_integer b loops signs.Plus e h = h
 signed_integer b loops signs.Minus e h = h
 
--- sides of one type can be compared
+-- two sides of one type can be compared
 compared_equal : (b : BehaviourParts) (loops at : ℕ) (k m : Option Kind) (x y : plain.Expression) → HasKind b loops k x
     → HasKind b loops m y → misfit at k m ≡ []
     → (numbers_at (kinds_of x b loops) (kinds_of y b loops)

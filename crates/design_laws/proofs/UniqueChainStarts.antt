@@ -1,4 +1,4 @@
--- A port at which chains end has one start: no two connections go into one port.
+-- A port at the end of a connection chain has one start: no two connections have one target.
 use Rattle.std.proofs.Common.{◌≡◌, ◌∙◌, inl, inr, ◌⊎◌, ℕ, ◌<◌, List, [], ◌∷◌, Some, None, refl, sym, ap, subst, Option}
 use Rattle.std.specs.Prelude.{slice_get, option_map}
 use Rattle.std.specs.Option.{option_and_then}
@@ -21,7 +21,7 @@ use Rattle.aadl_chains.proofs.FaultlessConnections.{sound_by}
 use Rattle.aadl_instance.specs.InstancesByPaths.{InstanceParts, IsFlat}
 use Rattle.design_laws.proofs.SoundInstanceParts.{not_found, names_clean}
 
--- a connection that goes into a port is there
+-- a connection into a port exists
 linked : (tree : PackageTree ℕ) (x : Implementation ℕ) (c : Option (Connection ℕ)) (s : NumberedPort)
     → option_and_then (λ (w : ConnectionPorts). w.target) (option_map (ports_of_connection tree x) c) ≡ Some s
     → (k : Connection ℕ) × (c ≡ Some k)
@@ -64,7 +64,7 @@ module _ {tree : PackageTree ℕ} {name : List ℕ} {parts : InstanceParts} (fla
   is_sound = sound_by tree parts.root (declared tree parts.root (names_clean flat))
       (λ n i j s in_use first second. one_by n i j s (cases_order i j) in_use first second)
 
-  -- chains that end at one port begin at one port
+  -- connection chains with one last port have one first port
   pub one_start : (cs bs : List ConnectionAt) (first second to : Port) → IsStart tree parts.root first
       → IsStart tree parts.root second
       → Leads tree parts.root cs first to → Leads tree parts.root bs second to → first ≡ second

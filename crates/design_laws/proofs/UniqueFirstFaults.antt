@@ -22,7 +22,7 @@ use Rattle.design_laws.proofs.DistinctPackageFaultPlaces.{possible_clear}
 use Rattle.design_laws.proofs.CoveredDuplicates.{again_of, in_package, subcomponent_has, connection_has}
 use Rattle.design_laws.proofs.FaultsAtOnePlace.{one_finding}
 
--- ---- limits: the line says what is above its limit
+-- ---- limits: the line names the exceeded limit
 what_at : ℕ → List ℕ
 what_at line =
     cond (nat_eq line 5) (codes "components")
@@ -49,7 +49,7 @@ over_line tree root line what (inr (inr (inr (inl h)))) = at_least 5 8 line (ome
 over_line tree root line what (inr (inr (inr (inr (inl h))))) = at_least 5 9 line (omega arith) h.0
 over_line tree root line what (inr (inr (inr (inr (inr h))))) = at_least 5 10 line (omega arith) h.0
 
--- ---- no line is two
+-- ---- lines are distinct
 two_three : (line : ℕ) → line ≡ 2 → line ≡ 3 → ⊥
 two_three line e d = omega (arith, e, d)
 
@@ -66,7 +66,7 @@ six_seven : (m n : ℕ) → m ≡ 6 → n ≡ 7 → m ≡ n → ⊥
 six_seven m n e d same = omega (arith, e, d, same)
 
 module _ (tree : PackageTree ℕ) (rise : Rise (package_parts tree)) where
-  -- ---- faults that name something declared are known by its place
+  -- ---- the position determines a fault that names a declaration
   same_spelling : (x y : Identifier ℕ) → Contains (possible tree) (again_of x) → Contains (possible tree) (again_of y)
       → x.at ≡ y.at
       → x.spelling ≡ y.spelling
@@ -126,7 +126,7 @@ module _ (tree : PackageTree ℕ) (rise : Rise (package_parts tree)) where
       (connection_by y.1.number y.1.connection y.0 (slice_get tree.declarations y.1.number) refl y.1.is_connection)
       x.2 y.2 place
 
-  -- ---- what is found in one line
+  -- ---- the fault of one line
   one_in : (root line : ℕ) (a b : PackageFault) → FoundIn tree root line a → FoundIn tree root line b
       → place_of a ≡ place_of b
       → number_of a ≡ number_of b → a ≡ b

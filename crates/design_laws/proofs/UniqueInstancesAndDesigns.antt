@@ -1,4 +1,4 @@
--- A package has one instance, with one list of what is wrong with it, and one design.
+-- A package has one instance model, with one list of violations, and one design.
 use Rattle.std.proofs.Common.{◌≡◌, ◌∙◌, ℕ, Bool, List, [], sym, ap, subst}
 use Rattle.std.specs.List.{filter}
 use Rattle.std.specs.List.Sorted.{ties}
@@ -38,9 +38,9 @@ one_instance tree name a b x y =
     (subst (λ (r : ℕ). Lists (IsTap tree r) PortBefore a.taps) root x.taps) y.taps in
     λ i. record { root = root i; threads = threads i; links = links i; feeds = feeds i; taps = taps i }
 
--- ---- what is wrong
+-- ---- the violations
 
--- there is one test for what is in use
+-- the predicate of the declarations in use is unique
 one_use : (tree : PackageTree ℕ) (root : ℕ) (f g : ℕ → Bool) → IsUse tree root f → IsUse tree root g → f ≡ g
 one_use tree root f g a b =
     let same : (n : ℕ) → f n ≡ g n = λ n. both_ways (f n) (g n) (λ h. (b n).1 ((a n).0 h)) (λ h. (a n).1 ((b n).0 h)) in
@@ -53,7 +53,7 @@ one_list tree s a b x y =
     one_order goes_before goes_before_orders a b x.in_order y.in_order
     (λ z. x.same z ∙ (ap (λ (f : ℕ → Bool). filter (ties goes_before z) (findings tree s f)) used ∙ sym (y.same z)))
 
--- a package whose instance has nothing wrong with it
+-- a package whose instance model has no violations
 pub no_list : (tree : PackageTree ℕ) (name : List ℕ) (design : DesignParts) (parts : InstanceParts) (list : List Violation)
     → IsDesignIn tree name design → IsFlat tree name parts → AreViolations tree (shown_by tree parts) list → list ≡ []
 no_list tree name design parts list d flat all =

@@ -1,4 +1,4 @@
--- There is one list of all that have a property, in an order that goes one way.
+-- The list of all elements with a property is unique if the order is asymmetric.
 use Rattle.std.proofs.Common.{◌≡◌, ◌⊎◌, inl, inr, suc, List, [], ◌∷◌, AllPairs, All, Contains, sym, subst, arith}
 use Rattle.list_lemmas.proofs.Elements.{Contains-nil, Contains-cons, Contains-cons_cases, Contains-head}
 use Rattle.aadl_uses.specs.ThreadsBelow.{Lists}
@@ -10,14 +10,14 @@ module _ {X : Type 0} (Before : X → X → Type 0) (one_way : (x y : X) → Bef
   tail_pairs : (x : X) (xs : List X) → AllPairs Before (x ∷ xs) → AllPairs Before xs
   tail_pairs x xs a i j d less lt = a (suc i) (suc j) d (omega arith) (omega arith)
 
-  -- each begins with the other's first
+  -- each begins with the first element of the other
   same_first : (x y : X) (xs ys : List X) → AllPairs Before (x ∷ xs) → AllPairs Before (y ∷ ys)
       → (y ≡ x) ⊎ Contains ys x → (x ≡ y) ⊎ Contains xs y → x ≡ y
   same_first x y xs ys a b (inl e) h = sym e
   same_first x y xs ys a b (inr k) (inl e) = e
   same_first x y xs ys a b (inr k) (inr h) = absurd (one_way x y (head_before x y xs a h) (head_before y x ys b k))
 
-  -- what stands behind the first of one list stands behind the same first of the other
+  -- the elements after the first one of a list are the elements after the same first one of the other
   behind : (x y z : X) (xs ys : List X) → x ≡ y → AllPairs Before (x ∷ xs) → Contains xs z → (y ≡ z) ⊎ Contains ys z
       → Contains ys z
   behind x y z xs ys e a h (inl f) =

@@ -8,7 +8,7 @@ use Rattle.std.proofs.lemmas.Bool.{false≢true}
 use Rattle.std.proofs.lemmas.List.Sorted.{sorted_far}
 
 module _ {X : Type 0} (lt : X → X → Bool) (order : IsStrictWeakOrder lt) where
-  -- none of a list goes before x
+  -- no element of a list precedes x
   abbrev Above : X → List X → Type 0
   Above x [] = Unit {0}
   Above x (y ∷ ys) = (lt y x ≡ false) × Above x ys
@@ -37,7 +37,7 @@ module _ {X : Type 0} (lt : X → X → Bool) (order : IsStrictWeakOrder lt) whe
   above_kept t x [] h = tt
   above_kept t x (y ∷ ys) h = above_if x y (filter t ys) (t y) h.0 (above_kept t x ys h.1)
 
-  -- ---- ties
+  -- ---- equivalent elements
   not_less : (b : Bool) → (b ≡ true → b ≡ false) → b ≡ false
   not_less true h = h (λ i. true)
   not_less false h = λ i. false
@@ -60,7 +60,7 @@ module _ {X : Type 0} (lt : X → X → Bool) (order : IsStrictWeakOrder lt) whe
       turned false true = λ i. false
       turned false false = λ i. true
 
-  -- ---- the first of each
+  -- ---- the first element of each
   abbrev first_of : X → List X → X
   first_of x [] = x
   first_of x (y ∷ ys) = y
@@ -75,7 +75,7 @@ module _ {X : Type 0} (lt : X → X → Bool) (order : IsStrictWeakOrder lt) whe
   tails : (x y : X) (xs ys : List X) → x ∷ xs ≡ y ∷ ys → xs ≡ ys
   tails x y xs ys e = ap rest_of e
 
-  -- what is kept of a list that begins with x
+  -- a filter of a list that begins with x
   kept_itself : (x : X) (xs : List X) → filter (ties lt x) (x ∷ xs) ≡ x ∷ filter (ties lt x) xs
   kept_itself x xs = ap (λ b. cond b (x ∷ filter (ties lt x) xs) (filter (ties lt x) xs)) (ties_itself x)
 
@@ -83,11 +83,11 @@ module _ {X : Type 0} (lt : X → X → Bool) (order : IsStrictWeakOrder lt) whe
       → filter (ties lt x) (y ∷ ys) ≡ cond b (y ∷ filter (ties lt x) ys) (filter (ties lt x) ys)
   kept_or_not x y ys b e = ap (λ c. cond c (y ∷ filter (ties lt x) ys) (filter (ties lt x) ys)) e
 
-  -- x is among what stands behind y, so it does not go before y
+  -- x is among the elements after y, so it does not precede y
   behind : (x y : X) (ys rest : List X) → Above y ys → filter (ties lt x) ys ≡ x ∷ rest → lt x y ≡ false
   behind x y ys rest above e = (subst (Above y) e (above_kept (ties lt x) y ys above)).0
 
-  -- they keep the same where they keep what ties with one
+  -- they agree if a filter by equivalence with any element gives the same list
   abbrev Same : List X → List X → Type 0
   Same xs ys = (z : X) → filter (ties lt z) xs ≡ filter (ties lt z) ys
 

@@ -1,4 +1,4 @@
--- The design of an instance, where nothing of it is missing or refused.
+-- The design of an instance model, if all its parts exist.
 use Rattle.std.specs.Prelude.{ℕ, ◌≡◌, List, [], ◌∷◌, map, Option, Some, None}
 use Rattle.std.specs.Option.{option_and_then}
 use Rattle.pals_base.specs.declared.allowed_adaptors.Adaptor.{Adaptor}
@@ -23,7 +23,7 @@ use Rattle.model_violations.specs.ThreadBehaviours.{behaviour_in}
 use Rattle.model_violations.specs.IgnoredProperties.{ignored_names}
 use Rattle.model_violations.specs.Violations.{ShownInstance}
 
--- all of a list, where none of it is missing
+-- all elements of a list, if none is missing
 abbrev pub put_first : {X : Type 0} → Option X → Option (List X) → Option (List X)
 put_first None xs = None
 put_first (Some x) None = None
@@ -33,7 +33,7 @@ abbrev pub all_of : {X : Type 0} → List (Option X) → Option (List X)
 all_of [] = Some []
 all_of (x ∷ xs) = put_first x (all_of xs)
 
--- ---- a component by its path, rate and behaviour
+-- ---- a component from its path, rate and behaviour
 abbrev pub component_by : List ℕ → Option ℕ → Option BehaviourParts → Option Component
 component_by path None b = None
 component_by path (Some rate) None = None
@@ -49,7 +49,7 @@ component_in tree root thread = component_by thread.path (thread_rate tree root 
 abbrev pub HasRules : PackageTree ℕ → ThreadAt → Type 0
 HasRules tree thread = (b : BehaviourParts) → thread_behaviour tree thread ≡ Some b → IsBehaviour b
 
--- ---- chains by their ends, with the carrier's adaptor
+-- ---- connection chains from their ends, with the adaptor of the connection whose properties apply
 abbrev pub given_adaptor : Connection ℕ → Option Adaptor
 given_adaptor c = option_and_then adaptor_named (adaptor_text c)
 
@@ -81,7 +81,7 @@ feed_in tree x = feed_by (chain_adaptor tree x) x.from x.to
 abbrev pub tap_in : Chain → Option Tap
 tap_in x = tap_by x.from x.to
 
--- ---- the whole: all its parts are there
+-- ---- the whole design: all its parts exist
 pub record IsDesignOf (tree : PackageTree ℕ) (s : ShownInstance) (design : DesignParts) : Type 0 where
   pub period : root_period tree s.root ≡ Some design.period
   pub gamma : root_gamma tree s.root ≡ Some design.gamma

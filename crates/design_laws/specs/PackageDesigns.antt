@@ -6,7 +6,7 @@ use Rattle.aadl_instance.specs.InstancesByPaths.{InstanceParts, IsFlat}
 use Rattle.model_violations.specs.Violations.{shown_by, AreViolations}
 use Rattle.design_laws.specs.InstanceDesigns.{IsDesignOf}
 
--- The package has an instance below the root of this name, nothing is wrong with it, and this is its design.
+-- The package has an instance model below the root of this name, without violations, and this is its design.
 pub record IsDesignIn (tree : PackageTree ℕ) (root : List ℕ) (design : DesignParts) : Type 0 where
   pub parts : InstanceParts
   pub flat : IsFlat tree root parts

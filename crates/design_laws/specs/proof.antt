@@ -1,4 +1,4 @@
--- What the theorem of the program does not rest on: definitions of contracts below it, of laws, and of proofs.
+-- Definitions that the program's theorem does not depend on: the contracts of its parts, laws, and proofs use them.
 pub mod FittingAnnexNames
 pub mod PackageNames
 pub mod ThreadBehaviours

@@ -1,4 +1,4 @@
-//! An annex in which nothing is found has the parts of a behaviour. The law is the contract of a function that does
+//! An annex without findings has the parts of a behaviour. The law is the contract of a function that does
 //! nothing.
 ghost use Rattle.std.specs.Prelude.{◌≡◌, ℕ, []};
 ghost use Rattle.pals_base.specs.BehaviourRules.{IsBehaviour};
@@ -8,8 +8,8 @@ ghost use Rattle.annex_resolve.specs.declared.scope.Scope.{Scope};
 ghost use Rattle.annex_resolve.specs.BehavioursAndFindings.{annex_findings, behaviour_of};
 ghost use Rattle.design_laws.specs.proof.FittingAnnexNames.{IsReady};
 
-/// Where the names of an annex are in order and nothing is found in it, its parts are those of a
-/// behaviour: well typed, with short loops, and each of its steps ends.
+/// If the names of an annex are well formed and it has no findings, its parts are the parts of a behaviour: it
+/// is well typed, its loops are short, and each of its steps ends.
 pub fn no_findings_make_a_behaviour()
     ensures { (values : DeclaredValues) (scope : Scope) (at : ℕ) (annex : AnnexTree ℕ) → IsReady values scope annex →
         annex_findings values scope at annex ≡ [] → IsBehaviour (behaviour_of values scope annex) }

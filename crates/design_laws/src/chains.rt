@@ -1,5 +1,5 @@
-//! All ports on a chain have one type, and chains that end at one port begin at one port. Each law is the contract
-//! of a function that does nothing.
+//! All ports of a connection chain have one type, and chains with one last port have one first port. Each law
+//! is the contract of a function that does nothing.
 ghost use Rattle.std.specs.Prelude.{◌≡◌, ℕ, [], Bool, List};
 ghost use Rattle.aadl_tree.specs.Declarations.{PackageTree};
 ghost use Rattle.aadl_chains.specs.Chains.{Port, ConnectionAt, Leads, IsStart};
@@ -8,8 +8,7 @@ ghost use Rattle.model_violations.specs.UsedDeclarations.{IsUse};
 ghost use Rattle.model_violations.specs.Violations.{shown_by, used_findings};
 ghost use Rattle.design_laws.specs.proof.PortKinds.{port_kind};
 
-/// Where nothing is found in the declarations that are in use, all ports on a chain of connections have
-/// one type.
+/// If the declarations in use have no findings, all ports of a connection chain have one type.
 pub fn chains_have_one_type()
     ensures { (tree : PackageTree ℕ) (name : List ℕ) (parts : InstanceParts) (used : ℕ → Bool) → IsFlat tree name parts
         → IsUse tree parts.root used
@@ -18,7 +17,7 @@ pub fn chains_have_one_type()
         → port_kind tree parts.root from ≡ port_kind tree parts.root to }
 {}
 
-/// Chains that end at one port begin at one port.
+/// Connection chains with one last port have one first port.
 pub fn ports_have_one_start()
     ensures { (tree : PackageTree ℕ) (name : List ℕ) (parts : InstanceParts) → IsFlat tree name parts
         → (first second : List ConnectionAt) (from other to : Port)

@@ -10,8 +10,8 @@ ghost use Rattle.design_laws.specs.InstanceDesigns.{IsDesignOf};
 
 use crate::thread_behaviours::no_findings_make_a_thread_behave;
 
-/// An instance of a package whose names are words and differ, in which nothing is found, has a design,
-/// which keeps the rules of designs.
+/// If the names of a package are distinct words and its instance model has no findings, the instance model has
+/// a design, which satisfies the rules of designs.
 pub fn accepted_instances_have_designs()
     ensures { (tree : PackageTree ℕ) (s : ShownInstance) → AreNamed tree → IsShown tree s → NothingFound tree s
         → HasDesign tree s }
@@ -19,14 +19,14 @@ pub fn accepted_instances_have_designs()
     no_findings_make_a_thread_behave();
 }
 
-/// An instance has one design at most.
+/// An instance model has at most one design.
 pub fn designs_are_one()
     ensures { (tree : PackageTree ℕ) (s : ShownInstance) (a b : DesignParts) → IsDesignOf tree s a → IsDesignOf tree s b
         → a ≡ b }
 {}
 
-/// It is not so that an instance of a package whose names are words and differ, in which nothing is
-/// found, has no design.
+/// If the names of a package are distinct words and its instance model has no findings, it is contradictory
+/// that the instance model has no design.
 pub fn designs_are_there()
     ensures { (tree : PackageTree ℕ) (s : ShownInstance) → AreNamed tree → ∥ IsShown tree s ∥₁ → NothingFound tree s
         → ((design : DesignParts) → IsDesignOf tree s design → ⊥) → ⊥ }
@@ -34,8 +34,8 @@ pub fn designs_are_there()
     no_findings_make_a_thread_behave();
 }
 
-/// The design of an instance of a package whose names are words and differ, in which nothing is
-/// found, keeps the rules of designs.
+/// If the names of a package are distinct words and its instance model has no findings, its design satisfies
+/// the rules of designs.
 pub fn designs_keep_their_rules()
     ensures { (tree : PackageTree ℕ) (s : ShownInstance) → AreNamed tree → ∥ IsShown tree s ∥₁ → NothingFound tree s
         → (design : DesignParts) → IsDesignOf tree s design → IsDesign design }

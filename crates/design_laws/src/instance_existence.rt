@@ -1,5 +1,5 @@
-//! Each package has an instance or a first fault, which is never `Memory`, and each instance has a list of all that
-//! is wrong with it. Each law is the contract of a function that does nothing.
+//! Each package has an instance model or a first fault, which is never `Memory`, and each instance model has a
+//! list of all its violations. Each law is the contract of a function that does nothing.
 ghost use Rattle.std.specs.Prelude.{◌⊎◌, ◌≢◌, ℕ, List};
 ghost use Rattle.aadl_tree.specs.Declarations.{PackageTree};
 ghost use Rattle.aadl_names.specs.declared.fault.PackageFault.{PackageFault};
@@ -8,7 +8,7 @@ ghost use Rattle.aadl_instance.specs.Faults.{IsFault};
 ghost use Rattle.aadl_instance.specs.InstancesByPaths.{InstanceParts, IsFlat};
 ghost use Rattle.design_laws.specs.proof.FirstFaultOrInstance.{HasFirstFault, HasInstance, HasList};
 
-/// Below the root of a name a package has an instance, or a first fault.
+/// For each root name, a package has an instance model or a first fault.
 pub fn instance_or_fault()
     ensures { (tree : PackageTree ℕ) (root : List ℕ) → HasFirstFault tree root ⊎ HasInstance tree root }
 {}
@@ -18,7 +18,7 @@ pub fn first_faults_are_named()
     ensures { (tree : PackageTree ℕ) (root : List ℕ) (fault : PackageFault) → IsFault tree root fault → fault ≢ Memory }
 {}
 
-/// Of each instance there is a list of all that is wrong with it.
+/// Each instance model has a list of all its violations.
 pub fn each_instance_has_its_list()
     ensures { (tree : PackageTree ℕ) (root : List ℕ) (parts : InstanceParts) → IsFlat tree root parts
         → HasList tree parts }

@@ -1,7 +1,11 @@
-//! Why an instance in which nothing is found has one design, which keeps the rules of designs. Laws alone: of the
-//! names of a package, of annexes and behaviours, of rates, threads and chains, of designs, and of a whole package.
+//! Laws on packages, instance models and designs. An instance model without findings has exactly one design,
+//! and this design satisfies the rules of designs. The steps of the proof are laws too: on the names of a
+//! package, annexes and behaviours, rates and bounds, threads, and connection chains.
 //!
-//! And why each package has an instance and the list of all that is wrong with it, or a first fault, and has one alone.
+//! Each package has either an instance model with the list of all its violations or a first fault, and not
+//! both; each of these is unique.
+//!
+//! The crate has no executable code: its functions do nothing, and their contracts are the laws.
 #![tactic(auto)]
 
 pub mod annex_behaviours;

@@ -1,5 +1,5 @@
-//! The names of a package are words, and those of one implementation differ. Each law is the contract of a function
-//! that does nothing.
+//! The names of a package are words, and the names in one implementation are distinct. Each law is the contract
+//! of a function that does nothing.
 ghost use Rattle.std.specs.Prelude.{◌≡◌, ℕ, [], Some, slice_get};
 ghost use Rattle.aadl_tree.specs.declared.package.PackageTree as source;
 ghost use Rattle.aadl_tree.specs.Declarations.{PackageTree, Implementation, implementation};
@@ -8,22 +8,21 @@ ghost use Rattle.aadl_tree.specs.proof.PackageViews.{placed};
 ghost use Rattle.aadl_names.specs.PackageNameFaults.{package_faults};
 ghost use Rattle.design_laws.specs.proof.PackageNames.{HasWords, NamesDiffer, AreNamed};
 
-/// The names of ports, subcomponents, variables and states are words: a letter, and letters, digits
-/// and `_` behind it, at most 64.
+/// The names of ports, subcomponents, variables and states are words: a letter followed by letters, digits and
+/// `_`, at most 64 bytes in total.
 pub fn names_are_words()
     ensures { (tree : source.PackageTree) → HasWords (placed tree) }
 {}
 
-/// Where nothing is wrong with the names of a package that some text has, the names of one
-/// implementation differ: those of its ports, subcomponents and connections, and those of a thread's
-/// ports and variables, and of its states.
+/// If the package of a text has no faults in its names, the names of the ports, subcomponents and connections
+/// of an implementation are pairwise distinct, and so are the names of a thread's ports and variables, and the
+/// names of its states.
 pub fn names_differ()
     ensures { (tree : PackageTree ℕ) (root n : ℕ) (x : Implementation ℕ) → IsGiven tree → package_faults tree root ≡ []
         → slice_get tree.declarations n ≡ Some (implementation x) → NamesDiffer tree x }
 {}
 
-/// The names of a package that some text has are words, and where nothing is wrong with them, they
-/// differ.
+/// The names of the package of a text are words. They are distinct if the names have no faults.
 pub fn texts_name()
     ensures { (tree : source.PackageTree) → AreNamed (placed tree) }
 {}

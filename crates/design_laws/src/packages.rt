@@ -1,5 +1,5 @@
-//! What a package means below the root of a name is one, and keeps the rules of designs. Each law is the contract of a
-//! function that does nothing.
+//! The meaning of a package below a named root is unique and satisfies the rules of designs. Each law is the
+//! contract of a function that does nothing.
 ghost use Rattle.std.specs.Prelude.{◌≡◌, ◌≤◌, ℕ, List, []};
 ghost use Rattle.pals_base.specs.PeriodBoundAndReleases.{least_period};
 ghost use Rattle.pals_model.specs.declared.design.DesignParts.{DesignParts};
@@ -18,19 +18,19 @@ ghost use Rattle.design_laws.specs.PackageDesigns.{IsDesignIn};
 use crate::designs::{accepted_instances_have_designs, designs_are_one};
 use crate::names::{names_differ, texts_name};
 
-/// A package has one instance at most.
+/// A package has at most one instance model.
 pub fn one_instance()
     ensures { (tree : PackageTree ℕ) (root : List ℕ) (a b : InstanceParts) → IsFlat tree root a → IsFlat tree root b
         → a ≡ b }
 {}
 
-/// An instance has one list at most of all that is wrong with it.
+/// An instance model has at most one list of all its violations.
 pub fn one_list()
     ensures { (tree : PackageTree ℕ) (s : ShownInstance) (a b : List Violation) → AreViolations tree s a
         → AreViolations tree s b → a ≡ b }
 {}
 
-/// A package has one design at most.
+/// A package has at most one design.
 pub fn one_design()
     ensures { (tree : PackageTree ℕ) (root : List ℕ) (a b : DesignParts) → IsDesignIn tree root a
         → IsDesignIn tree root b → a ≡ b }
@@ -38,7 +38,7 @@ pub fn one_design()
     designs_are_one();
 }
 
-/// A package that has a design has no fault, and nothing is wrong with its instance.
+/// A package with a design has no fault, and its instance model has no violations.
 pub fn accepted_or_refused()
     ensures no_fault { (tree : PackageTree ℕ) (root : List ℕ) (design : DesignParts) (fault : PackageFault)
         → IsDesignIn tree root design → IsFault tree root fault → ⊥ }
@@ -48,9 +48,9 @@ pub fn accepted_or_refused()
         → list ≡ [] }
 {}
 
-/// The design of a package that is read from a text keeps the rules of designs, and such a package
-/// has a design where it has an instance whose list of all that is wrong is empty. The design's
-/// period is at least the least one that the bound allows for the greatest rate of its components.
+/// The design of a package that is read from a text satisfies the rules of designs. Such a package has a design
+/// if it has an instance model with an empty list of violations. The period of the design is at least the
+/// minimum period that the bound allows for the maximum rate of its components.
 pub fn designs_keep_their_rules()
     ensures rules { (tree : source.PackageTree) (root : List ℕ) (design : DesignParts)
         → IsDesignIn (placed tree) root design → IsDesign design }
@@ -66,8 +66,8 @@ pub fn designs_keep_their_rules()
     crate::designs::designs_keep_their_rules();
 }
 
-/// The design of a tree that the grammar gives for some text keeps the rules of designs, and such a
-/// tree has a design where it has an instance whose list of all that is wrong is empty.
+/// The design of the grammar's tree for some text satisfies the rules of designs. Such a tree has a design if
+/// it has an instance model with an empty list of violations.
 pub fn designs_of_texts_keep_their_rules()
     ensures rules { (tree : PackageTree ℕ) (root : List ℕ) (design : DesignParts) → IsGiven tree
         → IsDesignIn tree root design → IsDesign design }

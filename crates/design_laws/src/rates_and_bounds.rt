@@ -1,5 +1,5 @@
-//! Bounds, rates, periods and adaptors on which nothing is found are those of a design. Each law is the contract of
-//! a function that does nothing.
+//! Timing bounds, rates, periods and adaptors without findings are valid in a design. Each law is the contract
+//! of a function that does nothing.
 ghost use Rattle.std.specs.Prelude.{◌≡◌, ℕ, ◌%◌, ◌≤◌, List, [], true, Option, Some, option_map};
 ghost use Rattle.std.specs.Option.{option_and_then};
 ghost use Rattle.pals_base.specs.declared.behaviour.Kind.{Kind};
@@ -13,32 +13,32 @@ ghost use Rattle.component_checks.specs.PeriodAndAdaptorFindings.{period_finding
 ghost use Rattle.component_checks.specs.PeriodAndAdaptorFindings.{kind_suits};
 ghost use Rattle.component_checks.specs.AdaptorTexts.{adaptor_named};
 
-/// Bounds that count are those of a design: a clock may be off, no range is reversed, and no number is
-/// above one hour.
+/// Timing bounds that pass the checks are valid in a design: the clock deviation is positive, no range is
+/// reversed, and no number exceeds one hour.
 pub fn bounds_that_count()
     ensures { (skew : Option ℕ) (execution network : Option (ℕ × ℕ)) (g : Gamma)
         → gamma_by (skew_of skew) (range_of execution) (range_of network) ≡ Some g → IsGamma g }
 {}
 
-/// A rate that counts is one from 1 to 64, and divides the root's period.
+/// A rate that passes the checks is between 1 and 64, and divides the root's period.
 pub fn rates_that_count()
     ensures { (t : ℕ) (p : Option ℕ) (k : ℕ) → rate_of (Some t) p ≡ Some k → (1 ≤ k) × (k ≤ RATE) × (t % k ≡ 0) }
 {}
 
-/// Where nothing is found on the root's period, each message has time to arrive, so the period is not 0.
+/// If the root's period has no findings, each message has time to arrive, so the period is not 0.
 pub fn no_findings_leave_time()
     ensures { (at t : ℕ) (g : Gamma) (k : ℕ) → IsGamma g → bound_findings at (Some t) (Some g) k ≡ []
         → (least_period g k ≤ t) × (1 ≤ t) }
 {}
 
-/// Where nothing is found on the period of a component, it has a rate.
+/// If the period of a component has no findings, the component has a rate.
 pub fn no_findings_make_a_rate()
     ensures { (at : ℕ) (path : List ℕ) (t p : ℕ) → 1 ≤ t → period_findings at path (Some t) (Some p) ≡ []
         → (k : ℕ) × (rate_of (Some t) (Some p) ≡ Some k) }
 {}
 
-/// Where nothing is found on the adaptor between two rates, one of them divides the other, and the
-/// adaptor is allowed for them and for the type.
+/// If the adaptor between two rates has no findings, one of the rates divides the other, and the adaptor is
+/// allowed for them and for the type.
 pub fn no_findings_allow_the_adaptor()
     ensures { (at : ℕ) (name : List ℕ) (text : Option (List ℕ)) (kind : Option Kind) (p q : ℕ)
         → pair_findings at name (option_map adaptor_named text) kind p q ≡ []

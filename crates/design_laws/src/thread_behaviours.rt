@@ -1,4 +1,4 @@
-//! A thread in which nothing is found has a behaviour. The law is the contract of a function that does nothing.
+//! A thread without findings has a behaviour. The law is the contract of a function that does nothing.
 ghost use Rattle.std.specs.Prelude.{◌≡◌, ℕ, [], true, flat_map, Some, slice_get};
 ghost use Rattle.aadl_tree.specs.Declarations.{PackageTree, Implementation, implementation};
 ghost use Rattle.aadl_names.specs.PackageNameFaults.{package_faults};
@@ -10,8 +10,8 @@ ghost use Rattle.design_laws.specs.proof.ThreadBehaviours.{Behaves};
 
 use crate::annex_behaviours::no_findings_make_a_behaviour;
 
-/// Where the names of a package are words, those of a thread's implementation differ, nothing is wrong
-/// with names, and nothing is found on the types of its ports and on its annex, it has a behaviour.
+/// If the names of a package are words, the names in a thread's implementation are distinct, its names have no
+/// faults, and its port types and its annex have no findings, then the thread has a behaviour.
 pub fn no_findings_make_a_thread_behave()
     ensures { (tree : PackageTree ℕ) (root n : ℕ) (x : Implementation ℕ) → HasWords tree → NamesDiffer tree x
         → package_faults tree root ≡ []

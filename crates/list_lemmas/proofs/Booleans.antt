@@ -2,7 +2,7 @@
 use Rattle.std.proofs.Common.{◌≡◌, ◌∙◌, ◌⊎◌, inl, inr, Bool, true, false, ◌&&◌, ◌||◌, refl, sym}
 use Rattle.std.proofs.lemmas.Bool.{false≢true, true≢false}
 
--- a goal by the two answers of a test
+-- a goal by the two values of a test
 pub by_test : (b : Bool) (P : Type 0) → (b ≡ true → P) → (b ≡ false → P) → P
 by_test true P holds fails = holds refl
 by_test false P holds fails = fails refl
@@ -32,7 +32,7 @@ pub or_false_right : (a b : Bool) → (a || b) ≡ false → b ≡ false
 or_false_right true b none = absurd (cc)
 or_false_right false b none = none
 
--- where the first of two fails, the second holds
+-- if the first of two fails, the second holds
 pub or_second : (a b : Bool) → a ≡ false → (a || b) ≡ true → b ≡ true
 or_second true b fails one = absurd (cc)
 or_second false b fails one = one

@@ -1,5 +1,5 @@
--- The elements of a list by their positions: of joined, cut, mapped, paired and numbered lists, of lists with one
--- element throughout, and the first position that passes a test.
+-- The elements of a list by their positions: in concatenated, cut, mapped, zipped and numbered lists and in constant
+-- lists; and the first position that passes a test.
 use Rattle.std.proofs.Common.{◌≡◌, ◌∙◌, ℕ, zero, suc, ◌+◌, ◌-◌, ◌<◌, Bool, true, false, cond, List, [], ◌∷◌, ◌++◌, map}
 use Rattle.std.proofs.Common.{length, slice_get, get_or, replicate, Contains, Option, Some, refl, ap, ap₂, subst, arith}
 use Rattle.std.proofs.Common.{sym, add-zero, take}
@@ -10,7 +10,7 @@ use Rattle.std.proofs.lemmas.Option.{slice_get_within, slice_get-get_or, slice_g
 use Rattle.std.proofs.lemmas.Option.{same_Some, none-some}
 use Rattle.list_lemmas.proofs.ListOperations.{append_is_nil_left, append_is_nil_right}
 
--- ---- a place in range has an element
+-- ---- a position in range has an element
 pub slice_get-some : {X : Type 0} (xs : List X) (i : ℕ) → i < length xs → (x : X) × (slice_get xs i ≡ Some x)
 slice_get-some [] i within = absurd (omega arith)
 slice_get-some (x ∷ xs) zero within = (x, refl)
@@ -22,7 +22,7 @@ Contains-from_slice_get xs i x is = (i, slice_get_within xs i x is, get_or_from_
 pub slice_get-from_Contains : {X : Type 0} (xs : List X) (x : X) → (h : Contains xs x) → slice_get xs h.0 ≡ Some x
 slice_get-from_Contains xs x h = slice_get-get_or xs h.0 x h.1 ∙ ap Some h.2
 
--- ---- joined lists
+-- ---- concatenated lists
 pub slice_get-append_left : {X : Type 0} (xs ys : List X) (k : ℕ) (x : X) → slice_get xs k ≡ Some x
     → slice_get (xs ++ ys) k ≡ Some x
 slice_get-append_left [] ys k x is = absurd (cc)
@@ -69,7 +69,7 @@ flat_map-nil_at f (y ∷ xs) zero x none is =
 flat_map-nil_at f (y ∷ xs) (suc n) x none is =
     flat_map-nil_at f xs n x (append_is_nil_right (f y) (flat_map f xs) none) is
 
--- ---- the same element at each place, and past the last
+-- ---- constant lists, at each position and past the last
 pub get_or-map_constant : {X Y : Type 0} (y : Y) (xs : List X) (k : ℕ) → get_or (map (λ (_ : X). y) xs) k y ≡ y
 get_or-map_constant y [] k = refl
 get_or-map_constant y (x ∷ xs) zero = refl
@@ -80,7 +80,7 @@ get_or-replicate_constant x zero k = refl
 get_or-replicate_constant x (suc n) zero = refl
 get_or-replicate_constant x (suc n) (suc k) = get_or-replicate_constant x n k
 
--- ---- two lists side by side
+-- ---- two lists, element by element
 pub slice_get-zip : {X Y : Type 0} (xs : List X) (ys : List Y) (k : ℕ) (x : X) (y : Y) → slice_get xs k ≡ Some x
     → slice_get ys k ≡ Some y → slice_get (zip xs ys) k ≡ Some (x, y)
 slice_get-zip [] ys k x y is_x is_y = absurd (cc)
@@ -106,7 +106,7 @@ pub slice_get-map_enumerate : {X Y : Type 0} (f : ℕ × X → Y) (xs : List X) 
 slice_get-map_enumerate f xs k x is =
     slice_get-map_some f (enumerate_from 0 xs) k (k, x) (slice_get-enumerate_from 0 xs k k x (omega arith) is)
 
--- ---- the first place that passes a test
+-- ---- the first position that passes a test
 position_or_past : (b : Bool) (k m n : ℕ) (rest : Option ℕ) → (rest ≡ Some m → m < k + 1 + n)
     → cond b (Some k) rest ≡ Some m → m < k + suc n
 position_or_past true k m n rest later is = let same = same_Some k m is in omega arith

@@ -1,4 +1,4 @@
--- The elements of a list: which there are, what holds of each, and which pass a test.
+-- The elements of a list: membership, properties of all elements, and the elements that pass a test.
 use Rattle.std.proofs.Common.{◌≡◌, ◌∙◌, ◌⊎◌, inl, inr, ℕ, Bool, true, false, cond, ◌||◌, nat_eq, List, [], ◌∷◌, ◌++◌}
 use Rattle.std.proofs.Common.{map, get_or, Contains, All, Option, Some, refl, sym, ap, subst, arith, slice_get, zero}
 use Rattle.std.proofs.Common.{suc}
@@ -11,7 +11,7 @@ use Rattle.std.proofs.lemmas.List.Folds.{list_any_at}
 use Rattle.std.proofs.lemmas.List.Sums.{AllPass-from_list_all}
 use Rattle.std.proofs.lemmas.Option.{same_Some}
 
--- ---- which there are
+-- ---- membership
 pub Contains-nil : {X : Type 0} (x : X) → Contains [] x → ⊥
 Contains-nil x (k, within, is) = omega arith
 
@@ -31,7 +31,7 @@ Contains-cons_cases x xs y there = elim (Contains-append_cases (x ∷ []) xs y t
   | inr later ↦ inr later
 ]
 
--- ---- what holds of each
+-- ---- properties of all elements
 pub All-append_right : {X : Type 0} (P : X → Type 0) (xs ys : List X) → All P (xs ++ ys) → All P ys
 All-append_right P [] ys all = all
 All-append_right P (x ∷ xs) ys all = All-append_right P xs ys (All-tail P x (xs ++ ys) all)
@@ -57,7 +57,7 @@ AllByRecursion-at P [] n x h is = absurd (cc is)
 AllByRecursion-at P (y ∷ xs) zero x h is = subst P (same_Some y x is) h.0
 AllByRecursion-at P (y ∷ xs) (suc n) x h is = AllByRecursion-at P xs n x h.1 is
 
--- ---- which pass a test
+-- ---- the elements that pass a test
 pub passes_by_list_all : {X : Type 0} (p : X → Bool) (xs : List X) (x : X) → list_all p xs ≡ true → Contains xs x
     → p x ≡ true
 passes_by_list_all p xs x all there = All-contains (λ x. p x ≡ true) xs x (AllPass-from_list_all p xs all) there
@@ -75,7 +75,7 @@ pub list_any-map : {X Y : Type 0} (p : Y → Bool) (f : X → Y) (xs : List X)
 list_any-map p f [] = refl
 list_any-map p f (x ∷ xs) = ap (λ b. p (f x) || b) (list_any-map p f xs)
 
--- what holds of the first of two where it is found, and else of what is found behind it
+-- a property of the first of two elements if it is found, and of the element found after it otherwise
 pub found_either : {X : Type 0} (P : X → Type 0) (b : Bool) (y x : X) (rest : Option X) → P y → (rest ≡ Some x → P x)
     → cond b (Some y) rest ≡ Some x → P x
 found_either P true y x rest here later is = subst P (same_Some y x is) here

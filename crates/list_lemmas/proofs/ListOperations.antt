@@ -1,4 +1,4 @@
--- Lists that are joined, mapped, cut and numbered.
+-- Lists that are concatenated, mapped, cut and numbered.
 use Rattle.std.proofs.Common.{◌≡◌, ◌∙◌, ℕ, suc, ◌+◌, ◌<◌, ◌≤◌, List, [], ◌∷◌, ◌++◌, length, map, take, drop, set}
 use Rattle.std.proofs.Common.{slice_get, get_or, drop-cons, append-nil, refl, sym, ap, ap₂, arith}
 use Rattle.std.specs.Prelude.{flat_map}
@@ -7,7 +7,7 @@ use Rattle.std.proofs.lemmas.Grind.{common_steps, flat_map-append}
 use Rattle.std.proofs.lemmas.List.{drop_all, drop-drop, take_all, take_more, take_more_set}
 use Rattle.std.proofs.lemmas.Option.{same_Some}
 
--- ---- nothing is joined
+-- ---- concatenation with the empty list
 pub append_is_nil_left : {X : Type 0} (xs ys : List X) → xs ++ ys ≡ [] → xs ≡ []
 append_is_nil_left [] ys none = refl
 append_is_nil_left (x ∷ xs) ys none = absurd (cc none)
@@ -19,7 +19,7 @@ append_is_nil_right (x ∷ xs) ys none = absurd (cc none)
 pub append_is_nil : {X : Type 0} (xs ys : List X) → xs ++ ys ≡ [] → (xs ≡ []) × (ys ≡ [])
 append_is_nil xs ys none = (append_is_nil_left xs ys none, append_is_nil_right xs ys none)
 
--- ---- an element more, or less
+-- ---- one element more or fewer
 pub length-take_within : {A : Type 0} (xs : List A) (i : ℕ) → i < length xs → length (take i xs) ≡ i
 length-take_within xs i within = grind (arith, common_steps)
 
@@ -34,14 +34,14 @@ pub take-append_front : {X : Type 0} (xs ys : List X) → take (length xs) (xs +
 take-append_front [] ys = refl
 take-append_front (x ∷ xs) ys = ap (λ zs. x ∷ zs) (take-append_front xs ys)
 
--- what a call that writes as many elements as there were has written
+-- a call that writes as many elements as the buffer has overwrites all of them
 pub take-written_whole : {A : Type 0} (n : ℕ) (new old : List A) → n ≡ length old → length new ≡ length old
     → take n (new ++ drop (length new) old) ≡ new
 take-written_whole n new old all same =
     ap (λ rest. take n (new ++ rest)) (drop_all (length new) old (omega arith)) ∙ ap (take n) (append-nil new)
     ∙ take_all n new (omega arith)
 
--- ---- a list that is filled as another one wants it
+-- ---- a list that is filled with the elements of another
 pub filled_more : {X : Type 0} (xs wanted : List X) (i : ℕ) (y : X) → length xs ≡ length wanted → i < length wanted
     → y ≡ get_or wanted i y → take i xs ≡ take i wanted → take (i + 1) (set xs i y) ≡ take (i + 1) wanted
 filled_more xs wanted i y size within item so_far =
@@ -83,7 +83,7 @@ pub length-map_enumerate_from : {X Y : Type 0} (f : ℕ × X → Y) (from : ℕ)
 length-map_enumerate_from f from [] = refl
 length-map_enumerate_from f from (x ∷ xs) = ap suc (length-map_enumerate_from f (from + 1) xs)
 
--- ---- lists that are the same at each place
+-- ---- lists that agree at each position
 pub same_from_places : {X : Type 0} (xs ys : List X) → length xs ≡ length ys
     → ((k : ℕ) → k < length xs → slice_get xs k ≡ slice_get ys k) → xs ≡ ys
 same_from_places [] [] size same = refl

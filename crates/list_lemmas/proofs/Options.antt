@@ -1,4 +1,4 @@
--- Options that are mapped, chained, joined and tested.
+-- Options that are mapped, chained, combined and tested.
 use Rattle.std.proofs.Common.{◌≡◌, Bool, true, false, cond, Option, Some, None, refl, sym}
 use Rattle.std.specs.Prelude.{option_map, is_some, is_none}
 use Rattle.std.specs.Option.{option_and_then, option_or}
@@ -31,7 +31,7 @@ pub option_or-cond : {X : Type 0} (b : Bool) (n : X) (old new more : Option X) �
 option_or-cond true n old new more is = refl
 option_or-cond false n old new more is = is
 
--- ---- what a test tells
+-- ---- consequences of a test
 pub some_by_test : {X : Type 0} (o : Option X) → is_some o ≡ true → (x : X) × (o ≡ Some x)
 some_by_test None is = absurd (false≢true is)
 some_by_test (Some x) is = (x, refl)

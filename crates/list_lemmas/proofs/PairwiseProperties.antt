@@ -1,4 +1,4 @@
--- What holds of each two elements of a list.
+-- Properties of all pairs of elements of a list.
 use Rattle.std.proofs.Common.{◌≡◌, ◌≢◌, ◌∙◌, inl, inr, ℕ, suc, ◌<◌, false, List, [], ◌∷◌, ◌++◌, map, slice_get, Some}
 use Rattle.std.proofs.Common.{AllPairs, sym, subst₂, arith}
 use Rattle.std.specs.Prelude.{bytes_eq}
@@ -27,7 +27,7 @@ AllPairs-slice_get R xs k n x y all below is_x is_y =
     subst₂ R (get_or_from_slice_get xs k x y is_x) (get_or_from_slice_get xs n y y is_y)
     (all k n y below (slice_get_within xs n y is_y))
 
--- where names differ, one name stands at one place
+-- if names are distinct, each name has one position
 pub same_place : {X Y : Type 0} (name : X → Y) (xs : List X) (i j : ℕ) (x y : X)
     → AllPairs (λ a b. name a ≢ name b) xs → slice_get xs i ≡ Some x → slice_get xs j ≡ Some y → name x ≡ name y → i ≡ j
 same_place name xs i j x y apart is_x is_y same = elim (cases_lt i j) [

@@ -1,4 +1,4 @@
--- What holds of a result where there is a value.
+-- Properties of a result with a value.
 use Rattle.std.proofs.Common.{◌≡◌, ◌∙◌, Result, Ok, Err, OnOk, IfOk}
 
 pub OnOk-always : {T E : Type 0} (r : Result T E) (P : Type 0) → P → OnOk r P

@@ -1,4 +1,4 @@
--- For `resolve`: the behaviours that are kept, once resolved, for later threads of the same implementation.
+-- For `resolve`: the cached behaviours for later threads of the same implementation.
 use Rattle.std.proofs.Common.{◌≡◌, ◌∙◌, ℕ, Bool, true, false, cond, nat_eq, List, Some, refl, sym, ap, subst}
 use Rattle.std.specs.Map.{lookup}
 use Rattle.std.proofs.lemmas.Bool.{eqb-true}

@@ -1,5 +1,5 @@
--- For the loops that make a design's components, links, feeds and taps: a list of options gives all of its values,
--- or nothing where one is missing.
+-- For the loops over a design's components, links, feeds and taps: a list of options gives all of its values, or
+-- `None` if one is missing.
 use Rattle.std.proofs.Common.{◌≡◌, ◌∙◌, ℕ, ◌+◌, ◌<◌, List, [], ◌∷◌, ◌++◌, length, map, take, drop, get_or, Option, Some}
 use Rattle.std.proofs.Common.{None, refl, sym, ap}
 use Rattle.std.proofs.lemmas.List.{map-append, take-append-drop}
@@ -29,7 +29,7 @@ one_more f xs k x ys more y within is before found added =
     ∙ sym (ap all_of (map_next f xs k x within is ∙ ap (λ o. map f (take k xs) ++ o ∷ []) (sym found))
     ∙ more_of y (map f (take k xs)) ys (sym before))
 
--- ---- one that is missing
+-- ---- a missing part
 put_none : {X : Type 0} (x : Option X) → put_first x None ≡ None
 put_none None = refl
 put_none (Some x) = refl

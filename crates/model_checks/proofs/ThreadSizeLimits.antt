@@ -1,5 +1,5 @@
--- For `design_parts`: the threads of an instance are within the limits, as the component of each is the one at its
--- path.
+-- For `design_parts`: the threads of an instance model are within the limits, since the component of each is the one
+-- at its path.
 use Rattle.std.proofs.Common.{◌≡◌, ◌∙◌, ℕ, true, List, [], ◌∷◌, map, Option, Some, None, refl, sym, ap, subst}
 use Rattle.std.specs.Prelude.{All}
 use Rattle.std.specs.Option.{option_and_then}

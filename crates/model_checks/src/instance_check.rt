@@ -1,4 +1,4 @@
-//! From an instance to its design.
+//! The check of an instance model.
 ghost use Rattle.std.specs.Prelude.{◌≡◌, [], IfOk, IfErr};
 ghost use Rattle.aadl_tree.specs.proof.PackageViews.{placed};
 ghost use Rattle.model_violations.specs.proof.UnsortedFindings.{shown};
@@ -18,12 +18,12 @@ use pals_base::{ItemList, NoMemory};
 use pals_model::Design;
 use std::alloc::{AllocError, Global};
 
-/// Why an instance has no design.
+/// The reason why an instance model has no design.
 #[derive(Drop)]
 pub enum CheckFault {
-    /// All that is wrong with it, in order of place, then of number.
+    /// All its violations, sorted by position and then by rule.
     Violations(ItemList<Violation>),
-    /// There was not enough memory.
+    /// Out of memory.
     Memory,
 }
 
@@ -38,7 +38,7 @@ impl From<AllocError> for CheckFault {
     }
 }
 
-// The design of an instance in which nothing is wrong.
+// The design of an instance model without violations.
 fn accepted(
     alloc: Global,
     properties: &Properties<'_>,
@@ -60,7 +60,7 @@ fn accepted(
     Ok(Design::new(parts))
 }
 
-/// The design of an instance, or all that is wrong with it.
+/// Returns the design of an instance model. Errors: all its violations.
 pub fn check(alloc: Global, instance: &Instance<'_>) -> Result<Design, CheckFault>
     ensures accepted { IfOk result (λ _. AreViolations (placed instance.now.wires.uses.names.tree.now)
         (shown instance.now) []) }

@@ -1,4 +1,4 @@
-//! The design of an instance.
+//! The design of an instance model.
 ghost use Rattle.std.specs.Prelude.{◌≡◌, IfOk, OnOk, All, MatchOption, map};
 ghost use Rattle.aadl_tree.specs.proof.PackageViews.{placed};
 ghost use Rattle.model_violations.specs.proof.UnsortedFindings.{shown};
@@ -19,7 +19,7 @@ use pals_base::{Adaptor, Behaviour, ItemList, NoMemory, TryClone};
 use pals_model::{Component, DesignParts, Feed, Link, Tap};
 use std::alloc::Global;
 
-// A component, if nothing of it is refused, with the behaviours that are kept for the threads to come.
+// A component, unless a part of it is rejected, with the cached behaviours for later threads.
 fn component(
     alloc: Global,
     properties: &Properties<'_>,
@@ -47,7 +47,7 @@ fn component(
     }))
 }
 
-// The components, if nothing of them is refused.
+// The components, unless a part of one is rejected.
 fn components(
     alloc: Global,
     properties: &Properties<'_>,
@@ -70,7 +70,7 @@ fn components(
     Ok(Some(components))
 }
 
-// The adaptor of a chain.
+// The adaptor of a connection chain.
 fn adaptor(properties: &Properties<'_>, chain: &Chain) -> Option<Adaptor>
     ensures { result ≡ spec.chain_adaptor (placed properties.now.uses.now.names.tree.now) chain.now }
 {
@@ -80,7 +80,7 @@ fn adaptor(properties: &Properties<'_>, chain: &Chain) -> Option<Adaptor>
     }
 }
 
-// The link of a chain, if it runs between threads.
+// The link of a connection chain, if it leads from a thread to a thread.
 fn link(properties: &Properties<'_>, chain: &Chain) -> Option<Link>
     ensures { result ≡ spec.link_in (placed properties.now.uses.now.names.tree.now) chain.now }
 {
@@ -126,7 +126,7 @@ fn links(
     Ok(Some(links))
 }
 
-// The feed of a chain, if it runs from the root to a thread.
+// The feed of a connection chain, if it leads from the root to a thread.
 fn feed(alloc: Global, properties: &Properties<'_>, chain: &Chain) -> Result<Option<Feed>, NoMemory>
     ensures { IfOk result (λ found. found ≡ spec.feed_in (placed properties.now.uses.now.names.tree.now) chain.now) }
 {
@@ -167,7 +167,7 @@ fn feeds(
     Ok(Some(feeds))
 }
 
-// The tap of a chain, if it runs from a thread to the root.
+// The tap of a connection chain, if it leads from a thread to the root.
 fn tap(alloc: Global, chain: &Chain) -> Result<Option<Tap>, NoMemory>
     ensures { IfOk result (λ found. found ≡ spec.tap_in chain.now) }
 {
@@ -202,8 +202,8 @@ fn taps(alloc: Global, chains: &[Chain]) -> Result<Option<ItemList<Tap>>, NoMemo
     Ok(Some(taps))
 }
 
-/// The parts of the design of an instance, by what the lists of its package say, if nothing of it is
-/// refused.
+/// Returns the parts of the design of an instance model, from the properties of its package, or `None` if a
+/// part is rejected. Errors: out of memory.
 pub fn design_parts(
     alloc: Global,
     properties: &Properties<'_>,

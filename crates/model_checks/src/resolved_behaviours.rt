@@ -1,4 +1,4 @@
-//! The behaviours of threads, each resolved once for all threads of one implementation.
+//! The behaviours of threads; a cache resolves each once for all threads of one implementation.
 ghost use Rattle.std.specs.Prelude.{◌≡◌, ℕ, IfOk, OnOk, Some, nat_eq};
 ghost use Rattle.std.specs.Map.{lookup};
 ghost use Rattle.pals_base.specs.declared.behaviour.BehaviourParts.{BehaviourParts};
@@ -19,8 +19,8 @@ use model_violations::resolve_implementation;
 use pals_base::{Behaviour, ItemList, NoMemory, TryClone};
 use std::alloc::Global;
 
-/// The behaviour of a thread, if it has one. The first thread of an implementation has it resolved, and it is kept for
-/// the others.
+/// Returns the behaviour of a thread, if it has one. For the first thread of an implementation, the behaviour
+/// is resolved and cached. Errors: out of memory.
 pub fn behaviour(
     alloc: Global,
     uses: &Uses<'_>,
@@ -45,7 +45,7 @@ pub fn behaviour(
     }
 }
 
-// The behaviour that is kept for a number, if there is one.
+// The cached behaviour of the implementation with a number, if there is one.
 fn kept_behaviour(
     alloc: Global,
     kept: &IndexMap<usize, Behaviour>,
@@ -59,7 +59,7 @@ fn kept_behaviour(
     }
 }
 
-// Resolves the behaviour of the implementation of a number, if it has one, and keeps it.
+// Resolves the behaviour of the implementation with a number, if it has one, and caches it.
 fn resolve(
     alloc: Global,
     uses: &Uses<'_>,

@@ -1,4 +1,4 @@
--- For `add_carriers` and `carriers_of`: the connections that carry chains, one after the other.
+-- For `add_carriers` and `carriers_of`: the carriers of connection chains, one after another.
 use Rattle.std.proofs.Common.{◌≡◌, ◌∙◌, ℕ, ◌+◌, ◌<◌, nat_eq, ◌&&◌, ◌||◌, List, [], ◌∷◌, ◌++◌, length, map, take, get_or}
 use Rattle.std.proofs.Common.{sym, ap}
 use Rattle.std.proofs.lemmas.List.Folds.{list_any-append}
@@ -32,7 +32,7 @@ carries_next before old new chains k x within is so_far added n i =
     (sym (carries-append front (carrier_numbers x ∷ []) n i)
     ∙ ap (λ l. carries l n i) (sym (map_next carrier_numbers chains k x within is)))
 
--- three lists one behind the other
+-- three concatenated lists
 pub carries_all : (none a b c : List (ℕ × ℕ)) (links feeds taps : List (ℕ × ℕ)) → none ≡ []
     → ((n i : ℕ) → carries a n i ≡ (carries none n i || carries links n i))
     → ((n i : ℕ) → carries b n i ≡ (carries a n i || carries feeds n i))

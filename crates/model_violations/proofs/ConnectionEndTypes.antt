@@ -1,5 +1,5 @@
--- For `site_kind` and `wire_at`: the types of the two ports that a connection joins, by the numbers of what is
--- declared.
+-- For `site_kind` and `wire_at`: the types of the two ports that a connection joins, by the numbers of the
+-- declarations.
 use Rattle.std.proofs.Common.{◌≡◌, ◌∙◌, ℕ, Some, slice_get, option_map, sym, ap}
 use Rattle.std.specs.Option.{option_and_then}
 use Rattle.std.proofs.lemmas.Option.{same_Some, slice_get-map}
@@ -15,7 +15,7 @@ use Rattle.aadl_uses.specs.proof.ImplementationTypes.{type_number_at}
 use Rattle.model_violations.specs.ConnectionFindings.{kind_numbered, site_kind}
 use Rattle.model_violations.specs.proof.NumberedConnections.{IsConnection}
 
--- what a subcomponent names, by the numbers of both
+-- the target of a subcomponent, by the numbers of both
 pub target_below : (tree : PackageTree ℕ) (n s : ℕ)
     → option_and_then (implementation_at tree) (below tree n s)
     ≡ option_and_then (target_of tree) (slice_get (subcomponents_of (implementation_at tree n)) s)
@@ -38,7 +38,7 @@ module _ (tree : PackageTree ℕ) (n : ℕ) (x : Implementation ℕ) (is : imple
       ∙ ap (option_and_then (type_number tree))
       (target_below tree n s ∙ ap (λ o. option_and_then (target_of tree) (slice_get (subcomponents_of o) s)) is))
 
--- ---- a connection of a declaration joins what its ends name
+-- ---- a connection of a declaration joins the ports that its ends name
 pub wire_is : (tree : PackageTree ℕ) (n i : ℕ) (x : Implementation ℕ) (c : Connection ℕ) → IsConnection tree n i x c
     → slice_get (connection_ports_at tree n) i ≡ Some (ports_of_connection tree x c)
 wire_is tree n i x c is =

@@ -1,4 +1,4 @@
--- For `add_adaptor_findings`: two equal rates without an adaptor, or a rate that is not known, give no finding.
+-- For `add_adaptor_findings`: two equal rates without an adaptor, or a missing rate, give no violation.
 use Rattle.std.proofs.Common.{◌≡◌, ◌∙◌, ℕ, nat_eq, Bool, true, false, not, cond, ◌&&◌, List, [], ◌++◌, Option, Some}
 use Rattle.std.proofs.Common.{None, refl, sym, ap}
 use Rattle.std.specs.Option.{is_some}
@@ -8,7 +8,7 @@ use Rattle.pals_base.specs.declared.allowed_adaptors.Adaptor.{Adaptor}
 use Rattle.annex_resolve.specs.declared.violation.Violation.{Violation}
 use Rattle.model_violations.specs.ChainFindings.{is_plain, rated}
 
--- what is found where one test decides, and another on the way that is taken
+-- the result if one test decides, and another on the remaining path
 where_both : {A : Type 0} (same given : Bool) (found others : List A) → (same && not given) ≡ true
     → cond same (cond given found []) others ≡ []
 where_both true true found others h = absurd (cc h)

@@ -1,5 +1,5 @@
--- For loops that keep what passes a test, as `ins_in` and `outs_in` do, or take the first of what is made of the
--- rest, as `first_behaviour` does: what they have after one more thing.
+-- For loops that filter a list, as `ins_in` and `outs_in`, or that take the first image of an element, as
+-- `first_behaviour`: their state after one more element.
 use Rattle.std.proofs.Common.{◌≡◌, ◌∙◌, ℕ, ◌+◌, ◌<◌, Bool, true, false, cond, List, [], ◌∷◌, ◌++◌, length, map, filter}
 use Rattle.std.proofs.Common.{take, drop, get_or, Option, Some, None, refl, sym, ap}
 use Rattle.std.specs.Prelude.{slice_get}
@@ -32,7 +32,7 @@ kept_next h p v xs i x b old new within is test before added =
     ∙ ap (λ l. front ++ l) (map_cond h (v x) (p (v x)))
     ∙ sym (one_more h p v xs i x within is)
 
--- ---- the first of what is made of the things that are left
+-- ---- the first image of the remaining elements
 pub first_here : {A B C : Type 0} (f : B → Option C) (v : A → B) (xs : List A) (i : ℕ) (x : A) (y : C) → i < length xs
     → x ≡ get_or xs i x → f (v x) ≡ Some y
     → slice_get (filter_map f (map v (drop i xs))) 0 ≡ Some y

@@ -1,4 +1,4 @@
--- For `in_order`: findings go before one another by place, then number, and sorting may go by that.
+-- For `in_order`: the order of violations by position, then by rule, which the sort uses.
 use Rattle.std.specs.Cmp.{IsStrictWeakOrder}
 use Rattle.list_lemmas.proofs.Numbers.{pair_lt-asymmetric, pair_ge-transitive}
 use Rattle.model_violations.specs.Violations.{goes_before}

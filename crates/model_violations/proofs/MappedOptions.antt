@@ -1,4 +1,4 @@
--- What a function makes of an optional value is there exactly where the value is.
+-- The image of an optional value exists if and only if the value does.
 use Rattle.std.proofs.Common.{◌≡◌, ◌∙◌, Option, Some, None, refl, sym, ap}
 use Rattle.std.specs.Option.{is_some}
 use Rattle.std.specs.Prelude.{option_map}

@@ -1,4 +1,4 @@
--- For the functions of `used_declarations`: which numbers are in a set of numbers, with one more inserted.
+-- For the functions of `used_declarations`: membership in a set of numbers after one more insertion.
 use Rattle.std.proofs.Common.{◌≡◌, ◌↔◌, ℕ, ◌+◌, ◌<◌, nat_eq, Bool, true, false, cond, ◌&&◌, ◌||◌, List, [], ◌∷◌, ◌++◌}
 use Rattle.std.proofs.Common.{length, take, Option, Some, slice_get, refl, sym, ap, ◌∙◌}
 use Rattle.std.specs.Prelude.{Contains}
@@ -28,14 +28,14 @@ inserted_by ks k n false h = list_any-append (nat_eq n) ks (k ∷ []) ∙ ap (λ
 pub has_inserted : (ks new : List ℕ) (k n : ℕ) → new ≡ insert_key nat_eq ks k → has new n ≡ (has ks n || nat_eq n k)
 has_inserted ks new k n e = ap (λ l. has l n) e ∙ inserted_by ks k n (has ks k) refl
 
--- where a test fails, the other decides
+-- if a test fails, the other one decides
 pub or_untested : (a b c : Bool) → b ≡ false → a ≡ (a || (b && c))
 or_untested a b c fails = sym (ap (λ t. a || (t && c)) fails ∙ or-false a)
 
 pub or_tested : (a b c d : Bool) → b ≡ true → d ≡ (a || c) → d ≡ (a || (b && c))
 or_tested a b c d passes is = is ∙ sym (ap (λ t. a || (t && c)) passes)
 
--- what one more of numbered things, looked up by its number, adds to a test of them
+-- the change of a test on numbered elements after one more element
 pub one_more_passes : {A : Type 0} (p : ℕ × A → Bool) (g : Option A → Bool) (xs : List A) (i : ℕ) (old new : Bool)
     → ((x : A) → g (Some x) ≡ p (i, x)) → i < length xs
     → old ≡ list_any p (enumerate_from 0 (take i xs)) → new ≡ (old || g (slice_get xs i))
@@ -48,7 +48,7 @@ one_more_passes p g xs i old new same within before added =
     ∙ sym (list_any-append p front ((i, at.value) ∷ []))
     ∙ ap (list_any p) (sym (next_numbered xs i at.value within at.is))
 
--- ---- where the numbers are those in use, the test for them is the test for what is in use
+-- ---- if the numbers are those in use, membership is the predicate of the declarations in use
 pub is_use : (tree : PackageTree ℕ) (root : ℕ) (ks : List ℕ) → ((n : ℕ) → Contains ks n ↔ IsInUse tree root n)
     → IsUse tree root (has ks)
 is_use tree root ks told =

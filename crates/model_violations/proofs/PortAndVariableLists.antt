@@ -1,5 +1,5 @@
--- For `values_and_scope_of`: the lists of an implementation's ports and variables, as they were read, are those that
--- its behaviour is made of; in ports and out ports are together all ports.
+-- For `values_and_scope_of`: the lists of an implementation's ports and variables are the lists of its behaviour; the
+-- in ports and the out ports together are all ports.
 use Rattle.std.proofs.Common.{◌≡◌, ◌∙◌, ℕ, List, ap, ◌+◌, not, length, filter, refl, arith}
 use Rattle.aadl_tree.specs.Annexes.{AnnexTree}
 use Rattle.aadl_tree.specs.Declarations.{Feature, Implementation, PackageTree}
@@ -10,7 +10,7 @@ use Rattle.std.proofs.lemmas.List.{length-map}
 use Rattle.std.proofs.lemmas.List.Filters.{length-filter_both}
 use Rattle.component_checks.specs.TypeFindings.{is_in}
 
--- what is made of these lists is made of the implementation's own
+-- a function of these lists is a function of the implementation's own lists
 pub of_lists : {X : Type 0} (made : List Declared → List Declared → List Declared → X) (tree : PackageTree ℕ)
     (x : Implementation ℕ) (annex : AnnexTree ℕ) (ports : List (Feature ℕ)) (ins outs variables : List Declared)
     → ports ≡ ports_of tree x → ins ≡ ins_in ports → outs ≡ outs_in ports → variables ≡ variables_of annex

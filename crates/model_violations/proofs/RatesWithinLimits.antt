@@ -1,4 +1,4 @@
--- Each rate that is not refused is from 1 to 64, and so is the greatest: for `findings_of`.
+-- Each valid rate is from 1 to 64, and so is the maximum: for `findings_of`.
 use Rattle.std.proofs.Common.{◌≡◌, ◌∙◌, ℕ, ◌<◌, ◌≤◌, ◌/◌, nat_le, Bool, true, false, cond, ◌&&◌, List, [], ◌∷◌, map}
 use Rattle.std.proofs.Common.{fold, Option, Some, None, refl, sym, ap, arith}
 use Rattle.std.specs.Prelude.{option_map, slice_get}
@@ -47,7 +47,7 @@ rates_positive tree root threads rates are n k is =
     rate_at tree root (slice_get threads n) k
     (sym (slice_get-map (thread_rate tree root) threads n) ∙ ap (λ l. slice_get l n) (sym are) ∙ is)
 
--- ---- the greatest
+-- ---- the maximum
 raised_within : (k : ℕ) (o : Option ℕ) → k ≤ RATE → ((r : ℕ) → o ≡ Some r → r ≤ RATE) → greater_rate k o ≤ RATE
 raised_within k None within each = within
 raised_within k (Some r) within each = let h = each r refl in omega (arith, within, h)

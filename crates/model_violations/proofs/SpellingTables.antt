@@ -1,5 +1,5 @@
--- For `first_spellings`: a table of names knows the names of the list of first spellings, and no others, whatever
--- the capitals.
+-- For `first_spellings`: the table has the names of the list of first spellings and no others, without regard to
+-- case.
 use Rattle.std.proofs.Common.{◌≡◌, ◌∙◌, ℕ, ◌+◌, ◌<◌, ◌≤◌, Bool, true, false, cond, ◌||◌, List, [], ◌∷◌, ◌++◌, length}
 use Rattle.std.proofs.Common.{drop, get_or, Option, Some, None, refl, sym, ap}
 use Rattle.aadl_tree.specs.Names.{same_name}
@@ -12,7 +12,7 @@ use Rattle.aadl_names.specs.proof.NameTables.{value_of}
 use Rattle.model_violations.specs.IgnoredProperties.{behind, all_behind}
 use Rattle.model_violations.specs.proof.SpellingTables.{KnowsAll}
 
--- ---- the first of the names that are left
+-- ---- the first of the remaining names
 new_behind : (first : List (List ℕ)) (x : List ℕ) → list_any (same_name x) first ≡ false
     → behind first x ≡ first ++ x ∷ []
 new_behind first x none = ap (λ b. cond b first (first ++ x ∷ [])) none
@@ -33,7 +33,7 @@ pub behind_new : (table : List (List ℕ × ℕ)) (first more : List (List ℕ))
 behind_new table first more x knows is pushed =
     pushed ∙ sym (new_behind first x (test_of table first x false knows (ap is_some is)))
 
--- one more of the names that are left
+-- one more of the remaining names
 pub turned : (names first more : List (List ℕ)) (i : ℕ) (x : List ℕ) → i < length names → x ≡ get_or names i x
     → more ≡ behind first x
     → all_behind [] names ≡ all_behind first (drop i names) → all_behind [] names ≡ all_behind more (drop (i + 1) names)
@@ -41,7 +41,7 @@ turned names first more i x within is added left =
     left ∙ ap (all_behind first) (drop-next names i x within is)
     ∙ ap (λ l. all_behind l (drop (i + 1) names)) (sym added)
 
--- ---- the table, with one more
+-- ---- the table after one more name
 some_or : (o : Option ℕ) (b : Bool) (n : ℕ) → is_some (option_or o (cond b (Some n) None)) ≡ (is_some o || b || false)
 some_or None true n = refl
 some_or None false n = refl
@@ -62,7 +62,7 @@ known_more old new first more x n knows added pushed = λ other.
     ∙ or_last (list_any (same_name other) first) (same_name other x)
     ∙ sym (list_any-append (same_name other) first (x ∷ [])) ∙ ap (list_any (same_name other)) (sym pushed)
 
--- ---- nothing is left
+-- ---- no name remains
 pub left_behind : (names : List (List ℕ)) (i : ℕ) (first : List (List ℕ)) → length names ≤ i
     → all_behind [] names ≡ all_behind first (drop i names) → first ≡ all_behind [] names
 left_behind names i first past left = sym (left ∙ ap (all_behind first) (drop_all i names past))

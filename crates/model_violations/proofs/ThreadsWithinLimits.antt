@@ -1,5 +1,5 @@
--- For `add_used_findings`: the root of an instance is a declaration of its package, and its threads have no more
--- ports and variables than the limits.
+-- For `add_used_findings`: the root of an instance model is a declaration of its package, and its threads have at
+-- most as many ports and variables as the limits allow.
 use Rattle.std.proofs.Common.{◌≡◌, ◌∙◌, inl, inr, ℕ, ◌<◌, ◌≤◌, Bool, true, List, [], ◌∷◌, length, Option, Some, None}
 use Rattle.std.proofs.Common.{refl, sym, ap, subst, arith, codes, length-append}
 use Rattle.aadl_tree.specs.Names.{identifiers, listed_in}
@@ -44,7 +44,7 @@ pub root_within : {tree : PackageTree ℕ} {root : ℕ} {threads : List ThreadAt
     → ∥ IsInstance tree root threads links feeds taps ∥₁ → root < length tree.declarations
 root_within flat = ∥∥₁_elim flat (hlevel props) (λ i. root_in i)
 
--- ---- nothing is above a limit
+-- ---- no limit is exceeded
 
 pub few_ports : {tree : PackageTree ℕ} {name : List ℕ} {parts : InstanceParts} → IsFlat tree name parts
     → (path : List ℕ) (x : Implementation ℕ) → IsThreadOf tree parts.root path x → length (ports_of tree x) ≤ PORTS

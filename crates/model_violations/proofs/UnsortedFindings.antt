@@ -1,4 +1,4 @@
--- All findings of an instance before they are sorted, made of the lists that `findings_of` adds one after the other.
+-- All violations of an instance model before they are sorted: the lists that `findings_of` appends one after another.
 use Rattle.std.proofs.Common.{◌≡◌, ◌∙◌, ℕ, Bool, List, [], ◌++◌, Option, ap}
 use Rattle.std.specs.Prelude.{flat_map}
 use Rattle.aadl_tree.specs.Declarations.{PackageTree}
@@ -10,7 +10,7 @@ use Rattle.model_violations.specs.UsedDeclarations.{has, type_used}
 use Rattle.model_violations.specs.DeclarationFindings.{declarations_findings}
 use Rattle.model_violations.specs.Violations.{ShownInstance, rates_of, carriers_of, chain_findings, used_findings, findings}
 
--- ---- tests that agree everywhere are one test
+-- ---- predicates that agree on all numbers are equal
 same_test : {A : Type 0} (p q : A → Bool) → ((x : A) → p x ≡ q x) → p ≡ q
 same_test p q same = λ i x. same x i
 

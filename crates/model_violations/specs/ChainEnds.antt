@@ -1,5 +1,5 @@
--- The name and the type of the in port at which a chain ends, and the rate of the component at either end, by the
--- numbers of the instance.
+-- The name and the type of the in port at the end of a connection chain, and the rate of the component at either end,
+-- by the numbers of the instance model.
 use Rattle.std.specs.Prelude.{ℕ, List, [], ◌++◌, codes, filter, Option, Some, None, slice_get}
 use Rattle.std.specs.Option.{option_and_then}
 use Rattle.pals_base.specs.declared.behaviour.Kind.{Kind}
@@ -13,7 +13,7 @@ use Rattle.annex_resolve.specs.ExpressionTypesAndFindings.{kind_in}
 use Rattle.component_checks.specs.PropertyLookup.{innermost}
 use Rattle.component_checks.specs.TypeFindings.{is_in}
 
--- ---- the ports of a thread, in ports and out ports apart
+-- ---- the ports of a thread: in ports and out ports
 abbrev pub component_of : PackageTree ℕ → ThreadAt → Option (Implementation ℕ)
 component_of tree thread = option_and_then (target_of tree) (innermost tree thread.subs)
 
@@ -29,7 +29,7 @@ abbrev pub thread_port_name : PackageTree ℕ → Option ThreadAt → ℕ → Li
 thread_port_name tree None port = []
 thread_port_name tree (Some thread) port = thread.path ++ codes "." ++ port_name (slice_get (ins_of tree thread) port)
 
--- ---- what a chain ends at: the name that findings give it, and its type
+-- ---- the end of a connection chain: its name in violations, and its type
 abbrev pub end_name : PackageTree ℕ → List ThreadAt → ChainEnd → List ℕ
 end_name tree threads (Thread node port) = thread_port_name tree (slice_get threads node.0) port
 end_name tree threads (Root name) = name
@@ -39,7 +39,7 @@ end_kind tree threads (Thread node port) =
     option_and_then (λ f. kind_in f.data_type) (thread_in tree (slice_get threads node.0) port)
 end_kind tree threads (Root name) = None
 
--- the rate of the component at an end; the root sends once a round
+-- the rate of the component at an end; the rate of the root is 1
 abbrev pub flat : Option (Option ℕ) → Option ℕ
 flat None = None
 flat (Some rate) = rate

@@ -1,4 +1,4 @@
--- What is wrong with links, feeds and taps. Their properties are those of their carriers.
+-- The violations of links, feeds and taps. Their properties are the properties of their carriers.
 use Rattle.std.specs.Prelude.{ℕ, nat_eq, Bool, true, not, ◌&&◌, List, [], ◌++◌, Option, Some, None, option_map}
 use Rattle.std.specs.Option.{is_some}
 use Rattle.pals_base.specs.declared.behaviour.Kind.{Kind}
@@ -14,14 +14,13 @@ use Rattle.component_checks.specs.AdaptorTexts.{adaptor_named}
 use Rattle.model_violations.specs.ChainEnds.{end_name, end_kind, end_rate}
 use Rattle.model_violations.specs.ConnectionsAndCarriers.{connection_of, is_delayed, adaptor_text}
 
--- on the rates at both ends; without one of them nothing is found
+-- for the rates at both ends; none if one rate is missing
 abbrev pub rated : ℕ → List ℕ → Option (Option Adaptor) → Option Kind → Option ℕ → Option ℕ → List Violation
 rated at name given kind None q = []
 rated at name given kind (Some p) None = []
 rated at name given kind (Some p) (Some q) = pair_findings at name given kind p q
 
--- one of the rates is missing, or they agree, and there is no adaptor: nothing is found, whatever the name and the
--- type are
+-- one of the rates is missing, or they are equal and there is no adaptor: no violations, for any name and type
 abbrev pub is_plain : Option (Option Adaptor) → Option ℕ → Option ℕ → Bool
 is_plain given None q = true
 is_plain given (Some p) None = true
@@ -39,7 +38,7 @@ abbrev pub stray_findings : PackageTree ℕ → List ThreadAt → Chain → Conn
 stray_findings tree threads x c =
     found_if (is_some (adaptor_text c)) c.name.at STRAY_ADAPTOR (end_name tree threads x.to)
 
--- ---- on the carrier
+-- ---- with the carrier's properties
 abbrev pub on_carrier : (Connection ℕ → List Violation) → Option (Connection ℕ) → List Violation
 on_carrier rules None = []
 on_carrier rules (Some c) = rules c

@@ -1,4 +1,4 @@
--- What is wrong with the connections of an implementation, whatever they carry.
+-- The violations of the connections of an implementation, independent of the chains that they carry.
 use Rattle.std.specs.Prelude.{ℕ, Bool, true, false, not, ◌&&◌, ◌||◌, List, ◌++◌, flat_map, Option, Some, None}
 use Rattle.std.specs.Prelude.{slice_get}
 use Rattle.std.specs.List.{enumerate_from}
@@ -22,7 +22,7 @@ kind_numbered ports p = option_and_then (λ f. kind_in f.data_type) (slice_get p
 abbrev pub kind_named : List (Feature ℕ) → List ℕ → Option Kind
 kind_named ports name = option_and_then (kind_numbered ports) (port_named ports name)
 
--- ---- the types of both ends, where each is Integer or Boolean
+-- ---- the types of both ends, if each is Integer or Boolean
 abbrev pub site_port : PackageTree ℕ → Implementation ℕ → NumberedPort → Option (Feature ℕ)
 site_port tree x (Own p) = slice_get (ports_of tree x) p
 site_port tree x (Inner s p) = slice_get (inner_ports tree x s) p
@@ -41,7 +41,7 @@ is_own (Some port) = false
 abbrev pub joins_own : Connection ℕ → Bool
 joins_own c = is_own c.source.second || is_own c.target.second
 
--- ---- ends of different types, a delay at an own port, an adaptor on what carries no chain; with the test for what carries one
+-- ---- ends of different types, a delay at an own port, an adaptor on a connection that is not a carrier
 abbrev pub ends_findings : PackageTree ℕ → Implementation ℕ → Connection ℕ → List Violation
 ends_findings tree x c = misfit c.name.at (kind_at tree x c.source) (kind_at tree x c.target)
 

@@ -1,4 +1,5 @@
--- What connections say: whether they are delayed, the text of their adaptor, and which of them carry chains.
+-- The properties of connections: whether they are delayed, and the text of their adaptor; and which connections are
+-- carriers.
 use Rattle.std.specs.Prelude.{ℕ, Bool, ◌&&◌, nat_eq, List, codes, Option, slice_get}
 use Rattle.std.specs.List.{list_any}
 use Rattle.std.specs.Option.{option_and_then}
@@ -19,6 +20,6 @@ is_delayed c = says (codes "Delayed") (association_named c.properties (name_of T
 abbrev pub adaptor_text : Connection ℕ → Option (List ℕ)
 adaptor_text c = option_and_then (λ a. text_of (association_value a)) (association_named c.properties (name_of Adaptor))
 
--- whether a connection of a declaration is among those of a table, by their numbers
+-- whether a table has a connection of a declaration, by their numbers
 abbrev pub carries : List (ℕ × ℕ) → ℕ → ℕ → Bool
 carries table n i = list_any (λ k. nat_eq n k.0 && nat_eq i k.1) table

@@ -1,4 +1,4 @@
--- What is wrong with the declarations that are in use, each looked at once.
+-- The violations of the declarations in use; each declaration is checked once.
 use Rattle.std.specs.Prelude.{◌≡◌, ℕ, nat_eq, Bool, true, List, [], ◌++◌, flat_map, Some, if◌then◌else◌}
 use Rattle.std.specs.List.{enumerate_from}
 use Rattle.aadl_tree.specs.Declarations.{Subcomponent, TypeDeclaration, Implementation, Declaration, type}
@@ -29,13 +29,13 @@ implementation_findings tree root carried n x =
     list_big (holders.Declaration x.category (nat_eq n root)) x.properties ++ flat_map sub_findings x.subcomponents
     ++ connections_findings tree carried n x ++ thread_findings tree x
 
--- the implementations of threads that are in use have no more ports and variables than a design may have
+-- the implementations of threads in use have at most as many ports and variables as a design may have
 pub record AreSmall (tree : PackageTree ℕ) (used : ℕ → Bool) : Type 0 where
   pub each : (n : ℕ) (x : Implementation ℕ) → used n ≡ true → implementation_at tree n ≡ Some x
       → is_thread x.category ≡ true
       → threads.IsSmall tree x
 
--- ---- a declaration of a number, where it is in use, by the tests for implementations and for types
+-- ---- a declaration by its number, if it is in use, by the predicates for implementations and for types
 abbrev pub declaration_findings : PackageTree ℕ → ℕ → (ℕ → Bool) → (ℕ → Bool) → (ℕ → ℕ → Bool) → ℕ × Declaration ℕ
     → List Violation
 declaration_findings tree root used types carried (n, type x) =

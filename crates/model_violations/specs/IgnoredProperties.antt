@@ -1,4 +1,4 @@
--- The names of properties that mean nothing where they stand, over the whole package.
+-- The names of properties without meaning at their position, in the whole package.
 use Rattle.std.specs.Prelude.{ℕ, nat_eq, Bool, false, not, ◌&&◌, List, [], ◌∷◌, ◌++◌, flat_map, Option, Some, None}
 use Rattle.std.specs.Prelude.{if◌then◌else◌}
 use Rattle.aadl_tree.specs.Names.{same_name}
@@ -14,7 +14,7 @@ use Rattle.aadl_names.specs.RecognisedProperties.{listed, counts, is_named, name
 use Rattle.aadl_names.specs.NameResolution.{implementation_at, type_number}
 use Rattle.aadl_names.specs.declared.recognised_properties.PropertyHolder.TheVariants as holders
 
--- it applies elsewhere, or is not recognised at such a place
+-- the property applies elsewhere, or is not recognised at such a holder
 abbrev pub is_ignored : PropertyHolder → Association ℕ → Bool
 is_ignored holder x = not (counts x && list_any (λ p. is_named (name_of p) x) (recognised holder))
 
@@ -24,7 +24,7 @@ association_ignored holder x = if is_ignored holder x then association_name x �
 abbrev pub ignored_in : PropertyHolder → Associations ℕ → List (List ℕ)
 ignored_in holder xs = flat_map (association_ignored holder) (listed xs)
 
--- ---- in the text's order
+-- ---- in the order of the text
 abbrev pub variable_ignored : VariableDeclaration ℕ → List (List ℕ)
 variable_ignored v = ignored_in holders.Variable v.properties
 
@@ -51,7 +51,7 @@ implementation_ignored of_root x =
     ++ ignored_in (holders.Declaration x.category of_root) x.properties
     ++ flat_map annex_ignored x.annexes
 
--- ---- a declaration by its number, where the root's implementation and its type have these numbers
+-- ---- a declaration by its number, for the numbers of the root's implementation and type
 abbrev pub is_number : ℕ → Option ℕ → Bool
 is_number n None = false
 is_number n (Some m) = nat_eq n m
@@ -66,7 +66,7 @@ root_type tree root = option_and_then (type_number tree) (implementation_at tree
 abbrev pub is_root_type : PackageTree ℕ → ℕ → ℕ → Bool
 is_root_type tree root n = is_number n (root_type tree root)
 
--- ---- each name once, as it is first spelled
+-- ---- each name once, in its first spelling
 abbrev pub behind : List (List ℕ) → List ℕ → List (List ℕ)
 behind names x = if list_any (same_name x) names then names else names ++ x ∷ []
 

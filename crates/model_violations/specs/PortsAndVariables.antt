@@ -1,5 +1,4 @@
--- The ports and variables of a thread as its behaviour has them, with their first values, and what their names stand
--- for.
+-- The ports and variables of a behaviour, with their initial values, and the meanings of their names.
 use Rattle.std.specs.Prelude.{ℕ, ℤ, pos, ◌-ℤ◌, nat_le, nat_eq, drop, not, List, ◌++◌, length, map, filter, flat_map}
 use Rattle.std.specs.Prelude.{codes, Option, Some, None, if◌then◌else◌}
 use Rattle.std.specs.List.{starts_with, enumerate_from}
@@ -25,18 +24,18 @@ use Rattle.annex_resolve.specs.declared.scope.Meaning.TheVariants.{InPort, OutPo
 use Rattle.annex_resolve.specs.ExpressionTypesAndFindings.{kind_named, kind_in}
 use Rattle.model_violations.specs.declared.port_or_variable.Declared.{Declared}
 
--- ---- what is declared, with its type, if that is Integer or Boolean, and its first value
+-- ---- ports and variables with their types, if these are Integer or Boolean, and their initial values
 abbrev pub port_of : Feature ℕ → Declared
 port_of f = record { name = f.name.spelling; kind = kind_in f.data_type; first = pos 0 }
 
--- in ports and out ports apart, in their order
+-- in ports and out ports, in their order
 abbrev pub ins_in : List (Feature ℕ) → List Declared
 ins_in ports = map port_of (filter is_in ports)
 
 abbrev pub outs_in : List (Feature ℕ) → List Declared
 outs_in ports = map port_of (filter (λ f. not (is_in f)) ports)
 
--- ---- the first value that a text says: `true`, or a number; no number is as good as 0
+-- ---- the initial value in a text: `true` or a number; anything else counts as 0
 abbrev pub whole_of : List ℕ → ℤ
 whole_of digits = if nat_le (decimal digits) most then pos (decimal digits) else pos 0
 
@@ -63,7 +62,7 @@ variables_in v = map (variable_of (kind_named v.data_type) (first_of v)) (identi
 abbrev pub variables_of : AnnexTree ℕ → List Declared
 variables_of annex = flat_map variables_in (listed_in annex.variables)
 
--- ---- as a behaviour has them; a bad type is as good as Integer
+-- ---- in the behaviour; a missing type counts as Integer
 abbrev pub or_integer : Option Kind → Kind
 or_integer None = Integer
 or_integer (Some k) = k
@@ -77,7 +76,7 @@ var_of d = record { name = d.name; kind = or_integer d.kind; first = d.first }
 abbrev pub values_by : List Declared → List Declared → List Declared → DeclaredValues
 values_by ins outs vars = record { ins = map named_of ins; outs = map named_of outs; vars = map var_of vars }
 
--- ---- what the names stand for
+-- ---- the meanings of the names
 abbrev pub in_entry : ℕ × Declared → DeclaredName
 in_entry (n, d) = record { name = d.name; kind = d.kind; meaning = InPort n }
 

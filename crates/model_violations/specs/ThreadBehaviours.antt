@@ -1,4 +1,4 @@
--- What is wrong with the behaviour of a thread's implementation, and what it is.
+-- The behaviour of a thread's implementation, and its violations.
 use Rattle.std.specs.Prelude.{◌≡◌, ℕ, ◌≤◌, List, [], ◌∷◌, ◌++◌, length, Option, Some, None, slice_get}
 use Rattle.pals_base.specs.declared.limits.TheConstants.{PORTS, VARIABLES}
 use Rattle.pals_base.specs.declared.behaviour.BehaviourParts.{BehaviourParts}
@@ -13,11 +13,11 @@ use Rattle.annex_resolve.specs.BehavioursAndFindings.{behaviour_of, annex_findin
 use Rattle.component_checks.specs.TypeFindings.{variables_findings}
 use Rattle.model_violations.specs.PortsAndVariables.{variables_of, values_of, scope_of}
 
--- the first behaviour annex, with its place
+-- the first behaviour annex, with its position
 abbrev pub first_annex : Implementation ℕ → Option (ℕ × AnnexTree ℕ)
 first_annex x = slice_get (behaviours x.annexes) 0
 
--- the ports and variables of a thread are no more than a design may have
+-- a thread has at most as many ports and variables as a design may have
 pub record IsSmall (tree : PackageTree ℕ) (x : Implementation ℕ) : Type 0 where
   pub ports : length (ports_of tree x) ≤ PORTS
   pub variables : (b : ℕ × AnnexTree ℕ) → first_annex x ≡ Some b → length (variables_of b.1) ≤ VARIABLES

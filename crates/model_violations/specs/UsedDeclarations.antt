@@ -1,4 +1,4 @@
--- Which declarations are in use below the root.
+-- The declarations in use below the root.
 use Rattle.std.specs.Prelude.{◌≡◌, ◌↔◌, ℕ, nat_eq, Bool, true, ◌&&◌, List, Option, Some}
 use Rattle.std.specs.List.{list_any, enumerate_from}
 use Rattle.std.specs.Option.{option_and_then}
@@ -7,15 +7,15 @@ use Rattle.aadl_names.specs.NameResolution.{implementation_in, type_number}
 use Rattle.aadl_uses.specs.ContainmentAndUse.{IsInUse}
 use Rattle.model_violations.specs.IgnoredProperties.{is_number}
 
--- whether a number is among some
+-- whether a list has a number
 abbrev pub has : List ℕ → ℕ → Bool
 has numbers n = list_any (nat_eq n) numbers
 
--- the test for the implementations that the root contains, and for its own
+-- the predicate for the implementations that the root contains, including its own
 abbrev pub IsUse : PackageTree ℕ → ℕ → (ℕ → Bool) → Type 0
 IsUse tree root used = (n : ℕ) → (used n ≡ true) ↔ IsInUse tree root n
 
--- ---- a type is in use where an implementation of it is
+-- ---- a type is in use if one of its implementations is
 abbrev pub own_type : PackageTree ℕ → Declaration ℕ → Option ℕ
 own_type tree d = option_and_then (type_number tree) (implementation_in (Some d))
 

@@ -1,4 +1,5 @@
--- What an instance shows, and all that is wrong with it, in order of place, then of number.
+-- The content of an instance model that violations depend on, and all its violations, sorted by position and then by
+-- rule.
 use Rattle.std.specs.Prelude.{ℕ, nat_eq, nat_lt, Bool, ◌&&◌, ◌||◌, List, ◌++◌, map, flat_map, Option}
 use Rattle.std.specs.List.Sorted.{IsSortedBy, IsStableBy}
 use Rattle.aadl_tree.specs.Declarations.{PackageTree}
@@ -15,7 +16,7 @@ use Rattle.model_violations.specs.ChainFindings.{link_findings, feed_findings, t
 use Rattle.model_violations.specs.UsedDeclarations.{IsUse, type_used}
 use Rattle.model_violations.specs.DeclarationFindings.{declarations_findings}
 
--- what an instance shows
+-- the content of an instance model that violations depend on
 pub record ShownInstance : Type 0 where
   pub root : ℕ
   pub threads : List ThreadAt
@@ -23,7 +24,7 @@ pub record ShownInstance : Type 0 where
   pub feeds : List Chain
   pub taps : List Chain
 
--- what the instance of a flattened design shows
+-- the content of the instance model of a flattened design
 abbrev pub shown_by : PackageTree ℕ → InstanceParts → ShownInstance
 shown_by tree parts = record {
   root = parts.root;
@@ -33,24 +34,24 @@ shown_by tree parts = record {
   taps = map (chain_at tree parts) parts.taps;
 }
 
--- ---- each rule in component, link or connection order
+-- ---- each rule in the order of components, links or connections
 abbrev pub rates_of : PackageTree ℕ → ShownInstance → List (Option ℕ)
 rates_of tree s = map (thread_rate tree s.root) s.threads
 
 abbrev pub carrier_numbers : Chain → ℕ × ℕ
 carrier_numbers x = (x.carrier.declaration, x.carrier.connection)
 
--- the connections that carry links, feeds or taps
+-- the carriers of links, feeds or taps
 abbrev pub carriers_of : ShownInstance → List (ℕ × ℕ)
 carriers_of s = map carrier_numbers s.links ++ map carrier_numbers s.feeds ++ map carrier_numbers s.taps
 
--- over the rates of the threads
+-- for the rates of the threads
 abbrev pub chain_findings : PackageTree ℕ → ShownInstance → List (Option ℕ) → List Violation
 chain_findings tree s rates =
     flat_map (link_findings tree s.threads rates) s.links ++ flat_map (feed_findings tree s.threads rates) s.feeds
     ++ flat_map (tap_findings tree s.threads) s.taps
 
--- with the test for what is in use
+-- with the predicate of the declarations in use
 abbrev pub used_findings : PackageTree ℕ → ShownInstance → (ℕ → Bool) → List Violation
 used_findings tree s used = declarations_findings tree s.root used (type_used tree used) (carries (carriers_of s))
 
@@ -59,11 +60,11 @@ findings tree s used =
     root_findings tree s.root (greatest_rate (rates_of tree s)) ++ flat_map (thread_findings tree s.root) s.threads
     ++ chain_findings tree s (rates_of tree s) ++ used_findings tree s used
 
--- ---- by place, then by number
+-- ---- by position, then by rule
 abbrev pub goes_before : Violation → Violation → Bool
 goes_before a b = nat_lt a.at b.at || (nat_eq a.at b.at && nat_lt a.number b.number)
 
--- all findings in this order; what agrees in place and number stays in the order in which it is found
+-- all violations in this order; violations with equal position and rule keep the order of the checks
 pub record AreViolations (tree : PackageTree ℕ) (s : ShownInstance) (list : List Violation) : Type 0 where
   pub used : ℕ → Bool
   pub is_use : IsUse tree s.root used

@@ -1,4 +1,4 @@
-//! The list of all that is wrong with an instance.
+//! The list of all violations of an instance model.
 ghost use Rattle.std.specs.Prelude.{◌≡◌, ◌++◌, ◌||◌, ℕ, IfOk, OnOk, map, flat_map};
 ghost use Rattle.aadl_tree.specs.proof.PackageViews.{placed};
 ghost use Rattle.component_checks.specs.ThreadRatesAndFindings as threads_spec;
@@ -22,7 +22,7 @@ use component_checks::thread_rates::{greatest_rate, thread_rate};
 use pals_base::{ItemList, NoMemory};
 use std::alloc::Global;
 
-// The rates of threads, where they may make as many steps.
+// The rates of threads; `None` for a thread without a valid rate.
 fn rates_of(
     alloc: Global,
     properties: &Properties<'_>,
@@ -39,7 +39,7 @@ fn rates_of(
     Ok(rates)
 }
 
-// Adds what is wrong with threads.
+// Appends the violations of threads.
 fn add_threads_findings(
     alloc: Global,
     properties: &Properties<'_>,
@@ -56,7 +56,7 @@ fn add_threads_findings(
     Ok(())
 }
 
-// Adds the connections that carry chains.
+// Adds the connections whose properties apply to these connection chains.
 fn add_carriers(carriers: &mut Carriers, chains: &[Chain]) -> Result<(), NoMemory>
     ensures { OnOk result ((n i : ℕ) → carries carriers.new n i
         ≡ (carries carriers.old n i || carries (map spec.carrier_numbers chains.now) n i)) }
@@ -67,7 +67,7 @@ fn add_carriers(carriers: &mut Carriers, chains: &[Chain]) -> Result<(), NoMemor
     Ok(())
 }
 
-// The connections that carry links, feeds and taps.
+// The connections whose properties apply to links, feeds and taps.
 fn carriers_of(alloc: Global, instance: &Instance<'_>) -> Result<Carriers, NoMemory>
     ensures { IfOk result (λ carriers. (n i : ℕ)
         → carries carriers n i ≡ carries (spec.carriers_of (inner.shown instance.now)) n i) }
@@ -79,7 +79,7 @@ fn carriers_of(alloc: Global, instance: &Instance<'_>) -> Result<Carriers, NoMem
     Ok(carriers)
 }
 
-// Adds what is wrong with links.
+// Appends the violations of links.
 fn add_all_link_findings(
     alloc: Global,
     rated: &RatedThreads<'_>,
@@ -96,7 +96,7 @@ fn add_all_link_findings(
     Ok(())
 }
 
-// Adds what is wrong with feeds.
+// Appends the violations of feeds.
 fn add_feeds_findings(
     alloc: Global,
     rated: &RatedThreads<'_>,
@@ -113,7 +113,7 @@ fn add_feeds_findings(
     Ok(())
 }
 
-// Adds what is wrong with taps.
+// Appends the violations of taps.
 fn add_taps_findings(
     alloc: Global,
     rated: &RatedThreads<'_>,
@@ -129,7 +129,7 @@ fn add_taps_findings(
     Ok(())
 }
 
-// Adds what is wrong with links, feeds and taps, over the rates of the threads.
+// Appends the violations of links, feeds and taps, for the rates of the threads.
 fn add_chain_findings(
     alloc: Global,
     properties: &Properties<'_>,
@@ -151,7 +151,7 @@ fn add_chain_findings(
     add_taps_findings(alloc, &rated, instance.taps.as_slice(), found)
 }
 
-// Adds what is wrong with the declarations that are in use.
+// Appends the violations of the declarations in use.
 fn add_used_findings(
     alloc: Global,
     instance: &Instance<'_>,
@@ -176,7 +176,7 @@ fn add_used_findings(
     Ok(())
 }
 
-// All findings, each rule in component, link or connection order.
+// All violations, each rule in the order of components, links or connections.
 fn findings_of(
     alloc: Global,
     properties: &Properties<'_>,
@@ -198,8 +198,8 @@ fn findings_of(
     Ok(found)
 }
 
-/// All that is wrong with an instance, in order of place, then of number, by what the lists of its
-/// package say.
+/// Returns all violations of an instance model, sorted by position and then by rule, from the properties of its
+/// package. Errors: out of memory.
 pub fn violations(
     alloc: Global,
     properties: &Properties<'_>,

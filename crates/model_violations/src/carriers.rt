@@ -1,4 +1,5 @@
-//! What connections say, and which of them carry chains.
+//! The properties of connections, and the carriers: the connections whose properties apply to connection
+//! chains.
 ghost use Rattle.std.specs.Prelude.{◌≡◌, IfSome, option_map, option_copied};
 ghost use Rattle.aadl_tree.specs.proof.PlaceMaps.{kept_place};
 ghost use Rattle.aadl_tree.specs.proof.PackageViews.{placed};
@@ -15,7 +16,7 @@ use pals_base::NoMemory;
 use std::alloc::Global;
 use std::marker::Model;
 
-/// The connection of two numbers: its declaration's, and its own there.
+/// Returns the connection with the number of its declaration and its own number there.
 pub fn connection_of<'t>(tree: &'t PackageTree, place: ConnectionAt) -> Option<&'t Connection>
     ensures { option_map (connection_view kept_place) (option_copied result)
         ≡ spec.connection_of (placed tree.now) place }
@@ -26,7 +27,7 @@ pub fn connection_of<'t>(tree: &'t PackageTree, place: ConnectionAt) -> Option<&
     }
 }
 
-/// The connection of two numbers, with what it says of the chains that it carries.
+/// Returns the connection with its numbers, and its properties that apply to connection chains.
 #[tactic(auto, using(crate::proofs::MappedOptions::of_mapped))]
 pub fn carrier_of<'t>(
     properties: &Properties<'t>,
@@ -43,8 +44,8 @@ pub fn carrier_of<'t>(
     Some((connection, carried))
 }
 
-/// The connections that carry chains. Contracts see the numbers of each: its declaration's, and its
-/// own there.
+/// The carriers: the connections whose properties apply to connection chains. The model is the list of their
+/// numbers: the declaration's, and the connection's own number there.
 pub struct Carriers {
     places: IndexSet<(usize, usize)>,
 }
@@ -67,7 +68,7 @@ impl Carriers {
     ghost use Rattle.std.specs.Prelude.{◌≡◌, ◌&&◌, ◌||◌, ℕ, nat_eq, [], OnOk};
     ghost use Rattle.model_violations.specs.ConnectionsAndCarriers.{carries};
 
-    /// An empty set. It takes no memory.
+    /// Returns an empty set. Does not allocate.
     pub fn new(alloc: Global) -> Carriers
         ensures { result ≡ [] }
     {
@@ -76,7 +77,7 @@ impl Carriers {
         }
     }
 
-    /// Adds a connection.
+    /// Adds a connection. Errors: out of memory.
     pub fn add(&mut self, place: ConnectionAt) -> Result<(), NoMemory>
         ensures { OnOk result ((n i : ℕ) → carries self.new n i
             ≡ (carries self.old n i || (nat_eq n place.declaration && nat_eq i place.connection))) }
@@ -85,7 +86,7 @@ impl Carriers {
         Ok(())
     }
 
-    /// Whether a connection is among them.
+    /// Returns whether a connection is a carrier.
     pub fn has(&self, place: ConnectionAt) -> bool
         ensures { result ≡ carries self.now place.declaration place.connection }
     {

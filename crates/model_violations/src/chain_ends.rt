@@ -1,4 +1,5 @@
-//! The name and the type of the in port at which a chain ends, and the rate of the component at either end.
+//! The name and the type of the in port at the end of a connection chain, and the rate of the component at
+//! either end.
 ghost use Rattle.std.specs.Prelude.{◌≡◌, ◌<◌, ℕ, IfOk, Some, filter, map, option_map, option_copied, slice_get};
 ghost use Rattle.std.specs.Option.{option_and_then};
 ghost use Rattle.aadl_tree.specs.proof.PlaceMaps.{kept_place};
@@ -15,7 +16,7 @@ use component_checks::type_findings::{is_in, kind_in};
 use pals_base::{Kind, NoMemory, NodeNo, Text, TryClone};
 use std::alloc::Global;
 
-/// The number of the implementation of a thread.
+/// Returns the number of the implementation of a thread.
 #[tactic(auto, using(crate::proofs::ConnectionEndTypes::target_below))]
 pub fn component_number(uses: &Uses<'_>, thread: &ThreadAt) -> Option<usize>
     ensures { option_and_then (implementation_at (placed uses.now.names.tree.now)) result
@@ -27,7 +28,7 @@ pub fn component_number(uses: &Uses<'_>, thread: &ThreadAt) -> Option<usize>
     }
 }
 
-// The in port of a number, among the in ports alone.
+// The in port with a number, counting only in ports.
 fn in_port(ports: &[Feature], number: usize) -> Option<&Feature>
     ensures { option_map (feature_view kept_place) (option_copied result)
         ≡ slice_get (filter is_in (map (feature_view kept_place) ports.now)) number }
@@ -44,7 +45,7 @@ fn in_port(ports: &[Feature], number: usize) -> Option<&Feature>
     None
 }
 
-/// An in port of a thread.
+/// Returns an in port of a thread.
 pub fn thread_in<'t>(uses: &Uses<'t>, thread: &ThreadAt, number: u32) -> Option<&'t Feature>
     ensures { option_map (feature_view kept_place) (option_copied result)
         ≡ slice_get (spec.ins_of (placed uses.now.names.tree.now) thread.now) number }
@@ -55,7 +56,7 @@ pub fn thread_in<'t>(uses: &Uses<'t>, thread: &ThreadAt, number: u32) -> Option<
     }
 }
 
-// The name of an in port: its thread's path, a `.`, and its own.
+// The name of an in port: its thread's path, a `.`, and its own name.
 fn thread_port_name(
     alloc: Global,
     uses: &Uses<'_>,
@@ -73,7 +74,7 @@ fn thread_port_name(
     Ok(Text::new(name))
 }
 
-/// The name that findings give to the end of a chain.
+/// Returns the name of the end of a connection chain in violations. Errors: out of memory.
 pub fn end_name(
     alloc: Global,
     uses: &Uses<'_>,
@@ -91,7 +92,8 @@ pub fn end_name(
     }
 }
 
-/// The type of the end of a chain; none where it is neither Integer nor Boolean, or the root's.
+/// Returns the type of the end of a connection chain, or `None` if it is neither Integer nor Boolean, or if the
+/// end is the root.
 pub fn end_kind(uses: &Uses<'_>, threads: &[ThreadAt], end: &ChainEnd) -> Option<Kind>
     ensures { result ≡ spec.end_kind (placed uses.now.names.tree.now) threads.now end.now }
 {
@@ -119,7 +121,8 @@ fn rate_at(rates: &[Option<u32>], node: NodeNo) -> Option<u32>
     }
 }
 
-/// The rate of the component at the end of a chain, if it has one. The root sends once a round.
+/// Returns the rate of the component at the end of a connection chain, if it has one. The rate of the root is
+/// 1.
 pub fn end_rate(rates: &[Option<u32>], end: &ChainEnd) -> Option<u32>
     requires { (n k : ℕ) → slice_get rates.now n ≡ Some (Some k) → 0 < k }
     ensures value { result ≡ spec.end_rate rates.now end.now }

@@ -1,4 +1,4 @@
-//! What is wrong with links, feeds and taps.
+//! The violations of links, feeds and taps.
 ghost use Rattle.std.specs.Prelude.{◌≡◌, ◌<◌, ◌++◌, ℕ, OnOk, Some};
 ghost use Rattle.aadl_tree.specs.proof.PlaceMaps.{kept_place};
 ghost use Rattle.aadl_tree.specs.proof.DeclarationViews.{connection_view};
@@ -17,8 +17,7 @@ use component_checks::{Carrier, ChainProperties, Properties};
 use pals_base::{Adaptor, ItemList, NoMemory};
 use std::alloc::Global;
 
-/// The threads of an instance, with their rates, where they may make as many steps, and with what the
-/// lists of their package say.
+/// The threads of an instance model, with their valid rates, and with the properties of their package.
 #[derive(Drop)]
 pub struct RatedThreads<'t> {
     pub properties: &'t Properties<'t>,
@@ -26,8 +25,8 @@ pub struct RatedThreads<'t> {
     pub rates: &'t [Option<u32>],
 }
 
-// Whether nothing can be wrong between two rates, whatever is named and carried: one of them is missing,
-// or they agree, and there is no adaptor.
+// Whether two rates cause no violation, independent of names and types: one of them is missing, or they are
+// equal and there is no adaptor.
 fn is_plain(adaptor: Option<Option<Adaptor>>, source: Option<u32>, target: Option<u32>) -> bool
     ensures { result ≡ spec.is_plain adaptor source target }
 {
@@ -40,7 +39,7 @@ fn is_plain(adaptor: Option<Option<Adaptor>>, source: Option<u32>, target: Optio
     }
 }
 
-// Adds what is wrong with a carrier between two rates; without one of them nothing is found.
+// Appends the violations of an adaptor between two rates; none if one rate is missing.
 fn add_rated(
     alloc: Global,
     carrier: &Carrier,
@@ -62,7 +61,7 @@ fn add_rated(
     }
 }
 
-// Adds what is wrong with the adaptor of a link or a feed that a connection carries.
+// Appends the violations of the adaptor of a link or a feed.
 fn add_adaptor_findings(
     alloc: Global,
     rated: &RatedThreads<'_>,
@@ -93,7 +92,7 @@ fn add_adaptor_findings(
     add_rated(alloc, &carrier, source, target, found)
 }
 
-// Adds the finding that a link's carrier is not delayed.
+// Appends a violation if a link's carrier is not delayed.
 fn add_timing_findings(
     alloc: Global,
     rated: &RatedThreads<'_>,
@@ -119,8 +118,8 @@ fn add_timing_findings(
     })
 }
 
-/// Adds what is wrong with a link: its carrier is not delayed, the rates don't divide, an adaptor is
-/// missing, stray or not allowed.
+/// Appends the violations of a link: its carrier is not delayed, neither rate divides the other, or an adaptor
+/// is missing, superfluous or not allowed. Errors: out of memory.
 pub fn add_link_findings(
     alloc: Global,
     rated: &RatedThreads<'_>,
@@ -138,7 +137,8 @@ pub fn add_link_findings(
     add_adaptor_findings(alloc, rated, link, connection, said, found)
 }
 
-/// Adds what is wrong with a feed: the adaptor between the root's rate, which is 1, and the thread's.
+/// Appends the violations of a feed, for the adaptor between the root's rate, which is 1, and the thread's
+/// rate. Errors: out of memory.
 pub fn add_feed_findings(
     alloc: Global,
     rated: &RatedThreads<'_>,
@@ -157,7 +157,7 @@ pub fn add_feed_findings(
     }
 }
 
-/// Adds the finding that a tap has an adaptor.
+/// Appends a violation if a tap has an adaptor. Errors: out of memory.
 #[tactic(auto, using(crate::proofs::MappedOptions::has_mapped))]
 pub fn add_tap_findings(
     alloc: Global,

@@ -1,4 +1,4 @@
-//! What is wrong with the connections of an implementation, whatever they carry.
+//! The violations of the connections of an implementation, independent of the chains that they carry.
 ghost use Rattle.std.specs.Prelude.{◌≡◌, ◌||◌, ◌++◌, ℕ, OnOk, Some, option_map, slice_get};
 ghost use Rattle.std.specs.Option.{is_some, option_and_then};
 ghost use Rattle.aadl_tree.specs.proof.PlaceMaps.{kept_place};
@@ -27,7 +27,7 @@ use component_checks::type_findings::kind_in;
 use pals_base::{ItemList, Kind, NoMemory};
 use std::alloc::Global;
 
-// The type of a port of the type of a number.
+// The type of a port of the type with a number.
 fn kind_numbered(tree: &PackageTree, of_type: Option<usize>, port: usize) -> Option<Kind>
     ensures { result ≡ spec.kind_numbered (features_of (type_numbered (placed tree.now) of_type)) port }
 {
@@ -36,7 +36,7 @@ fn kind_numbered(tree: &PackageTree, of_type: Option<usize>, port: usize) -> Opt
     kind_in(&port.data_type)
 }
 
-// The type of a port of the implementation of a number, or of one of its subcomponents.
+// The type of a port of the implementation with a number, or of one of its subcomponents.
 fn site_kind(uses: &Uses<'_>, number: usize, site: NumberedPort) -> Option<Kind>
     ensures { (x : trees.Implementation ℕ) → implementation_at (placed uses.now.names.tree.now) number ≡ Some x
         → result ≡ spec.site_kind (placed uses.now.names.tree.now) x site }
@@ -48,7 +48,7 @@ fn site_kind(uses: &Uses<'_>, number: usize, site: NumberedPort) -> Option<Kind>
     }
 }
 
-// The type of the port at an end of a connection, if that is declared.
+// The type of the port at an end of a connection, if it is declared.
 fn kind_at(uses: &Uses<'_>, number: usize, end: Option<NumberedPort>) -> Option<Kind>
     ensures { (x : trees.Implementation ℕ) → implementation_at (placed uses.now.names.tree.now) number ≡ Some x
         → result ≡ option_and_then (spec.site_kind (placed uses.now.names.tree.now) x) end }
@@ -59,7 +59,7 @@ fn kind_at(uses: &Uses<'_>, number: usize, end: Option<NumberedPort>) -> Option<
     }
 }
 
-// What a connection joins, by its place.
+// The ports that a connection joins, by its numbers.
 fn wire_at(wires: &PackageConnections<'_>, place: ConnectionAt) -> ConnectionPorts
     ensures { (x : trees.Implementation ℕ) (c : trees.Connection ℕ)
         → IsConnection (placed wires.now.uses.names.tree.now) place.declaration place.connection x c
@@ -74,7 +74,7 @@ fn wire_at(wires: &PackageConnections<'_>, place: ConnectionAt) -> ConnectionPor
     }
 }
 
-// Whether an end is at an own port.
+// Whether an end is an own port.
 fn is_own(port: &Option<Identifier>) -> bool
     ensures { result ≡ spec.is_own (option_map (identifier_view kept_place) port.now) }
 {
@@ -91,7 +91,7 @@ fn joins_own(connection: &Connection) -> bool
     is_own(&connection.source.second) || is_own(&connection.target.second)
 }
 
-// Adds the finding that the ends of a connection at a place are of different types.
+// Appends a violation if the ends of a connection have different types.
 fn add_ends_findings(
     alloc: Global,
     wires: &PackageConnections<'_>,
@@ -129,7 +129,7 @@ fn has_adaptor(connection: &Connection) -> bool
         .is_some()
 }
 
-// Adds the finding that a connection with an end at an own port is delayed.
+// Appends a violation if a connection with an own port at one end is delayed.
 fn add_delay_findings(
     alloc: Global,
     connection: &Connection,
@@ -147,7 +147,7 @@ fn add_delay_findings(
     )
 }
 
-// Adds the finding that a connection which carries no chain has an adaptor.
+// Appends a violation if a connection that is not a carrier has an adaptor.
 fn add_adaptor_findings(
     alloc: Global,
     carried: bool,
@@ -167,7 +167,7 @@ fn add_adaptor_findings(
     )
 }
 
-// Adds what is wrong with the connection at a place.
+// Appends the violations of the connection with these numbers.
 fn add_connection_findings(
     alloc: Global,
     wires: &PackageConnections<'_>,
@@ -189,8 +189,8 @@ fn add_connection_findings(
     Ok(())
 }
 
-/// Adds what is wrong with the connections of the implementation of a number: ends of different types,
-/// a delay at an own port, an adaptor on what carries no chain.
+/// Appends the violations of the connections of the implementation with a number: ends of different types, a
+/// delay at an own port, or an adaptor on a connection that is not a carrier. Errors: out of memory.
 pub fn add_connections_findings(
     alloc: Global,
     wires: &PackageConnections<'_>,

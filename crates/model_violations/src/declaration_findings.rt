@@ -1,4 +1,4 @@
-//! What is wrong with the declarations that are in use.
+//! The violations of the declarations in use.
 ghost use Rattle.std.specs.Prelude.{◌≡◌, ◌++◌, true, OnOk, Some, slice_get, map, flat_map};
 ghost use Rattle.aadl_tree.specs.proof.PlaceMaps.{kept_place};
 ghost use Rattle.aadl_tree.specs.proof.PackageViews.{placed};
@@ -26,8 +26,8 @@ use indexmap::IndexSet;
 use pals_base::{ItemList, NoMemory};
 use std::alloc::Global;
 
-/// A package with what is in use of it below a root: the numbers of implementations and of types, and the
-/// connections that carry chains.
+/// A package with its declarations in use below a root: the numbers of implementations and of types, and the
+/// carriers.
 #[derive(Clone, Copy)]
 pub struct UsedPackage<'t> {
     pub wires: &'t PackageConnections<'t>,
@@ -37,14 +37,14 @@ pub struct UsedPackage<'t> {
     pub carriers: &'t Carriers,
 }
 
-// Whether a type is the root's.
+// Whether a type is the type of the root.
 fn is_root_type(uses: &Uses<'_>, root: usize, number: usize) -> bool
     ensures { result ≡ is_root_type (placed uses.now.names.tree.now) root number }
 {
     is_number(number, uses.type_number(root))
 }
 
-// Adds what is wrong with the type of a number.
+// Appends the violations of the type with a number.
 fn add_type_findings(
     alloc: Global,
     uses: &Uses<'_>,
@@ -62,7 +62,7 @@ fn add_type_findings(
     add_times_too_big(alloc, holder, x.properties.as_slice(), found)
 }
 
-// Adds the times above an hour of subcomponents.
+// Appends the times above one hour at subcomponents.
 fn add_subs_findings(
     alloc: Global,
     subs: &[Subcomponent],
@@ -78,7 +78,7 @@ fn add_subs_findings(
     Ok(())
 }
 
-// Adds what is wrong with the behaviour of the implementation of a number, if it is a thread's.
+// Appends the violations of the behaviour of the implementation with a number, if it is a thread's.
 fn add_thread_findings(
     alloc: Global,
     uses: &Uses<'_>,
@@ -102,7 +102,7 @@ fn add_thread_findings(
     }
 }
 
-// Adds what is wrong with the implementation of a number.
+// Appends the violations of the implementation with a number.
 fn add_implementation_findings(
     alloc: Global,
     in_use: &UsedPackage<'_>,
@@ -126,7 +126,7 @@ fn add_implementation_findings(
     add_thread_findings(alloc, &wires.uses, number, x, found)
 }
 
-// Adds what is wrong with the declaration of a number, where it is in use.
+// Appends the violations of the declaration with a number, if it is in use.
 fn add_declaration_findings(
     alloc: Global,
     in_use: &UsedPackage<'_>,
@@ -161,7 +161,7 @@ fn add_declaration_findings(
     }
 }
 
-/// Adds what is wrong with the declarations that are in use of a package.
+/// Appends the violations of the declarations in use of a package. Errors: out of memory.
 pub fn add_package_findings(
     alloc: Global,
     in_use: &UsedPackage<'_>,

@@ -1,4 +1,4 @@
-//! The in ports and the out ports that a thread declares.
+//! The in ports and the out ports of a thread.
 ghost use Rattle.std.specs.Prelude.{◌≡◌, ◌∷◌, ◌++◌, [], IfOk, OnOk, if◌then◌else◌, map};
 ghost use Rattle.aadl_tree.specs.proof.PlaceMaps.{kept_place};
 ghost use Rattle.aadl_tree.specs.proof.DeclarationViews.{feature_view};
@@ -21,7 +21,7 @@ fn port_of(alloc: Global, port: &Feature) -> Result<Declared, NoMemory>
     })
 }
 
-// Adds a port, if it is wanted.
+// Adds a port under a condition.
 fn add_port(
     alloc: Global,
     wanted: bool,
@@ -39,7 +39,7 @@ fn add_port(
     }
 }
 
-/// The in ports, in order.
+/// Returns the in ports, in order. Errors: out of memory.
 pub fn ins_in(alloc: Global, ports: &[Feature]) -> Result<ItemList<Declared>, NoMemory>
     ensures { IfOk result (λ ins. ins ≡ spec.ins_in (map (feature_view kept_place) ports.now)) }
 {
@@ -50,7 +50,7 @@ pub fn ins_in(alloc: Global, ports: &[Feature]) -> Result<ItemList<Declared>, No
     Ok(ins)
 }
 
-/// The out ports, in order.
+/// Returns the out ports, in order. Errors: out of memory.
 pub fn outs_in(alloc: Global, ports: &[Feature]) -> Result<ItemList<Declared>, NoMemory>
     ensures { IfOk result (λ outs. outs ≡ spec.outs_in (map (feature_view kept_place) ports.now)) }
 {

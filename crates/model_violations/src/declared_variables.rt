@@ -1,4 +1,4 @@
-//! The variables of a behaviour, with their first values.
+//! The variables of a behaviour, with their initial values.
 ghost use Rattle.std.specs.Prelude.{◌≡◌, ◌++◌, ◌∷◌, [], pos, nat_le, IfOk, OnOk, Some, None, if◌then◌else◌};
 ghost use Rattle.aadl_lex.specs.Rules.{decimal, most};
 ghost use Rattle.aadl_tree.specs.proof.PlaceMaps.{kept_place};
@@ -20,7 +20,7 @@ use std::alloc::Global;
 
 const MOST: u64 = 9_223_372_036_854_775_807;
 
-// The number that the digits say, where it is a whole number of the language.
+// The number with these digits, if it is a whole number of the language.
 #[tactic(auto, using(aadl_lex::proofs::ByteScanLoops::decimal_step))]
 fn number_of(digits: &[u8]) -> Option<i64>
     ensures { result ≡ (if nat_le (decimal digits.now) most then Some (pos (decimal digits.now)) else None) }
@@ -38,7 +38,7 @@ fn number_of(digits: &[u8]) -> Option<i64>
     Some(value as i64)
 }
 
-// The number that the digits say, or 0 where it is above the greatest.
+// The number with these digits, or 0 if it is above the maximum.
 fn whole_of(digits: &[u8]) -> i64
     ensures { result ≡ spec.whole_of digits.now }
 {
@@ -48,7 +48,7 @@ fn whole_of(digits: &[u8]) -> i64
     }
 }
 
-// The value that a text says.
+// The value in a text.
 fn value_of(text: &[u8]) -> i64
     ensures { result ≡ spec.value_of text.now }
 {
@@ -61,7 +61,7 @@ fn value_of(text: &[u8]) -> i64
     }
 }
 
-// The value of a text, if it is one.
+// The value in a text, if the value is a text.
 fn text_value(value: &Value) -> i64
     ensures { result ≡ spec.value_in (text_of (value_view kept_place value.now)) }
 {
@@ -81,7 +81,7 @@ fn only_value(values: &[Value]) -> i64
     }
 }
 
-// The first value that a property gives.
+// The initial value that a property gives.
 fn value_in(value: &Value) -> i64
     ensures { result ≡ spec.value_in (only_text (value_view kept_place value.now)) }
 {
@@ -91,7 +91,7 @@ fn value_in(value: &Value) -> i64
     }
 }
 
-// The first value of the variables of a declaration.
+// The initial value of the variables of a declaration.
 fn first_of(variable: &VariableDeclaration) -> i64
     ensures { result ≡ spec.first_of (variable_view kept_place variable.now) }
 {
@@ -138,7 +138,7 @@ fn add_variables(
     Ok(())
 }
 
-/// The variables of a behaviour, in order.
+/// Returns the variables of a behaviour, in order. Errors: out of memory.
 pub fn variables_of(alloc: Global, annex: &AnnexTree) -> Result<ItemList<Declared>, NoMemory>
     ensures { IfOk result (λ variables. variables ≡ spec.variables_of (annex_tree_view kept_place annex.now)) }
 {

@@ -1,4 +1,4 @@
-//! Names, each once, as it is first spelled.
+//! Distinct names in their first spelling.
 ghost use Rattle.std.specs.Prelude.{◌≡◌, [], IfOk, OnOk};
 ghost use Rattle.model_violations.specs.IgnoredProperties as spec;
 ghost use Rattle.model_violations.specs.proof.SpellingTables as inner;
@@ -7,7 +7,7 @@ use aadl_names::name_table::NameTable;
 use pals_base::{ItemList, NoMemory, Text, TryClone};
 use std::alloc::Global;
 
-// Adds a name, unless it is there, to names and to the table of their numbers.
+// Adds a name to the names and to the table of their numbers, unless it is there.
 fn add_first(
     alloc: Global,
     name: &Text,
@@ -30,8 +30,8 @@ fn add_first(
     }
 }
 
-/// Each name once, as it is first spelled, in order of first appearance. Capitals are as good as small
-/// letters.
+/// Returns each name once, in its first spelling, in the order of first occurrence. Ignores case in
+/// comparisons. Errors: out of memory.
 pub fn first_spellings(alloc: Global, names: &[Text]) -> Result<ItemList<Text>, NoMemory>
     ensures { IfOk result (λ first. first ≡ spec.all_behind [] names.now) }
 {

@@ -1,4 +1,4 @@
-//! The properties of a declaration that mean nothing where they stand.
+//! The properties of a declaration without meaning at their position.
 ghost use Rattle.std.specs.Prelude.{◌≡◌, ◌++◌, OnOk, map, flat_map};
 ghost use Rattle.aadl_tree.specs.proof.PlaceMaps.{kept_place};
 ghost use Rattle.aadl_tree.specs.proof.DeclarationViews.{connection_view, declaration_view, feature_view};
@@ -15,7 +15,7 @@ use aadl_tree::{
 use pals_base::{ItemList, NoMemory, Text};
 use std::alloc::Global;
 
-// Adds the names at variables.
+// Appends the names at variables.
 fn add_variables(
     alloc: Global,
     variables: &[VariableDeclaration],
@@ -31,7 +31,7 @@ fn add_variables(
     Ok(())
 }
 
-// Adds the names at the variables in an annex.
+// Appends the names at the variables in an annex.
 fn add_annex(alloc: Global, annex: &Annex, found: &mut ItemList<Text>) -> Result<(), NoMemory>
     ensures { OnOk result (found.new ≡ found.old ++ spec.annex_ignored (annex_view kept_place annex.now)) }
 {
@@ -44,7 +44,7 @@ fn add_annex(alloc: Global, annex: &Annex, found: &mut ItemList<Text>) -> Result
     }
 }
 
-// Adds the names of properties that mean nothing at the variables in annexes.
+// Appends the names of properties without meaning at the variables in annexes.
 fn add_annexes(alloc: Global, annexes: &[Annex], found: &mut ItemList<Text>) -> Result<(), NoMemory>
     ensures { OnOk result (found.new ≡ found.old
         ++ flat_map spec.annex_ignored (map (annex_view kept_place) annexes.now)) }
@@ -55,7 +55,7 @@ fn add_annexes(alloc: Global, annexes: &[Annex], found: &mut ItemList<Text>) -> 
     Ok(())
 }
 
-// Adds the names at ports.
+// Appends the names at ports.
 fn add_ports(alloc: Global, ports: &[Feature], found: &mut ItemList<Text>) -> Result<(), NoMemory>
     ensures { OnOk result (found.new ≡ found.old
         ++ flat_map spec.port_ignored (map (feature_view kept_place) ports.now)) }
@@ -71,7 +71,7 @@ fn add_ports(alloc: Global, ports: &[Feature], found: &mut ItemList<Text>) -> Re
     Ok(())
 }
 
-// Adds the names at subcomponents.
+// Appends the names at subcomponents.
 fn add_subs(
     alloc: Global,
     subs: &[Subcomponent],
@@ -87,7 +87,7 @@ fn add_subs(
     Ok(())
 }
 
-// Adds the names at connections.
+// Appends the names at connections.
 fn add_connections(
     alloc: Global,
     connections: &[Connection],
@@ -103,7 +103,7 @@ fn add_connections(
     Ok(())
 }
 
-// Adds the names in a type.
+// Appends the names in a type.
 fn add_type(
     alloc: Global,
     of_root: bool,
@@ -118,7 +118,7 @@ fn add_type(
     add_annexes(alloc, x.annexes.as_slice(), found)
 }
 
-// Adds the names in an implementation.
+// Appends the names in an implementation.
 fn add_implementation(
     alloc: Global,
     of_root: bool,
@@ -135,7 +135,7 @@ fn add_implementation(
     add_annexes(alloc, x.annexes.as_slice(), found)
 }
 
-/// Whether a number is this one, if there is one.
+/// Returns whether a number equals an optional one.
 pub fn is_number(number: usize, other: Option<usize>) -> bool
     ensures { result ≡ spec.is_number number other }
 {
@@ -145,8 +145,8 @@ pub fn is_number(number: usize, other: Option<usize>) -> bool
     }
 }
 
-/// Adds the names of properties that mean nothing in the declaration of a number, by the numbers of the
-/// root's implementation and of its type.
+/// Appends the names of properties without meaning in the declaration with a number, for the numbers of the
+/// root's implementation and type. Errors: out of memory.
 pub fn add_declaration(
     alloc: Global,
     root: usize,

@@ -1,4 +1,4 @@
-//! The names of properties of a list that mean nothing where they stand.
+//! The names of properties of a list without meaning at their position.
 ghost use Rattle.std.specs.Prelude.{◌≡◌, ◌++◌, OnOk};
 ghost use Rattle.aadl_tree.specs.Names.{same_name};
 ghost use Rattle.std.specs.List.{list_any};
@@ -16,7 +16,7 @@ use aadl_tree::{Association, Name};
 use pals_base::{ItemList, NoMemory, Text};
 use std::alloc::Global;
 
-// Whether a property of this name is recognised at a kind of place.
+// Whether a property of this name is recognised at a kind of holder.
 fn is_recognised(holder: PropertyHolder, name: &Name) -> bool
     ensures { result ≡ list_any (λ p. same_name (spelled_name (name_view kept_place name.now)) (name_of p))
         (recognised holder) }
@@ -27,7 +27,7 @@ fn is_recognised(holder: PropertyHolder, name: &Name) -> bool
         .any(|property| is_spelled(name, property.name()))
 }
 
-// Whether an association means nothing at a kind of place.
+// Whether an association has no meaning at a kind of holder.
 #[tactic(auto, using(aadl_tree::proofs::ValueViews::view_out_association))]
 fn is_ignored(holder: PropertyHolder, association: &Association) -> bool
     ensures { result ≡ spec.is_ignored holder (association_view kept_place association.now) }
@@ -35,7 +35,7 @@ fn is_ignored(holder: PropertyHolder, association: &Association) -> bool
     !(association.applies_to.is_empty() && is_recognised(holder, &association.name))
 }
 
-// Adds the name of an association that means nothing at a kind of place.
+// Appends the name of an association without meaning at a kind of holder.
 #[tactic(auto, using(aadl_tree::proofs::ValueViews::view_out_association))]
 fn add_association(
     alloc: Global,
@@ -52,7 +52,7 @@ fn add_association(
     Ok(())
 }
 
-/// Adds the names in a list of properties at a kind of place that mean nothing there.
+/// Appends the names in a list of properties without meaning at a kind of holder. Errors: out of memory.
 pub fn add_list(
     alloc: Global,
     holder: PropertyHolder,

@@ -1,4 +1,4 @@
-//! The properties of a package that mean nothing where they stand.
+//! The properties of a package without meaning at their position.
 ghost use Rattle.std.specs.Prelude.{◌≡◌, ◌++◌, IfOk, OnOk, flat_map};
 ghost use Rattle.std.specs.List.{enumerate_from};
 ghost use Rattle.aadl_tree.specs.proof.PackageViews.{placed};
@@ -11,7 +11,7 @@ use aadl_uses::Uses;
 use pals_base::{ItemList, NoMemory, Text};
 use std::alloc::Global;
 
-// Adds the names of the declarations, by the numbers of the root's implementation and of its type.
+// Appends the names in the declarations, for the numbers of the root's implementation and type.
 fn add_declarations(
     alloc: Global,
     tree: &PackageTree,
@@ -28,8 +28,8 @@ fn add_declarations(
     Ok(())
 }
 
-/// The names of the properties of a package that mean nothing where they stand, in order of first
-/// appearance, each as it is first spelled.
+/// Returns the names of the properties of a package without meaning at their position, in the order of first
+/// occurrence, each in its first spelling. Errors: out of memory.
 pub fn ignored_names(
     alloc: Global,
     uses: &Uses<'_>,

@@ -1,5 +1,9 @@
-//! All that is wrong with an instance: threads and their behaviours, links, declarations that are in use; and the
-//! names of properties that mean nothing where they stand.
+//! The violations of an instance model: of its threads and their behaviours, its links, feeds and taps, and the
+//! declarations in use; and the names of properties without meaning.
+//!
+//! The main result is [`violations`]: the list of all violations, sorted by position and then by rule. It is
+//! proved equal to its definition. The crate also resolves the behaviours of threads. It builds neither the
+//! instance model nor the design.
 #![tactic(auto)]
 
 pub mod all_violations;

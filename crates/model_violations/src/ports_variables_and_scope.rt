@@ -1,5 +1,4 @@
-//! The ports and variables of a thread as its behaviour has them, and the scope that tells what
-//! their names stand for.
+//! The ports and variables of a behaviour, and the scope that determines the meaning of their names.
 ghost use Rattle.std.specs.Prelude.{◌≡◌, ◌++◌, ◌<◌, ◌^◌, IfOk, OnOk, length, map};
 ghost use Rattle.std.specs.List.{enumerate_from};
 ghost use Rattle.model_violations.specs.PortsAndVariables as spec;
@@ -9,7 +8,7 @@ use annex_resolve::{DeclaredName, DeclaredValues, Meaning, Scope};
 use pals_base::{ItemList, Kind, NoMemory, PortDecl, TryClone, VarDecl};
 use std::alloc::Global;
 
-// A type; a bad one is as good as Integer.
+// A type; a missing type counts as Integer.
 fn or_integer(kind: Option<Kind>) -> Kind
     ensures { result ≡ spec.or_integer kind }
 {
@@ -19,7 +18,7 @@ fn or_integer(kind: Option<Kind>) -> Kind
     }
 }
 
-// Ports as a behaviour has them.
+// The ports of a behaviour.
 fn named(alloc: Global, ports: &[Declared]) -> Result<ItemList<PortDecl>, NoMemory>
     ensures { IfOk result (λ named. named ≡ map spec.named_of ports.now) }
 {
@@ -33,7 +32,7 @@ fn named(alloc: Global, ports: &[Declared]) -> Result<ItemList<PortDecl>, NoMemo
     Ok(named)
 }
 
-// Variables as a behaviour has them.
+// The variables of a behaviour.
 fn vars(alloc: Global, variables: &[Declared]) -> Result<ItemList<VarDecl>, NoMemory>
     ensures { IfOk result (λ vars. vars ≡ map spec.var_of variables.now) }
 {
@@ -48,7 +47,7 @@ fn vars(alloc: Global, variables: &[Declared]) -> Result<ItemList<VarDecl>, NoMe
     Ok(vars)
 }
 
-// The values of a behaviour over ports and variables.
+// The ports and variables of a behaviour.
 fn values_by(
     alloc: Global,
     ins: &[Declared],
@@ -64,7 +63,7 @@ fn values_by(
     })
 }
 
-// What a declared name stands for.
+// The meaning of a declared name.
 fn entry_of(alloc: Global, declared: &Declared, meaning: Meaning) -> Result<DeclaredName, NoMemory>
     ensures { IfOk result (λ entry. entry ≡ record {
       name = declared.now.name;
@@ -79,7 +78,7 @@ fn entry_of(alloc: Global, declared: &Declared, meaning: Meaning) -> Result<Decl
     })
 }
 
-// Adds what in ports stand for.
+// Adds the meanings of in ports.
 fn add_ins(
     alloc: Global,
     ins: &[Declared],
@@ -94,7 +93,7 @@ fn add_ins(
     Ok(())
 }
 
-// Adds what out ports stand for.
+// Adds the meanings of out ports.
 fn add_outs(
     alloc: Global,
     outs: &[Declared],
@@ -109,7 +108,7 @@ fn add_outs(
     Ok(())
 }
 
-// Adds what variables stand for.
+// Adds the meanings of variables.
 fn add_vars(
     alloc: Global,
     variables: &[Declared],
@@ -124,7 +123,7 @@ fn add_vars(
     Ok(())
 }
 
-// What the names of ports and variables stand for.
+// The meanings of the names of ports and variables.
 fn scope_by(
     alloc: Global,
     ins: &[Declared],
@@ -146,7 +145,7 @@ fn scope_by(
     })
 }
 
-/// The values of a behaviour over ports and variables, and what their names stand for.
+/// Returns the ports and variables of a behaviour, and the meanings of their names. Errors: out of memory.
 pub fn values_and_scope_by(
     alloc: Global,
     ins: &[Declared],

@@ -1,4 +1,4 @@
-//! Findings in order of place, then of number.
+//! Violations sorted by position, then by rule.
 ghost use Rattle.std.specs.Prelude.{◌≡◌, IfOk};
 ghost use Rattle.std.specs.List.Sorted.{IsSortedBy, IsStableBy};
 ghost use Rattle.std.specs.Ordering.{is_lt};
@@ -8,7 +8,7 @@ use annex_resolve::Violation;
 use pals_base::{ItemList, NoMemory};
 use std::cmp::Ordering;
 
-// How two findings stand to one another.
+// The order of two violations.
 fn compare(a: &Violation, b: &Violation) -> Ordering
     ensures { is_lt result ≡ goes_before a.now b.now }
 {
@@ -21,7 +21,7 @@ fn compare(a: &Violation, b: &Violation) -> Ordering
     }
 }
 
-/// The findings by place, then by number. Those of one place and number stay in their order.
+/// Sorts the violations by position, then by rule. The sort is stable. Errors: out of memory.
 pub fn in_order(findings: ItemList<Violation>) -> Result<ItemList<Violation>, NoMemory>
     ensures sorted { IfOk result (λ list. IsSortedBy goes_before list) }
     ensures same { IfOk result (λ list. IsStableBy goes_before findings list) }

@@ -23,7 +23,7 @@ use component_checks::type_findings::add_variables_findings;
 use pals_base::{BehaviourParts, ItemList, NoMemory};
 use std::alloc::Global;
 
-// The behaviour of an annex, with the annex's place.
+// The behaviour of an annex, with the annex's position.
 fn behaviour_in(annex: &Annex) -> Option<(usize, &AnnexTree)>
     ensures { option_map (λ b. (b.0, annex_tree_view kept_place b.1.now)) result
         ≡ behaviour_in (annex_view kept_place annex.now) }
@@ -48,7 +48,8 @@ fn first_behaviour(annexes: &[Annex]) -> Option<(usize, &AnnexTree)>
     None
 }
 
-// The values of the behaviour of the implementation of a number, and what their names stand for.
+// The ports and variables of the behaviour of the implementation with a number, and the meanings of their
+// names.
 fn values_and_scope_of(
     alloc: Global,
     uses: &Uses<'_>,
@@ -80,8 +81,7 @@ fn values_and_scope_of(
     Ok(setting)
 }
 
-// Resolves the behaviour of the implementation of a number, if it has one, and adds what is wrong with
-// it.
+// Resolves the behaviour of the implementation with a number, if it has one, and appends its violations.
 fn resolve_numbered(
     alloc: Global,
     uses: &Uses<'_>,
@@ -108,8 +108,8 @@ fn resolve_numbered(
     Ok(Some(parts))
 }
 
-/// Resolves the behaviour of a thread's implementation, by its number, and adds what is wrong with it.
-/// Without an annex there is no behaviour, and that is what is wrong.
+/// Resolves the behaviour of a thread's implementation, by its number, and appends its violations. Without an
+/// annex there is no behaviour; this is a violation. Errors: out of memory.
 pub fn resolve_implementation(
     alloc: Global,
     uses: &Uses<'_>,

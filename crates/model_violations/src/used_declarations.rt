@@ -1,4 +1,4 @@
-//! Which declarations are in use below the root.
+//! The declarations in use below the root.
 ghost use Rattle.std.specs.Prelude.{◌≡◌, ◌<◌, ◌&&◌, ◌||◌, ℕ, IfOk, OnOk, length};
 ghost use Rattle.aadl_tree.specs.proof.PackageViews.{placed};
 ghost use Rattle.aadl_uses.specs.proof.ImplementationTypes.{type_number_at};
@@ -23,7 +23,7 @@ fn add_number(numbers: &mut IndexSet<usize>, number: Option<usize>) -> Result<()
     }
 }
 
-/// The numbers of the implementations that the root contains, and its own.
+/// Returns the numbers of the implementations that the root contains, including its own. Errors: out of memory.
 pub fn used_below(alloc: Global, uses: &Uses<'_>, root: usize) -> Result<IndexSet<usize>, NoMemory>
     requires { root < length (placed uses.now.names.tree.now).declarations }
     ensures { IfOk result (λ used. IsUse (placed uses.now.names.tree.now) root (has used.keys)) }
@@ -32,7 +32,7 @@ pub fn used_below(alloc: Global, uses: &Uses<'_>, root: usize) -> Result<IndexSe
     Ok(used)
 }
 
-// Adds the number of the type of the declaration of a number, where it is an implementation in use.
+// Adds the number of the type of the declaration with a number, if the declaration is an implementation in use.
 fn add_type_of(
     uses: &Uses<'_>,
     used: &IndexSet<usize>,
@@ -50,7 +50,7 @@ fn add_type_of(
     }
 }
 
-/// The numbers of the types with an implementation that is in use.
+/// Returns the numbers of the types with an implementation in use. Errors: out of memory.
 pub fn types_used(
     alloc: Global,
     uses: &Uses<'_>,

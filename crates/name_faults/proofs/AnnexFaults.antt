@@ -1,4 +1,4 @@
--- For `check_behaviours`: what is found at the annexes of an implementation, one annex after the other.
+-- For `check_behaviours`: the findings at the annexes of an implementation, one annex after another.
 use Rattle.std.proofs.Common.{◌≡◌, ℕ, ◌+◌, ◌<◌, ◌≤◌, Bool, true, false, List, [], ◌∷◌, ◌++◌, length, drop, get_or, map}
 use Rattle.std.proofs.Common.{Option, refl, sym, ap, ◌∙◌}
 use Rattle.std.proofs.lemmas.List.{drop_all}
@@ -15,7 +15,7 @@ use Rattle.aadl_names.specs.PackageNameFaults.{behaviour_faults, annex_faults}
 use Rattle.aadl_names.proofs.FirstFaultSoFar.{found_append}
 use Rattle.name_faults.specs.proof.AnnexFaults.{annex_uses, still_expected, behaviours_left}
 
--- each behaviour that is left is too many
+-- each remaining behaviour is one too many
 all_left : (tree : PackageTree ℕ) (x : Implementation ℕ) (bs : List (ℕ × AnnexTree ℕ))
     → behaviours_left tree x false bs ≡ map (λ c. WrongKind c.0) bs
 all_left tree x [] = refl

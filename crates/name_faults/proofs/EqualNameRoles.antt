@@ -1,11 +1,11 @@
--- For `check_behaviour`: behaviours use names in the same way where names stand for the same.
+-- For `check_behaviour`: the findings of a behaviour depend only on the roles of names.
 use Rattle.std.proofs.Common.{◌≡◌, ℕ, Bool, List, ap, ◌∙◌}
 use Rattle.std.specs.List.{flat_map}
 use Rattle.aadl_tree.specs.Annexes.{Transition}
 use Rattle.aadl_names.specs.NameUseFaults.{NameRoles}
 use Rattle.aadl_names.specs.PackageNameFaults.{in_order, transition_uses}
 
--- what is the same for all names is the same
+-- functions that agree on all names are equal
 pub for_all : {X : Type 0} (f g : List ℕ → X) → ((name : List ℕ) → f name ≡ g name) → f ≡ g
 for_all f g h = λ i name. h name i
 

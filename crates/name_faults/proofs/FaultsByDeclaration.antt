@@ -1,4 +1,4 @@
--- For the checks of all declarations: the faults that are found declaration by declaration, each with its number.
+-- For the checks of all declarations: the faults of the declarations, one after another, each with its number.
 use Rattle.std.proofs.Common.{◌≡◌, ℕ, ◌+◌, ◌<◌, ◌≤◌, List, [], ◌∷◌, length, drop, get_or, map, Option, Some, sym, ap}
 use Rattle.std.proofs.Common.{◌∙◌, zero, suc, arith}
 use Rattle.std.proofs.lemmas.List.{drop_all}
@@ -26,14 +26,14 @@ pub last_numbered : {A B : Type 0} (view : A → B) (here : ℕ × B → List Pa
 last_numbered view here xs i whole now past left =
     sym (left ∙ ap (λ l. found now (flat_map here (enumerate_from i (map view l)))) (drop_all i xs past))
 
--- what stands at a number
+-- the element at a number
 pub numbered : {A B : Type 0} (view : A → B) (xs : List A) (i : ℕ) (x : A) → i < length xs → x ≡ get_or xs i x
     → slice_get (map view xs) i ≡ Some (view x)
 numbered view [] i x within is = absurd (omega arith)
 numbered view (y ∷ xs) zero x within is = ap (λ z. Some (view z)) (sym is)
 numbered view (y ∷ xs) (suc i) x within is = numbered view xs i x (omega arith) is
 
--- what is made of each thing, at a number
+-- the image of the element at a number
 pub made_of : {A B C : Type 0} (view : A → B) (make : B → C) (xs : List A) (i : ℕ) (x : A) (y : C) → i < length xs
     → x ≡ get_or xs i x
     → ((d : C) → y ≡ get_or (map make (map view xs)) i d) → y ≡ make (view x)

@@ -11,7 +11,7 @@ use Rattle.aadl_tree.specs.proof.NameViews.{identifier_view}
 use Rattle.aadl_tree.specs.proof.PlaceMaps.{kept_place}
 use Rattle.aadl_names.specs.BehaviourAnnexes.{behaviours, first_behaviour}
 
--- an annex of some content, and others behind it
+-- an annex with this content, and the annexes after it
 abbrev first_with : Annex → AnnexContent ℕ → List (plain.Annex ℕ) → Option (AnnexTree ℕ)
 first_with x content rest =
     first_behaviour (behaviours
@@ -26,7 +26,7 @@ here_first items i x content whole within is of left =
     left ∙ (ap (λ l. first_behaviour (behaviours (map (annex_view kept_place) l))) (drop-next items i x within is)
     ∙ ap (λ c. first_with x (content_view kept_place c) (map (annex_view kept_place) (drop (i + 1) items))) of)
 
--- behind the last annex there is none
+-- after the last annex there is none
 pub none_first : (items : List Annex) (i : ℕ) (whole : (Option (AnnexTree ℕ))) → length items ≤ i
     → whole ≡ first_behaviour (behaviours (map (annex_view kept_place) (drop i items))) → None ≡ whole
 none_first items i whole past left =

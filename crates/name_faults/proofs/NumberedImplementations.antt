@@ -1,5 +1,4 @@
--- What stands at the number of an implementation: what is looked up of it, and of the ports that its connections
--- join.
+-- The implementation with a number: look-ups by its number, and the ports that its connections join.
 use Rattle.std.proofs.Common.{◌≡◌, ◌∙◌, ℕ, Option, Some, None, refl, ap, slice_get, map, option_map}
 use Rattle.std.specs.Option.{option_and_then}
 use Rattle.list_lemmas.proofs.Options.{option_and_then_assoc}
@@ -69,7 +68,7 @@ module _ (tree : PackageTree ℕ) (n : ℕ) (x : Implementation ℕ) (stands : S
       ≡ direction_of tree x (Inner s p)
   inner_direction s p = ap (λ t. direction_in (features_of (type_numbered tree t)) p) (type_below_is s)
 
--- what is found by the ports that a connection joins
+-- the findings from the ports that a connection joins
 module _ (tree : PackageTree ℕ) (x : Implementation ℕ) (c : Connection ℕ) (w : ConnectionPorts) (is : w ≡ ports_of_connection tree x c) where
   pub joined : (old new : Option PackageFault) (source target : Option (NumberedPort × Option Direction))
       → source ≡ option_map (with_direction tree x) w.source

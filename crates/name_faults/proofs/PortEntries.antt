@@ -1,4 +1,4 @@
--- For `check_port`: what the ports of a type declare, by their numbers.
+-- For `check_port`: the entries of a type's ports, by their numbers.
 use Rattle.std.proofs.Common.{◌≡◌, ℕ, List, map, Option, ap, ◌∙◌}
 use Rattle.std.specs.Prelude.{slice_get, option_map}
 use Rattle.std.proofs.lemmas.Option.{slice_get-map}

@@ -1,4 +1,4 @@
--- The entries of a list of properties are those of its first property and of the others.
+-- The entries of a list of properties are the entry of its first property and the entries of the others.
 use Rattle.std.proofs.Common.{◌≡◌, ℕ, Bool, true, false, cond, List, [], ◌∷◌, ◌++◌, map, refl}
 use Rattle.aadl_tree.specs.Values.{Association, Associations, no_associations, associate}
 use Rattle.aadl_names.specs.RecognisedProperties.{counts, counted, association_entry, property_entries}

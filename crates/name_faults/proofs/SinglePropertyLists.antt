@@ -1,4 +1,4 @@
--- A list of at most one property has none twice.
+-- A list of at most one property has no duplicates.
 use Rattle.std.proofs.Common.{◌≡◌, ◌&&◌, ℕ, ◌<◌, Bool, true, false, if◌then◌else◌, List, [], ◌∷◌, length, refl, arith}
 use Rattle.std.proofs.Common.{map}
 use Rattle.std.specs.Prelude.{nat_lt}

@@ -1,4 +1,4 @@
--- For `all_port_names` and `port_roles`: the names of the ports of all types, one type after the other.
+-- For `all_port_names` and `port_roles`: the port names of all types, one type after another.
 use Rattle.std.proofs.Common.{◌≡◌, ℕ, ◌+◌, ◌<◌, Bool, true, false, cond, List, [], ◌∷◌, ◌++◌, length, take, get_or, map}
 use Rattle.std.proofs.Common.{Option, Some, None, refl, sym, ap, ◌∙◌, subst, zero, suc}
 use Rattle.aadl_tree.specs.Names.{same_name}
@@ -38,7 +38,7 @@ named-push [] (m ∷ ns) d n all here = absurd all
 named-push (e ∷ ds) [] d n all here = absurd all
 named-push (e ∷ ds) (m ∷ ns) d n all here = (all.0, named-push ds ns d n all.1 here)
 
--- one turn of the loop over declarations
+-- one iteration of the loop over declarations
 pub next_named : {A : Type 0} (view : A → Declaration ℕ) (items : List A) (i : ℕ) (x : A) (old new : List PortNames)
     (n : PortNames) → i < length items
     → x ≡ get_or items i x
@@ -51,7 +51,7 @@ next_named view items i x old new n within is more so_far here =
     subst (λ ds. AreNamed ds new) (sym grown) (subst (AreNamed (map view (take i items) ++ view x ∷ [])) (sym more)
     (named-push (map view (take i items)) old (view x) n so_far here))
 
--- the names at a number, and none behind the last one
+-- the names at a number, and none after the last one
 pub all_named : (ds : List (Declaration ℕ)) (ns : List PortNames) (none : PortNames) → AreNamed ds ns
     → AreNamesOf [] none
     → (k : ℕ) → AreNamesOf (features_of (type_in (slice_get ds k))) (slice_index_or ns k none)

@@ -1,4 +1,4 @@
--- For the checks of shapes: which values of properties are times, small numbers or lists of texts.
+-- For the checks of shapes: the property values that are times, small numbers or lists of texts.
 use Rattle.std.proofs.Common.{◌≡◌, ℕ, Bool, true, false, not, ◌&&◌, Option, Some, None, refl, cond, List, [], ◌∷◌}
 use Rattle.std.proofs.Common.{length, ◌≤◌, arith}
 use Rattle.std.specs.Option.{is_some}
@@ -17,7 +17,7 @@ pub small_by : {X : Type 0} (small : Bool) (x : X) → None ≡ cond small (Some
 small_by true x e = absurd (cc e)
 small_by false x e = refl
 
--- a list of two and more is not one text
+-- a list of two or more values is not a single text
 pub no_only_text : (vs : List (Value ℕ)) → 2 ≤ length vs → false ≡ is_initial_text (only_text (list (values_of vs)))
 no_only_text [] many = absurd (omega arith)
 no_only_text (v ∷ []) many = absurd (omega arith)

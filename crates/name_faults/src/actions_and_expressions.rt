@@ -1,4 +1,4 @@
-//! How a behaviour uses the names that stand for something in it.
+//! The uses of names in the actions and expressions of a behaviour.
 #![tactic(auto, using(aadl_names::proofs::FirstFaultSoFar::found_append))]
 
 ghost use Rattle.std.specs.Prelude.{◌≡◌, OnOk};
@@ -37,7 +37,7 @@ fn check_use(
     }
 }
 
-// Finds the variable of a loop whose name stands for something already.
+// Reports a loop variable whose name already denotes something.
 fn check_again(
     finder: &mut FaultFinder,
     scope: &BehaviourScope<'_>,
@@ -137,7 +137,7 @@ fn check_relation(
     }
 }
 
-/// Finds how an expression uses names wrongly.
+/// Reports wrong uses of names in an expression.
 #[cycle(uses)]
 pub fn check_expression(
     finder: &mut FaultFinder,
@@ -228,7 +228,7 @@ fn check_actions(
     Ok(())
 }
 
-/// Finds how actions use names wrongly.
+/// Reports wrong uses of names in actions.
 #[cycle(actions)]
 pub fn check_block(
     finder: &mut FaultFinder,

@@ -1,4 +1,4 @@
-//! What is wrong with annexes: with the properties of variables in them, and that a behaviour stands where none may.
+//! Checks of annexes: the properties of variables, and behaviours in declarations that may not have one.
 #![tactic(auto, using(aadl_names::proofs::FirstFaultSoFar::found_append))]
 
 ghost use Rattle.std.specs.Prelude.{◌≡◌, OnOk, map, flat_map};
@@ -51,7 +51,7 @@ fn check_annex_variables(finder: &mut FaultFinder, annex: &Annex) -> Result<(), 
     check_variable_list(finder, variables_in(annex))
 }
 
-/// Finds what is wrong with the properties of variables in annexes.
+/// Reports faults in the properties of variables in annexes.
 pub fn check_variables(finder: &mut FaultFinder, annexes: &[Annex]) -> Result<(), AllocError>
     ensures { OnOk result (finder.new ≡ found finder.old
         (flat_map spec.variables_faults (map (annex_view kept_place) annexes.now))) }
@@ -71,7 +71,7 @@ fn check_stray(finder: &mut FaultFinder, annex: &Annex)
     }
 }
 
-/// Finds behaviours where none may stand.
+/// Reports behaviours in declarations that may not have one.
 pub fn check_no_behaviour(finder: &mut FaultFinder, annexes: &[Annex])
     ensures { finder.new ≡ found finder.old (flat_map spec.stray_faults (map (annex_view kept_place) annexes.now)) }
 {

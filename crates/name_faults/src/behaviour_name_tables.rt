@@ -1,4 +1,4 @@
-//! What the variables and the states of a behaviour are called.
+//! Tables of the names of a behaviour's variables and states.
 ghost use Rattle.std.specs.Prelude.{◌≡◌, ℕ, List, OnOk, IfOk};
 ghost use Rattle.aadl_tree.specs.Names.{same_name, identifiers};
 ghost use Rattle.std.specs.Option.{option_or};
@@ -15,7 +15,7 @@ use aadl_names::{NameTable, Role};
 use aadl_tree::{AnnexTree, Identifier, Identifiers};
 use std::alloc::{AllocError, Global};
 
-/// What the names of a behaviour's variables stand for.
+/// Returns the role of each name of a variable. Errors: out of memory.
 pub fn variable_roles(alloc: Global, behaviour: &AnnexTree) -> Result<NameTable<Role>, AllocError>
     ensures { IfOk result (λ table. (name : List ℕ) → value_of table name
         ≡ variable_roles (variables_of (annex_tree_view kept_place behaviour.now)) name) }
@@ -27,7 +27,7 @@ pub fn variable_roles(alloc: Global, behaviour: &AnnexTree) -> Result<NameTable<
     Ok(table)
 }
 
-/// The names of a behaviour's states.
+/// Returns the names of the states. Errors: out of memory.
 pub fn state_names(alloc: Global, behaviour: &AnnexTree) -> Result<NameTable<()>, AllocError>
     ensures { IfOk result (λ table. (name : List ℕ) → is_marked (value_of table name)
         ≡ is_among (states_of (annex_tree_view kept_place behaviour.now)) name) }
@@ -39,7 +39,7 @@ pub fn state_names(alloc: Global, behaviour: &AnnexTree) -> Result<NameTable<()>
     Ok(table)
 }
 
-// Adds names with one value, unless they are there.
+// Adds names with the same value, unless the table has them.
 fn add_words<V: Copy>(
     alloc: Global,
     table: &mut NameTable<V>,

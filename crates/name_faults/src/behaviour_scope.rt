@@ -1,4 +1,4 @@
-//! What names stand for in a behaviour.
+//! The scope of a behaviour: the role of each name.
 ghost use Rattle.std.specs.Prelude.{◌≡◌};
 ghost use Rattle.aadl_tree.specs.Names.{same_name};
 ghost use Rattle.std.specs.List.{list_any};
@@ -9,8 +9,8 @@ use pals_base::{ItemList, Text, TryClone};
 use std::alloc::{AllocError, Global};
 use std::marker::Model;
 
-/// The names of a behaviour: its ports and variables, which of them go before the others, and the
-/// variables of the loops round a place, the outermost first.
+/// The scope of a position in a behaviour: the tables of its ports and variables in the order of precedence,
+/// and the variables of the enclosing loops, the outermost first.
 #[derive(Drop)]
 pub struct BehaviourScope<'t> {
     alloc: Global,
@@ -35,7 +35,7 @@ impl<'t> BehaviourScope<'t> {
     ghost use Rattle.aadl_names.specs.proof.NameTables.{value_of};
     ghost use Rattle.name_faults.specs.proof.BehaviourScopes.{loop_roles, known_by};
 
-    /// The names of a behaviour, outside its loops.
+    /// Creates the scope of a behaviour outside its loops. Errors: out of memory.
     pub fn new(
         alloc: Global,
         first: &'t NameTable<Role>,
@@ -51,7 +51,7 @@ impl<'t> BehaviourScope<'t> {
         }
     }
 
-    /// The names in a loop of the variable.
+    /// Returns the scope inside a loop with this variable. Errors: out of memory.
     pub fn with_loop(&self, variable: &Identifier) -> Result<BehaviourScope<'t>, AllocError>
         ensures { IfOk result (λ scope. known_by scope
             ≡ with_loop (known_by self.now) (identifier_view kept_place variable.now)) }
@@ -66,7 +66,7 @@ impl<'t> BehaviourScope<'t> {
         })
     }
 
-    /// What a name stands for.
+    /// Returns the role of a name.
     pub fn role_of(&self, name: &str) -> Result<Option<Role>, AllocError>
         ensures { IfOk result (λ role. role ≡ known_by self.now name.now) }
     {
@@ -81,7 +81,7 @@ impl<'t> BehaviourScope<'t> {
         Ok(self.loop_role(name))
     }
 
-    // What a name stands for as the variable of a loop.
+    // The role of a name as a loop variable.
     fn loop_role(&self, name: &str) -> Option<Role>
         ensures { result ≡ loop_roles self.now.loops name.now }
     {
@@ -93,7 +93,7 @@ impl<'t> BehaviourScope<'t> {
     }
 }
 
-// Whether a name is one of these.
+// Whether a name is in a list.
 fn is_among(names: &[Text], name: &str) -> bool
     ensures { result ≡ list_any (λ other. same_name name.now other) names.now }
 {

@@ -1,4 +1,4 @@
-//! The parts of a behaviour, where nothing stands for what is left out.
+//! The sections of a behaviour; an absent section is empty.
 ghost use Rattle.std.specs.Prelude.{◌≡◌, map};
 ghost use Rattle.aadl_tree.specs.Names.{listed_in};
 ghost use Rattle.aadl_tree.specs.proof.AnnexViews.{annex_tree_view, variable_view, state_view, transition_view};
@@ -6,7 +6,7 @@ ghost use Rattle.aadl_tree.specs.proof.PlaceMaps.{kept_place};
 
 use aadl_tree::{AnnexTree, StateDeclaration, Transition, VariableDeclaration};
 
-/// The declarations of variables.
+/// Returns the declarations of variables.
 pub fn variables_in(behaviour: &AnnexTree) -> &[VariableDeclaration]
     ensures { map (variable_view kept_place) result.now
         ≡ listed_in (annex_tree_view kept_place behaviour.now).variables }
@@ -17,7 +17,7 @@ pub fn variables_in(behaviour: &AnnexTree) -> &[VariableDeclaration]
     }
 }
 
-/// The declarations of states.
+/// Returns the declarations of states.
 pub fn states_in(behaviour: &AnnexTree) -> &[StateDeclaration]
     ensures { map (state_view kept_place) result.now ≡ listed_in (annex_tree_view kept_place behaviour.now).states }
 {
@@ -27,7 +27,7 @@ pub fn states_in(behaviour: &AnnexTree) -> &[StateDeclaration]
     }
 }
 
-/// The transitions.
+/// Returns the transitions.
 pub fn transitions_in(behaviour: &AnnexTree) -> &[Transition]
     ensures { map (transition_view kept_place) result.now
         ≡ listed_in (annex_tree_view kept_place behaviour.now).transitions }

@@ -1,4 +1,4 @@
-//! What is wrong with the behaviours of an implementation.
+//! Checks of the behaviours of an implementation.
 #![tactic(auto, using(aadl_names::proofs::FirstFaultSoFar::found_append))]
 
 ghost use Rattle.std.specs.Prelude.{◌≡◌, OnOk};
@@ -23,8 +23,7 @@ use aadl_names::{FaultFinder, NameTable, Role};
 use aadl_tree::{Annex, AnnexContent, AnnexTree, Implementation, PackageTree};
 use std::alloc::{AllocError, Global};
 
-/// An implementation in its package, with the number of its type and what the names of that type's ports
-/// stand for.
+/// An implementation with its package, the number of its type, and the roles of the names of the type's ports.
 #[derive(Clone, Copy)]
 pub struct TypedImplementation<'t> {
     pub tree: &'t PackageTree,
@@ -33,7 +32,7 @@ pub struct TypedImplementation<'t> {
     pub implementation: &'t Implementation,
 }
 
-// Whether what its type declares goes before what an implementation declares.
+// Whether the type precedes the implementation in the text, so that its declarations come first.
 fn comes_first(typed: &TypedImplementation<'_>) -> bool
     ensures { result ≡ spec.comes_first (type_numbered (placed typed.now.tree.now) typed.now.of_type)
         (implementation_view kept_place typed.now.implementation.now) }
@@ -44,7 +43,7 @@ fn comes_first(typed: &TypedImplementation<'_>) -> bool
     }
 }
 
-// What the names of a behaviour stand for, where those of ports go first or last.
+// The scope of a behaviour in which ports take precedence over variables, or variables over ports.
 fn scope_of<'t>(
     alloc: Global,
     ports_first: bool,
@@ -60,7 +59,7 @@ fn scope_of<'t>(
     }
 }
 
-// Finds how a behaviour of an implementation uses names wrongly.
+// Reports wrong uses of names in a behaviour of an implementation.
 fn check_behaviour(
     finder: &mut FaultFinder,
     typed: &TypedImplementation<'_>,
@@ -82,7 +81,7 @@ fn check_behaviour(
     check_transitions(finder, &states, &scope, transitions_in(behaviour))
 }
 
-// Finds what is wrong with an annex, where a behaviour is expected or is one too many.
+// Checks an annex, when a behaviour is expected or would be one too many.
 fn check_annex(
     finder: &mut FaultFinder,
     typed: &TypedImplementation<'_>,
@@ -111,7 +110,7 @@ fn check_annex(
     }
 }
 
-// Whether a behaviour is still expected behind an annex.
+// Whether a behaviour is still expected after an annex.
 fn still_expected(expected: bool, annex: &Annex) -> bool
     ensures { result ≡ still_expected expected (annex_view kept_place annex.now) }
 {
@@ -121,8 +120,8 @@ fn still_expected(expected: bool, annex: &Annex) -> bool
     }
 }
 
-/// Finds how the first behaviour of a thread's implementation uses names wrongly, and each behaviour
-/// that is one too many.
+/// Reports wrong uses of names in the first behaviour of a thread's implementation, and every further
+/// behaviour. Errors: out of memory.
 pub fn check_behaviours(
     finder: &mut FaultFinder,
     typed: &TypedImplementation<'_>,

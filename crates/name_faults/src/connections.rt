@@ -1,4 +1,4 @@
-//! What is wrong with the names in connections.
+//! Checks of the names in connections.
 #![tactic(auto, using(aadl_names::proofs::FirstFaultSoFar::found_append))]
 
 ghost use Rattle.std.specs.Prelude.{◌≡◌, ℕ, OnOk, flat_map, option_map};
@@ -19,7 +19,7 @@ use aadl_tree::{Connection, ConnectionEnd, Direction, Implementation};
 use aadl_uses::{PackageConnections, Uses};
 use std::alloc::AllocError;
 
-// Which way a port goes that the implementation of a number knows.
+// The direction of a port in the context of the implementation with a number.
 fn direction_of(uses: &Uses<'_>, number: usize, site: NumberedPort) -> Option<Direction>
     ensures { (x : trees.Implementation ℕ) → StandsAt (placed uses.now.names.tree.now) number x
         → result ≡ resolving.direction_of (placed uses.now.names.tree.now) x site }
@@ -34,7 +34,7 @@ fn direction_of(uses: &Uses<'_>, number: usize, site: NumberedPort) -> Option<Di
     }
 }
 
-// A port that the implementation of a number knows, and which way it goes.
+// A port in the context of the implementation with a number, and its direction.
 fn with_direction(
     uses: &Uses<'_>,
     number: usize,
@@ -47,7 +47,7 @@ fn with_direction(
     Some((site, direction_of(uses, number, site)))
 }
 
-// Whether a port goes in.
+// Whether a port is an in port.
 fn goes_in(direction: Option<Direction>) -> bool
     ensures { result ≡ spec.goes_in direction }
 {
@@ -58,7 +58,7 @@ fn goes_in(direction: Option<Direction>) -> bool
     }
 }
 
-// Whether a connection may come out of a port.
+// Whether a port can be the source of a connection.
 fn may_leave(site: NumberedPort, direction: Option<Direction>) -> bool
     ensures { result ≡ spec.may_leave (site, direction) }
 {
@@ -122,7 +122,7 @@ fn is_own(port: Option<(NumberedPort, Option<Direction>)>) -> bool
     }
 }
 
-// Finds what is wrong with a connection that joins these ports.
+// Reports the faults of a connection that joins these ports.
 fn check_connection(
     finder: &mut FaultFinder,
     source: Option<(NumberedPort, Option<Direction>)>,
@@ -143,7 +143,7 @@ fn check_connection(
     )
 }
 
-/// Finds what is wrong with the connections of the implementation of a number.
+/// Reports the faults of the connections of the implementation with a number. Errors: out of memory.
 pub fn check_connections(
     finder: &mut FaultFinder,
     wires: &PackageConnections<'_>,

@@ -1,4 +1,4 @@
-//! What is wrong with the names in declarations, except what is declared twice.
+//! Checks of the names in declarations, except for duplicates.
 #![tactic(auto, using(aadl_names::proofs::FirstFaultSoFar::found_append))]
 
 ghost use Rattle.std.specs.Prelude.{◌≡◌, not, Some, OnOk, slice_get};
@@ -24,7 +24,7 @@ use aadl_tree::{Declaration, Implementation, PackageTree};
 use aadl_uses::{PackageConnections, Uses};
 use std::alloc::AllocError;
 
-// Whether the number is that of the type of the root.
+// Whether the number is the number of the root's type.
 fn is_root_type(uses: &Uses<'_>, root: usize, number: usize) -> bool
     ensures { result ≡ spec.is_same_number (spec.root_type (placed uses.now.names.tree.now)
         (implementation_at (placed uses.now.names.tree.now) root)) number }
@@ -35,7 +35,7 @@ fn is_root_type(uses: &Uses<'_>, root: usize, number: usize) -> bool
     }
 }
 
-// Finds what is wrong with the names in the implementation of a number.
+// Reports the faults of the names in the implementation with a number.
 fn check_implementation(
     finder: &mut FaultFinder,
     wires: &PackageConnections<'_>,
@@ -61,7 +61,7 @@ fn check_implementation(
     check_behaviours(finder, &typed)
 }
 
-// Finds what is wrong with the names in the declaration of a number.
+// Reports the faults of the names in the declaration with a number.
 fn check_declaration(
     finder: &mut FaultFinder,
     wires: &PackageConnections<'_>,
@@ -85,7 +85,7 @@ fn check_declaration(
     }
 }
 
-// Finds another name at the package's end.
+// Reports a wrong name at the end of the package.
 fn check_end_name(finder: &mut FaultFinder, tree: &PackageTree) -> Result<(), AllocError>
     ensures { OnOk result (finder.new ≡ found finder.old
         (wrong_if (not (same_name (spelled_name (placed tree.now).end_name) (spelled_name (placed tree.now).name)))
@@ -101,7 +101,8 @@ fn check_end_name(finder: &mut FaultFinder, tree: &PackageTree) -> Result<(), Al
     Ok(())
 }
 
-/// Finds what is wrong with the names in all declarations, and another name at the package's end.
+/// Reports the faults of the names in all declarations, and a wrong name at the end of the package. Errors: out
+/// of memory.
 pub fn check_declarations(
     finder: &mut FaultFinder,
     wires: &PackageConnections<'_>,

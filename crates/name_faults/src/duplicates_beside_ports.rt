@@ -1,4 +1,4 @@
-//! What is declared twice among the ports of a type and what an implementation declares beside them.
+//! Duplicates among the ports of a type and the declarations of an implementation in the same namespace.
 #![tactic(auto, using(aadl_names::proofs::FirstFaultSoFar::found_append))]
 
 ghost use Rattle.std.specs.Prelude.{◌≡◌, Some, OnOk, map, slice_get};
@@ -15,7 +15,7 @@ use aadl_names::{FaultFinder, NumberedPlace, SpelledName};
 use aadl_tree::Feature;
 use std::alloc::AllocError;
 
-// Finds that a port is declared again.
+// Reports a port as a duplicate.
 fn check_port(finder: &mut FaultFinder, ports: &[Feature], number: usize) -> Result<(), AllocError>
     ensures { OnOk result (finder.new ≡ found finder.old
         (spec.entry_again (slice_get (port_entries (map (feature_view kept_place) ports.now)) number))) }
@@ -26,7 +26,7 @@ fn check_port(finder: &mut FaultFinder, ports: &[Feature], number: usize) -> Res
     }
 }
 
-// Finds that the earliest port of its name stands behind something.
+// Reports the earliest port with the name if it is after the entry.
 fn check_earliest(
     finder: &mut FaultFinder,
     ports: &[Feature],
@@ -43,7 +43,7 @@ fn check_earliest(
     }
 }
 
-// Finds that something stands behind one of its name.
+// Reports the entry if it is after one with the same name.
 fn check_behind(
     finder: &mut FaultFinder,
     port: Option<NumberedPlace>,
@@ -59,7 +59,8 @@ fn check_behind(
     }
 }
 
-// Finds that something stands behind one of its name, or the earliest port of its name behind it.
+// Reports the entry if it is after one with the same name, or the earliest port with the name if it is after
+// the entry.
 fn check_one(
     finder: &mut FaultFinder,
     ports: &[Feature],
@@ -77,7 +78,7 @@ fn check_one(
     }
 }
 
-/// Finds what is declared twice among ports and what stands beside them.
+/// Reports the duplicates among ports and the other declarations in their namespace. Errors: out of memory.
 #[tactic(auto, unfolding(aadl_names::specs::proof::DuplicatesBesidePorts::beside))]
 pub fn check_port_duplicates(
     finder: &mut FaultFinder,

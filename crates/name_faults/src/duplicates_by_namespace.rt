@@ -1,4 +1,4 @@
-//! What is declared twice in a package, one space of names after the other.
+//! Duplicate declarations in a package, one namespace after another.
 #![tactic(auto, using(aadl_names::proofs::FirstFaultSoFar::found_append))]
 
 ghost use Rattle.std.specs.Prelude.{◌≡◌, Some, OnOk, map, option_map, slice_get};
@@ -24,7 +24,7 @@ use aadl_tree::{Annex, AnnexContent, AnnexTree, Declaration, Implementation, Pac
 use aadl_uses::Uses;
 use std::alloc::AllocError;
 
-// Finds two of one name among the ports and variables of a behaviour, and among its states.
+// Reports duplicates among the ports and variables of a behaviour, and among its states.
 fn check_in_behaviour(
     finder: &mut FaultFinder,
     tree: &PackageTree,
@@ -51,7 +51,7 @@ fn check_in_behaviour(
     check_twice(finder, states.as_slice())
 }
 
-/// The first behaviour among annexes.
+/// Returns the first behaviour among annexes.
 pub fn first_behaviour(annexes: &[Annex]) -> Option<&AnnexTree>
     ensures { option_map (λ b. annex_tree_view kept_place b.now) result
         ≡ first_behaviour (behaviours (map (annex_view kept_place) annexes.now)) }
@@ -65,8 +65,8 @@ pub fn first_behaviour(annexes: &[Annex]) -> Option<&AnnexTree>
     None
 }
 
-// Finds two of one name among the ports and variables of the first behaviour of a thread's
-// implementation, and among its states.
+// Reports duplicates among the ports and variables of the first behaviour of a thread's implementation, and
+// among its states.
 fn check_in_first(
     finder: &mut FaultFinder,
     tree: &PackageTree,
@@ -90,7 +90,7 @@ fn check_in_first(
     }
 }
 
-// Finds two of one name in an implementation.
+// Reports duplicates in an implementation.
 fn check_in_implementation(
     finder: &mut FaultFinder,
     tree: &PackageTree,
@@ -135,7 +135,7 @@ fn check_in(
     }
 }
 
-/// Finds two types or two implementations of one name, and two of one name in an implementation.
+/// Reports duplicates among types, among implementations, and in each implementation. Errors: out of memory.
 #[tactic(auto, unfolding(aadl_names::specs::proof::DuplicatesBesidePorts::beside_names))]
 pub fn check_duplicates(
     finder: &mut FaultFinder,

@@ -1,4 +1,4 @@
-//! The first name that is wrong in a package.
+//! The first fault in the names of a package.
 ghost use Rattle.std.specs.Prelude.{IfOk};
 ghost use Rattle.aadl_tree.specs.proof.PackageViews.{placed};
 ghost use Rattle.aadl_names.specs.FirstFaults.{FirstOf};
@@ -10,8 +10,8 @@ use aadl_names::{FaultFinder, PackageFault};
 use aadl_uses::PackageConnections;
 use std::alloc::{AllocError, Global};
 
-/// The first of all that is wrong with the names of a package, where the root's implementation has a
-/// number; none where nothing is.
+/// Returns the first fault in the names of a package, or `None` if there is none. The root's implementation has
+/// the given number. Errors: out of memory.
 pub fn first_name_fault(
     alloc: Global,
     wires: &PackageConnections<'_>,

@@ -1,4 +1,4 @@
-//! What is wrong with the names in implementations, except what their behaviours do with names.
+//! Checks of the names in implementations, except for the names in their behaviours.
 #![tactic(auto, using(aadl_names::proofs::FirstFaultSoFar::found_append))]
 
 ghost use Rattle.std.specs.Prelude.{◌≡◌, OnOk};
@@ -21,7 +21,7 @@ use aadl_tree::{Category, Implementation, PackageTree};
 use aadl_uses::PackageConnections;
 use std::alloc::AllocError;
 
-// Whether the type of a number is there, and of the category.
+// Whether the type with a number exists and has the category.
 fn has_type(tree: &PackageTree, of_type: Option<usize>, category: Category) -> bool
     ensures { result ≡ spec.has_type category (type_numbered (placed tree.now) of_type) }
 {
@@ -31,7 +31,7 @@ fn has_type(tree: &PackageTree, of_type: Option<usize>, category: Category) -> b
     }
 }
 
-// Finds another name at the end, and that the type is not there or of another category.
+// Reports a wrong name at the end, and a type that is undeclared or has another category.
 fn check_heading(
     finder: &mut FaultFinder,
     tree: &PackageTree,
@@ -53,8 +53,8 @@ fn check_heading(
     Ok(())
 }
 
-/// Finds what is wrong with the names in the implementation of a number, except what its behaviour
-/// does with names.
+/// Reports the faults of the names in the implementation with a number, except for the names in its behaviour.
+/// Errors: out of memory.
 pub fn check_outside_behaviours(
     finder: &mut FaultFinder,
     wires: &PackageConnections<'_>,

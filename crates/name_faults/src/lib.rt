@@ -1,5 +1,9 @@
-//! What is wrong with the names of a package: properties and the shapes of their values, how behaviours use names,
-//! what is declared twice, and the first of all findings.
+//! The checks of the names in a package: the shapes of property values, the use of names in behaviours,
+//! duplicate declarations, references, and the order of all findings.
+//!
+//! The main result is [`first_name_fault`], which returns the first fault of the names in the order of the text,
+//! or `None` if there is none. The crate does not check recursion, connection chains, or the types of ports,
+//! variables and expressions.
 #![tactic(auto)]
 
 pub mod actions_and_expressions;

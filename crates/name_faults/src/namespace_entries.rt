@@ -1,4 +1,4 @@
-//! What is declared in each space of names.
+//! The entries of each namespace.
 ghost use Rattle.std.specs.Prelude.{◌≡◌, ◌++◌, [], ◌∷◌, OnOk, IfOk, map};
 ghost use Rattle.aadl_tree.specs.Names.{identifiers};
 ghost use Rattle.std.specs.List.{filter_map};
@@ -22,7 +22,7 @@ use aadl_tree::{
 use pals_base::ItemList;
 use std::alloc::{AllocError, Global};
 
-/// Ports.
+/// The names of ports.
 pub fn port_entries(alloc: Global, ports: &[Feature]) -> Result<ItemList<SpelledName>, AllocError>
     ensures { IfOk result (λ entries. entries ≡ spec.port_entries (map (feature_view kept_place) ports.now)) }
 {
@@ -33,7 +33,7 @@ pub fn port_entries(alloc: Global, ports: &[Feature]) -> Result<ItemList<Spelled
     Ok(entries)
 }
 
-/// Subcomponents and connections.
+/// The names of subcomponents and connections.
 pub fn member_entries(
     alloc: Global,
     x: &Implementation,
@@ -74,7 +74,7 @@ fn add_connections(
     Ok(())
 }
 
-/// Variables of a behaviour.
+/// The names of a behaviour's variables.
 pub fn variable_entries(
     alloc: Global,
     behaviour: &AnnexTree,
@@ -88,7 +88,7 @@ pub fn variable_entries(
     Ok(entries)
 }
 
-/// States of a behaviour.
+/// The names of a behaviour's states.
 pub fn state_entries(
     alloc: Global,
     behaviour: &AnnexTree,
@@ -102,7 +102,7 @@ pub fn state_entries(
     Ok(entries)
 }
 
-/// Types.
+/// The names of types.
 pub fn type_entries(alloc: Global, tree: &PackageTree) -> Result<ItemList<SpelledName>, AllocError>
     ensures { IfOk result (λ entries. entries ≡ filter_map spec.type_entry (placed tree.now).declarations) }
 {
@@ -113,7 +113,7 @@ pub fn type_entries(alloc: Global, tree: &PackageTree) -> Result<ItemList<Spelle
     Ok(entries)
 }
 
-/// Implementations.
+/// The names of implementations.
 pub fn implementation_entries(
     alloc: Global,
     tree: &PackageTree,

@@ -1,4 +1,4 @@
-//! What the ports of each type are called: the tables of their names, and what is read from them.
+//! Tables of the port names of each type, and their look-up.
 ghost use Rattle.std.specs.Prelude.{◌≡◌, ℕ, List, OnOk, IfOk, map, if◌then◌else◌, None, Some};
 ghost use Rattle.aadl_tree.specs.Names.{same_name};
 ghost use Rattle.std.specs.Option.{option_or};
@@ -22,13 +22,13 @@ use aadl_tree::{Declaration, Direction, Feature, PackageTree};
 use pals_base::ItemList;
 use std::alloc::{AllocError, Global};
 
-/// What the ports of one type are called: what is asked of them for each of its implementations.
+/// The port names of one type, in the forms that the checks of its implementations look up.
 pub struct PortNames {
-    /// What each name stands for.
+    /// The role of each name.
     pub roles: NameTable<Role>,
-    /// The earliest port of each name.
+    /// The earliest port with each name.
     pub earliest: NameTable<NumberedPlace>,
-    /// The first port that has the name of an earlier one.
+    /// The first port with the same name as an earlier one.
     pub again: Option<PackageFault>,
 }
 
@@ -42,11 +42,11 @@ impl Drop for PortNames {
     }
 }
 
-/// What the ports of all types are called.
+/// The port names of all types.
 pub struct AllPortNames {
-    /// The names of the ports of each declaration, by its number.
+    /// The port names of each declaration, by its number.
     pub of_declarations: ItemList<PortNames>,
-    /// The names of no ports.
+    /// The table without ports.
     pub none: PortNames,
 }
 
@@ -59,7 +59,7 @@ impl Drop for AllPortNames {
     }
 }
 
-// What a port of the direction stands for.
+// The role of a port of the direction.
 fn role_in(direction: Direction) -> Role
     ensures { result ≡ role_in direction }
 {
@@ -69,7 +69,7 @@ fn role_in(direction: Direction) -> Role
     }
 }
 
-// Adds a port to what names stand for, unless its name is there.
+// Adds a port to the roles, unless its name is there.
 fn add_role(alloc: Global, roles: &mut NameTable<Role>, port: &Feature) -> Result<(), AllocError>
     ensures { OnOk result ((name : List ℕ) → value_of roles.new name
         ≡ option_or (value_of roles.old name)
@@ -79,7 +79,7 @@ fn add_role(alloc: Global, roles: &mut NameTable<Role>, port: &Feature) -> Resul
     roles.add(alloc, port.name.spelling.as_str(), role_in(port.direction))
 }
 
-// What the names of ports stand for.
+// The roles of the names of ports.
 fn port_roles(alloc: Global, ports: &[Feature]) -> Result<NameTable<Role>, AllocError>
     ensures { IfOk result (λ table. HasRolesOf (map (feature_view kept_place) ports.now) table) }
 {
@@ -90,7 +90,7 @@ fn port_roles(alloc: Global, ports: &[Feature]) -> Result<NameTable<Role>, Alloc
     Ok(roles)
 }
 
-// The first declaration that has the name of an earlier one.
+// The first declaration with the same name as an earlier one.
 fn first_again(alloc: Global, entries: &[SpelledName]) -> Result<Option<PackageFault>, AllocError>
     ensures { IfOk result (λ first. first ≡ found None (twice entries.now)) }
 {
@@ -99,7 +99,7 @@ fn first_again(alloc: Global, entries: &[SpelledName]) -> Result<Option<PackageF
     Ok(finder.finish())
 }
 
-// What ports are called.
+// The tables of the names of ports.
 fn port_names(alloc: Global, ports: &[Feature]) -> Result<PortNames, AllocError>
     ensures { IfOk result (AreNamesOf (map (feature_view kept_place) ports.now)) }
 {
@@ -122,7 +122,7 @@ fn ports_in(declaration: &Declaration) -> &[Feature]
     }
 }
 
-/// What the ports of all types are called.
+/// The port names of all types.
 pub fn all_port_names(alloc: Global, tree: &PackageTree) -> Result<AllPortNames, AllocError>
     ensures { IfOk result (AreAllNamesOf (placed tree.now)) }
 {
@@ -136,7 +136,7 @@ pub fn all_port_names(alloc: Global, tree: &PackageTree) -> Result<AllPortNames,
     })
 }
 
-/// What the ports of the type of a number are called.
+/// Returns the port names of the type with a number.
 pub fn names_at(all: &AllPortNames, of_type: Option<usize>) -> &PortNames
     ensures { result.now ≡ names_at all.now of_type }
 {
@@ -149,7 +149,7 @@ pub fn names_at(all: &AllPortNames, of_type: Option<usize>) -> &PortNames
     }
 }
 
-/// The ports of the type of a number.
+/// Returns the ports of the type with a number.
 pub fn ports_at(tree: &PackageTree, of_type: Option<usize>) -> &[Feature]
     ensures { map (feature_view kept_place) result.now ≡ features_of (type_numbered (placed tree.now) of_type) }
 {

@@ -1,4 +1,4 @@
-//! What is wrong with a list of properties: values of another shape, and properties that are given twice.
+//! Checks of a list of properties: values of a wrong shape, and properties that are given twice.
 #![tactic(auto, using(aadl_names::proofs::FirstFaultSoFar::found_append))]
 
 ghost use Rattle.std.specs.Prelude.{◌≡◌, ◌&&◌, ◌++◌, not, OnOk, IfOk, flat_map};
@@ -23,7 +23,7 @@ use aadl_tree::{Association, Name, Spelling, Value};
 use pals_base::ItemList;
 use std::alloc::{AllocError, Global};
 
-// Whether a property of the name is recognised here, and the value has another shape.
+// Whether a property of the name is recognised here, and its value has the wrong shape.
 fn is_misshapen(holder: PropertyHolder, name: &Name, value: &Value) -> bool
     ensures { result ≡ list_any (λ p. same_name (spelling.spelled_name (name_view kept_place name.now)) (spec.name_of p)
         && not (spec.has_shape p (value_view kept_place value.now))) (spec.recognised holder) }
@@ -32,7 +32,7 @@ fn is_misshapen(holder: PropertyHolder, name: &Name, value: &Value) -> bool
         && !has_shape(*property, value))
 }
 
-// Finds the value of another shape of one property. What applies elsewhere does not count.
+// Reports the value of one property if its shape is wrong. Ignores a property that applies elsewhere.
 fn check_property(finder: &mut FaultFinder, holder: PropertyHolder, association: &Association)
     ensures { finder.new ≡ found finder.old (spec.shape_fault holder (association_view kept_place association.now)) }
 {
@@ -44,7 +44,7 @@ fn check_property(finder: &mut FaultFinder, holder: PropertyHolder, association:
     }
 }
 
-// Finds the values of other shapes in one list of properties.
+// Reports the values of wrong shapes in one list of properties.
 fn check_shapes(finder: &mut FaultFinder, holder: PropertyHolder, list: &[Association])
     ensures { finder.new ≡ found finder.old (flat_map (spec.shape_fault holder)
         (spec.listed (associations_view kept_place list.now))) }
@@ -54,7 +54,7 @@ fn check_shapes(finder: &mut FaultFinder, holder: PropertyHolder, list: &[Associ
     }
 }
 
-// What a property declares.
+// The entry of a property: its name and position.
 fn association_entry(alloc: Global, association: &Association) -> Result<SpelledName, AllocError>
     ensures { IfOk result (λ entry. entry ≡ spec.association_entry (association_view kept_place association.now)) }
 {
@@ -80,7 +80,7 @@ fn add_property(
     Ok(())
 }
 
-// The properties of a list, except those that apply elsewhere.
+// The entries of a list of properties, without the ones that apply elsewhere.
 fn property_entries(
     alloc: Global,
     list: &[Association],
@@ -94,7 +94,7 @@ fn property_entries(
     Ok(entries)
 }
 
-// Finds the properties that are given twice in one list.
+// Reports the properties that are given twice in one list.
 #[tactic(auto, using(crate::proofs::SinglePropertyLists::none_twice))]
 fn check_repeated(finder: &mut FaultFinder, list: &[Association]) -> Result<(), AllocError>
     ensures { OnOk result (finder.new ≡ found finder.old
@@ -107,8 +107,8 @@ fn check_repeated(finder: &mut FaultFinder, list: &[Association]) -> Result<(), 
     check_twice(finder, entries.as_slice())
 }
 
-/// Finds the values of other shapes, and properties that are given twice, in one list of properties.
-/// What applies elsewhere does not count.
+/// Reports the values of wrong shapes, and the properties that are given twice, in one list of properties.
+/// Ignores properties that apply elsewhere. Errors: out of memory.
 pub fn check_properties(
     finder: &mut FaultFinder,
     holder: PropertyHolder,

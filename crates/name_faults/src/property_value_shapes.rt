@@ -1,4 +1,4 @@
-//! The shapes of the values of properties.
+//! The shapes of property values.
 
 ghost use Rattle.std.specs.Prelude.{◌≡◌};
 ghost use Rattle.std.specs.Option.{is_some};
@@ -13,7 +13,7 @@ use aadl_names::PropertyName;
 use aadl_names::time_units::unit_of;
 use aadl_tree::{Identifier, Quantity, Sign, UnsignedNumber, Value};
 
-// Whether it is a unit of time.
+// Whether this is a unit of time.
 fn is_unit(unit: &Option<Box<Identifier>>) -> bool
     ensures { result ≡ is_some (property_value_shapes.unit_in (unit_view kept_place unit.now)) }
 {
@@ -23,7 +23,7 @@ fn is_unit(unit: &Option<Box<Identifier>>) -> bool
     }
 }
 
-// Whether it is a whole number.
+// Whether this is a whole number.
 fn is_whole(figure: &UnsignedNumber) -> bool
     ensures { result ≡ is_some (property_value_shapes.whole_of (figure_view figure.now)) }
 {
@@ -33,7 +33,7 @@ fn is_whole(figure: &UnsignedNumber) -> bool
     }
 }
 
-/// Whether it is a time: a whole number without a sign, and a unit.
+/// Returns whether a quantity is a time: a whole number without a sign, and a unit of time.
 #[tactic(auto, using(crate::proofs::ValueShapes::has_time), unfolding(aadl_names::specs::PropertyValueShapes::time_in))]
 pub fn is_time(x: &Quantity) -> bool
     ensures { result ≡ is_some (property_value_shapes.time_in (quantity_view kept_place x.now)) }
@@ -60,7 +60,7 @@ fn unquoted(bytes: &[u8]) -> &[u8]
     }
 }
 
-// The text of an initial value: `true`, `false`, or a number with a sign or without.
+// Whether the text is an initial value: `true`, `false`, or a number with an optional sign.
 fn is_initial(bytes: &[u8]) -> bool
     ensures { result ≡ property_value_shapes.is_initial bytes.now }
 {
@@ -73,7 +73,7 @@ fn is_initial(bytes: &[u8]) -> bool
     }
 }
 
-// A text that is an initial value.
+// Whether the value is a text that is an initial value.
 fn is_initial_text(value: &Value) -> bool
     ensures { result ≡ property_value_shapes.is_initial_text
         (property_value_shapes.text_of (value_view kept_place value.now)) }
@@ -84,7 +84,7 @@ fn is_initial_text(value: &Value) -> bool
     }
 }
 
-// One text that is an initial value.
+// Whether the list has exactly one text, and this is an initial value.
 fn is_initial_only(values: &[Value]) -> bool
     ensures { result ≡ property_value_shapes.is_initial_text
         (property_value_shapes.only_text (list (values_view kept_place values.now))) }
@@ -95,7 +95,7 @@ fn is_initial_only(values: &[Value]) -> bool
     }
 }
 
-// A list of one text that is an initial value.
+// Whether the value is a list of exactly one text, and this is an initial value.
 fn is_initial_list(value: &Value) -> bool
     ensures { result ≡ spec.has_shape PropertyName.Initial (value_view kept_place value.now) }
 {
@@ -144,7 +144,7 @@ fn is_reference(value: &Value) -> bool
     }
 }
 
-/// Whether a value has the shape that a property takes.
+/// Returns whether a value has the shape that a property requires.
 pub fn has_shape(property: PropertyName, value: &Value) -> bool
     ensures { result ≡ spec.has_shape property (value_view kept_place value.now) }
 {

@@ -1,4 +1,4 @@
-//! Whole numbers as texts spell them.
+//! The spelling of whole numbers.
 ghost use Rattle.std.specs.Prelude.{◌≡◌, ◌≤◌, length, nat_le, slice_index};
 ghost use Rattle.std.specs.Char.{is_ascii_digit};
 ghost use Rattle.aadl_lex.specs.Rules as spec;
@@ -7,7 +7,7 @@ ghost use Rattle.aadl_names.specs.PropertyValueShapes.{is_number};
 
 const MOST: u64 = 9_223_372_036_854_775_807;
 
-/// Whether a digit begins the text.
+/// Returns whether the text begins with a digit.
 fn begins_digit(text: &[u8]) -> bool
     ensures { result ≡ is_ascii_digit (slice_index text.now 0) }
 {
@@ -17,7 +17,7 @@ fn begins_digit(text: &[u8]) -> bool
     }
 }
 
-/// How many bytes a whole number at the front has.
+/// Returns the length in bytes of the whole number at the front of the text.
 #[tactic(auto, using(aadl_lex::proofs::ByteScanLoops::whole_step))]
 fn whole_len(text: &[u8]) -> usize
     ensures value { result ≡ spec.whole_len text.now }
@@ -31,7 +31,7 @@ fn whole_len(text: &[u8]) -> usize
     text.len()
 }
 
-/// Whether the digits say a whole number of the language.
+/// Returns whether the digits are within the range of whole numbers of the language.
 #[tactic(auto, using(aadl_lex::proofs::ByteScanLoops::decimal_step))]
 fn is_small(text: &[u8]) -> bool
     ensures { result ≡ nat_le (decimal text.now) most }
@@ -49,7 +49,8 @@ fn is_small(text: &[u8]) -> bool
     true
 }
 
-/// Whether the text is a whole number of the language: digits, with a `_` only between two of them.
+/// Returns whether the text is a whole number of the language: digits, with a `_` only between two of them,
+/// within the range.
 pub fn is_number(text: &[u8]) -> bool
     ensures { result ≡ is_number text.now }
 {

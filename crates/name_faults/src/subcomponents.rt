@@ -1,4 +1,4 @@
-//! What is wrong with the names in subcomponents.
+//! Checks of the names in subcomponents.
 #![tactic(auto, using(aadl_names::proofs::FirstFaultSoFar::found_append))]
 
 ghost use Rattle.std.specs.Prelude.{◌≡◌, OnOk, flat_map, option_map, option_copied};
@@ -20,7 +20,7 @@ use aadl_tree::{Category, Implementation, PackageTree, Reference, Subcomponent};
 use aadl_uses::Uses;
 use std::alloc::AllocError;
 
-/// Where the first word of a reference stands.
+/// Returns the byte offset of the first word of a reference.
 pub fn reference_at(reference: &Reference) -> usize
     ensures { result ≡ spec.reference_at (reference_view kept_place reference.now) }
 {
@@ -30,14 +30,14 @@ pub fn reference_at(reference: &Reference) -> usize
     }
 }
 
-/// Whether two categories are one.
+/// Returns whether two categories are equal.
 pub fn same_category(a: Category, b: Category) -> bool
     ensures { result ≡ spec.same_category a b }
 {
     a == b
 }
 
-// Whether a component may contain one of the other category.
+// Whether a component of one category may contain a component of the other.
 fn may_contain(outer: Category, inner: Category) -> bool
     ensures { result ≡ spec.may_contain outer inner }
 {
@@ -48,7 +48,7 @@ fn may_contain(outer: Category, inner: Category) -> bool
     }
 }
 
-// The implementation of a number, if there is one.
+// The implementation with a number, if there is one.
 fn implementation_of(tree: &PackageTree, number: Option<usize>) -> Option<&Implementation>
     ensures { option_map (implementation_view kept_place) (option_copied result)
         ≡ option_and_then (implementation_at (placed tree.now)) number }
@@ -64,7 +64,7 @@ fn unknown_target(finder: &mut FaultFinder, reference: &Reference) -> Result<(),
     finder.unknown(name.as_str(), reference_at(reference))
 }
 
-// Finds that the implementation of a subcomponent is not declared, or of another category.
+// Reports a subcomponent whose implementation is undeclared or has another category.
 fn check_declared(
     finder: &mut FaultFinder,
     implementation: Option<&Implementation>,
@@ -83,8 +83,8 @@ fn check_declared(
     }
 }
 
-// Finds that a subcomponent names no implementation, none that is declared, or one of another
-// category.
+// Reports a subcomponent that does not name an implementation, or whose implementation is undeclared or has
+// another category.
 fn check_target(
     finder: &mut FaultFinder,
     tree: &PackageTree,
@@ -105,7 +105,7 @@ fn check_target(
     }
 }
 
-// Finds what is wrong with a subcomponent of a component of the category.
+// Reports the faults of a subcomponent of a component of the category.
 fn check_subcomponent(
     finder: &mut FaultFinder,
     tree: &PackageTree,
@@ -126,7 +126,7 @@ fn check_subcomponent(
     )
 }
 
-/// Finds what is wrong with the subcomponents of the implementation of a number.
+/// Reports the faults of the subcomponents of the implementation with a number. Errors: out of memory.
 pub fn check_subcomponents(
     finder: &mut FaultFinder,
     uses: &Uses<'_>,

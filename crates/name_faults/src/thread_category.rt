@@ -1,10 +1,10 @@
-//! Whether a category is that of threads.
+//! The test for the category of threads.
 ghost use Rattle.std.specs.Prelude.{◌≡◌};
 ghost use Rattle.aadl_names.specs.NameResolution.{is_thread};
 
 use aadl_tree::Category;
 
-/// Whether it is a thread.
+/// Returns whether the category is `thread`.
 pub fn is_thread(category: Category) -> bool
     ensures { result ≡ is_thread category }
 {

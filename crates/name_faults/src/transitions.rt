@@ -1,4 +1,4 @@
-//! How transitions use names.
+//! The uses of names in transitions.
 #![tactic(auto, using(aadl_names::proofs::FirstFaultSoFar::found_append))]
 
 ghost use Rattle.std.specs.Prelude.{◌≡◌, OnOk, map, flat_map, option_map};
@@ -16,7 +16,7 @@ use aadl_names::{FaultFinder, NameTable};
 use aadl_tree::{Block, Guard, Identifier, Transition};
 use std::alloc::AllocError;
 
-// Finds that a name is no state's.
+// Reports a name that is not the name of a state.
 fn check_state(
     finder: &mut FaultFinder,
     states: &NameTable<()>,
@@ -32,7 +32,7 @@ fn check_state(
     }
 }
 
-// Finds how a guard uses names wrongly.
+// Reports wrong uses of names in a guard.
 fn check_guard(
     finder: &mut FaultFinder,
     scope: &BehaviourScope<'_>,
@@ -49,7 +49,7 @@ fn check_guard(
     }
 }
 
-// Finds how what a transition does uses names wrongly.
+// Reports wrong uses of names in the actions of a transition.
 fn check_effect(
     finder: &mut FaultFinder,
     scope: &BehaviourScope<'_>,
@@ -64,7 +64,7 @@ fn check_effect(
     }
 }
 
-// Finds how a transition uses names wrongly.
+// Reports wrong uses of names in a transition.
 fn check_transition(
     finder: &mut FaultFinder,
     states: &NameTable<()>,
@@ -80,7 +80,7 @@ fn check_transition(
     check_effect(finder, scope, &x.effect)
 }
 
-/// Finds how transitions use names wrongly.
+/// Reports wrong uses of names in transitions. Errors: out of memory.
 pub fn check_transitions(
     finder: &mut FaultFinder,
     states: &NameTable<()>,

@@ -1,4 +1,4 @@
-//! What is wrong with the names in types, and with the properties of their ports.
+//! Checks of the names in types, and of the properties of their ports.
 #![tactic(auto, using(aadl_names::proofs::FirstFaultSoFar::found_append))]
 
 ghost use Rattle.std.specs.Prelude.{◌≡◌, OnOk, map, flat_map};
@@ -14,14 +14,14 @@ use aadl_names::{FaultFinder, PropertyHolder};
 use aadl_tree::{Feature, TypeDeclaration};
 use std::alloc::AllocError;
 
-// Finds what is wrong with the properties of a port.
+// Reports faults in the properties of a port.
 fn check_port(finder: &mut FaultFinder, port: &Feature) -> Result<(), AllocError>
     ensures { OnOk result (finder.new ≡ found finder.old (spec.port_faults (feature_view kept_place port.now))) }
 {
     check_properties(finder, PropertyHolder::Port, port.properties.as_slice())
 }
 
-/// Finds what is wrong with the properties of ports.
+/// Reports faults in the properties of ports. Errors: out of memory.
 pub fn check_ports(finder: &mut FaultFinder, ports: &[Feature]) -> Result<(), AllocError>
     ensures { OnOk result (finder.new ≡ found finder.old
         (flat_map spec.port_faults (map (feature_view kept_place) ports.now))) }
@@ -32,7 +32,7 @@ pub fn check_ports(finder: &mut FaultFinder, ports: &[Feature]) -> Result<(), Al
     Ok(())
 }
 
-/// Finds what is wrong with the names in a type.
+/// Reports the faults of the names in a type. Errors: out of memory.
 pub fn check_type(
     finder: &mut FaultFinder,
     of_root: bool,

@@ -1,4 +1,4 @@
--- The law that picks follow targets: the picks of a clock list never fall, and each is no less than its target.
+-- The law of selected readings: those of a scripted clock never decrease, and each is at least its target.
 use Rattle.std.proofs.Common.{◌≡◌, ℕ, zero, suc, ◌<◌, ◌≤◌, true, false, cond, List, [], ◌∷◌, length, get_or, take, refl}
 use Rattle.std.proofs.Common.{ap, arith, ltb}
 use Rattle.std.specs.List.Sorted.{IsNonDecreasing}
@@ -16,7 +16,7 @@ take-picks readings [] (suc n) = refl
 take-picks readings (t ∷ ts) (suc n) = take-picked (remaining_from readings t) _ _ n (take-picks (remaining_from readings t) ts n)
 
 -- ---- in order
--- from one number on, none is below the one before it
+-- from an index on, no reading is below the one before it
 abbrev Rises : ℕ → List ℕ → Type 0
 Rises from [] = Unit {0}
 Rises from (x ∷ xs) = (from ≤ x) × Rises x xs

@@ -1,4 +1,4 @@
--- Columns of tuples, and tuples that are cut short.
+-- Columns of tuples, and cut tuples.
 use Rattle.std.proofs.Common.{◌≡◌, ◌∙◌, inl, inr, ℕ, zero, suc, ◌-◌, ◌<◌, ◌≤◌, nat_lt, Bool, if◌then◌else◌, List, []}
 use Rattle.std.proofs.Common.{◌∷◌, ◌++◌, length, map, take, replicate, slice_index_or, Some, refl, sym, ap, arith}
 use Rattle.std.specs.Prelude.{slice_get}
@@ -58,7 +58,7 @@ cut-at count at tuple d within =
           ∙ sym (ap (λ (b : Bool). if b then slice_index_or tuple at d else Absent) (le-ltb at count past))
     ]
 
--- nothing is cut where all places count
+-- cutting has no effect if all places count
 pub cut_whole : (count : ℕ) (tuple : List PortValue) → length tuple ≤ count → cut count tuple ≡ tuple
 cut_whole count tuple within =
     let none : length tuple - count ≡ 0 = omega arith in

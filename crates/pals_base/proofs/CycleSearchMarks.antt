@@ -1,5 +1,5 @@
--- For the search for cycles: which states settle within n rounds of marks, and that one more round of marks gives
--- those that settle within one more.
+-- For the search for cycles: the states that settle within n iterations; one more iteration adds the states that
+-- settle within n + 1.
 use Rattle.std.proofs.Common.{◌≡◌, ℕ, ◌+◌, ◌<◌, ◌≤◌, zero, suc, Bool, true, ◌&&◌, ◌||◌, List, [], ◌∷◌, length, map}
 use Rattle.std.proofs.Common.{refl, ap, ap₂, sym, ◌∙◌, arith, zero-add, add-one}
 use Rattle.std.specs.List.{list_all}
@@ -31,11 +31,11 @@ passed_upwards p from (suc n) (suc at) all within =
     ap p (omega arith) ∙ passed_upwards p (suc from) n at (and_parts (p from) (list_all p (upwards (suc from) n)) all).1
     (omega arith)
 
--- what holds of all states, of one by its number
+-- a property of all states holds for one, by its index
 pub rule_at : (p : ℕ → Bool) (n s : ℕ) → list_all p (upwards 0 n) ≡ true → s < n → p s ≡ true
 rule_at p n s all within = ap p (sym (zero-add s)) ∙ passed_upwards p 0 n s all within
 
--- the marks of all states that are there give that of any number, where numbers past the end have one
+-- the marks of all declared states determine the marks of all indices, since undeclared states are marked
 marked_upwards : (f : ℕ → Bool) (from n s : ℕ) → ((k : ℕ) → n ≤ k → f (from + k) ≡ true)
     → marked (map f (upwards from n)) s ≡ f (from + s)
 marked_upwards f from zero s past = sym (past s (omega arith))
@@ -54,7 +54,7 @@ marked_settles n b s =
     marked_upwards (settles n b) 0 (length b.states) s
     (λ k le. ap (λ j. settles n b j) (zero-add k) ∙ settles_past n b k le) ∙ ap (λ j. settles n b j) (zero-add s)
 
--- one more round
+-- one more iteration
 pub settles_more : (n : ℕ) (b : BehaviourParts) (marks : List Bool)
     → marks ≡ map (settles n b) (upwards 0 (length b.states))
     → map (settles_next b marks) (upwards 0 (length b.states)) ≡ map (settles (n + 1) b) (upwards 0 (length b.states))

@@ -1,4 +1,4 @@
--- Actions leave as many variables and out ports as they find.
+-- Actions preserve the numbers of variables and out ports.
 use Rattle.std.proofs.Common.{◌≡◌, ◌∙◌, ℕ, ◌+◌, ℤ, Bool, true, false, if◌then◌else◌, List, [], ◌∷◌, ◌++◌, length, sym}
 use Rattle.std.proofs.Common.{ap, subst, arith, Ok, Err}
 use Rattle.std.specs.Prelude.{Result, IfOk}

@@ -1,4 +1,4 @@
--- For `are_distinct`: lists in which each element is related to all behind it, as names in rising order are.
+-- For `are_distinct`: lists in which each element is related to all later ones, as names in ascending order are.
 use Rattle.std.proofs.Common.{◌≡◌, ℕ, zero, suc, ◌+◌, ◌-◌, ◌<◌, inl, inr, Bool, true, false, IsTrue, ◌↔◌, nat_lt, List}
 use Rattle.std.proofs.Common.{[], ◌∷◌, length, get_or, take, drop, All, AllPairs, refl, sym, ap, ◌∙◌, subst, arith}
 use Rattle.std.proofs.Common.{get_or-take, get_or-drop, length-drop, length-take-le, add-one}
@@ -7,7 +7,7 @@ use Rattle.std.proofs.lemmas.List.{get_or_read}
 use Rattle.std.proofs.lemmas.Bool.{false≢true, cases_lt}
 use Rattle.std.proofs.lemmas.Bool.Decides.{Decides-ltb}
 
--- the elements behind a place
+-- the elements after an index
 abbrev pub behind : {X : Type 0} → List X → ℕ → List X
 behind xs i = take (length xs - (i + 1)) (drop (i + 1) xs)
 
@@ -19,7 +19,7 @@ get_or-behind : {X : Type 0} (xs : List X) (i k : ℕ) (d : X) → k < length xs
 get_or-behind xs i k d within =
     get_or-take (length xs - (i + 1)) (drop (i + 1) xs) k d within ∙ get_or-drop (i + 1) xs k d
 
--- what holds of all pairs holds of an element and those behind it
+-- a property of all pairs holds for an element and the later ones
 pub All-behind : {X : Type 0} (R : X → X → Type 0) (xs : List X) (i : ℕ) (x : X) → i < length xs → x ≡ get_or xs i x
     → AllPairs R xs → All (R x) (behind xs i)
 All-behind R xs i x within read all k d below =
@@ -28,7 +28,7 @@ All-behind R xs i x within read all k d below =
     (subst (λ y. R y (get_or xs ((i + 1) + k) d)) (sym (get_or_read xs i x within read d))
     (all i ((i + 1) + k) d (omega arith) (omega arith)))
 
--- one more element is related to those behind it
+-- one more element is related to the later ones
 pub pairs_more : {X : Type 0} (R : X → X → Type 0) (xs : List X) (i : ℕ) (x : X) → i < length xs → x ≡ get_or xs i x
     → All (R x) (behind xs i) → ((k j : ℕ) (d : X) → k < i → k < j → j < length xs → R (get_or xs k d) (get_or xs j d))
     → (k j : ℕ) (d : X) → k < i + 1 → k < j → j < length xs → R (get_or xs k d) (get_or xs j d)
@@ -45,7 +45,7 @@ pairs_more R xs i x within read here before k j d below later inside =
         subst (R x) (get_or-behind xs i (j - (i + 1)) d place ∙ ap (λ n. get_or xs n d) e) fact in
         subst (λ y. R y (get_or xs j d)) (get_or_read xs i x within read d ∙ ap (λ n. get_or xs n d) (sym same)) fact'
 
--- where each element is below the next, each is below all behind it
+-- if each element is below the next, each is below all later ones
 rising : {X : Type 0} (key : X → ℕ) (xs : List X) → AllAdjacentBelow (λ x y. key x < key y) xs (length xs)
     → (i j : ℕ) (d : X) → i < j → j < length xs → key (get_or xs i d) < key (get_or xs j d)
 rising key xs next i zero d below within = absurd (omega arith)
@@ -63,7 +63,7 @@ some_element : {X : Type 0} (xs : List X) → 0 < length xs → X
 some_element [] within = absurd (omega arith)
 some_element (x ∷ xs) within = x
 
--- what `is_sorted_by` answers, where it compares keys by `<`
+-- the result of `is_sorted_by` if it compares keys by `<`
 pub rising_answer : {X : Type 0} (key : X → ℕ) (xs : List X) (r : Bool)
     → IsAllAdjacentAnswer (λ x y b. b ≡ nat_lt (key x) (key y)) xs r → IsTrue r ↔ AllPairs (λ x y. key x < key y) xs
 rising_answer key xs true h = (

@@ -1,5 +1,5 @@
--- The law that a round fills place by place: its tuples when its first steps are made, when one more is, and when
--- all are.
+-- The law that a round fills one place after another: its tuples after its first steps, after one more step, and
+-- after all steps.
 use Rattle.std.proofs.Common.{◌≡◌, ◌∙◌, ℕ, zero, suc, ◌+◌, ◌-◌, ◌<◌, List, [], ◌∷◌, ◌++◌, length, map, replicate, refl}
 use Rattle.std.proofs.Common.{sym, ap, ap₂, arith, add-zero, append_assoc, append-nil}
 use Rattle.std.proofs.Math.Seq.{set-append_seam}
@@ -10,7 +10,7 @@ use Rattle.pals_base.specs.declared.basic_types.PortValue.TheVariants.{Absent}
 use Rattle.pals_base.specs.Tuples.{column, columns, so_far, with_places}
 use Rattle.pals_base.specs.UpwardNumbers.{upwards}
 
--- a tuple with one more place in front of those that are absent
+-- a tuple with one more place before the absent ones
 one_more_place : (tuple : List PortValue) (value : PortValue) (n k : ℕ) → length tuple ≡ n → n < k
     → (tuple ++ value ∷ []) ++ replicate (k - (n + 1)) Absent ≡ slice_set (tuple ++ replicate (k - n) Absent) n value
 one_more_place tuple value n k size within =
@@ -24,7 +24,7 @@ one_more_in_column : (outs : List (List PortValue)) (values : List PortValue) (a
     → column at (outs ++ values ∷ []) ≡ column at outs ++ slice_index_or values at Absent ∷ []
 one_more_in_column outs values at = map-append (λ list. slice_index_or list at Absent) outs (values ∷ [])
 
--- the columns from a number on, whose values in the new step are these
+-- the columns from an index on, if these are their values in the new step
 columns_with : (outs : List (List PortValue)) (all : List PortValue) (k : ℕ) → length outs < k
     → (from : ℕ) (values : List PortValue)
     → ((i : ℕ) → slice_index_or values i Absent ≡ slice_index_or all (from + i) Absent)

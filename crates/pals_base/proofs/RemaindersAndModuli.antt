@@ -1,4 +1,4 @@
--- The laws of signs: the remainder has the sign of the dividend, and the modulus has that of the divisor.
+-- The laws of signs: the remainder has the sign of the dividend, and the modulus has the sign of the divisor.
 use Rattle.std.proofs.Common.{◌≡◌, ◌≢◌, ◌∙◌, zero, suc, ◌<◌, ℤ, pos, negsuc, ◌+ℤ◌, ◌-ℤ◌, ◌*ℤ◌, ◌≤ℤ◌, refl, ap, arith}
 use Rattle.std.specs.Prelude.{IsOkAnd, int_div, int_rem, unsigned_abs}
 use Rattle.std.proofs.Math.Nat.{mod-le}

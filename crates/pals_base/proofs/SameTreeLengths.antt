@@ -1,4 +1,4 @@
--- For `same_act` and `same_expr`: two lists that stand for the same trees have the same length.
+-- For `same_act` and `same_expr`: two lists with the same trees have the same length.
 use Rattle.std.proofs.Common.{◌≡◌, suc, List, [], ◌∷◌, length, refl, ap}
 use Rattle.pals_base.specs.declared.behaviour.Operand.{Operand}
 use Rattle.pals_base.specs.declared.behaviour.Act.{Act}

@@ -1,4 +1,4 @@
--- The laws of steps one after another, and of halted frames.
+-- The laws of sequences of steps and of halted frames.
 use Rattle.std.proofs.Common.{◌≡◌, ◌∙◌, ℕ, zero, suc, ◌-◌, List, [], ◌∷◌, ◌++◌, length, map, take, replicate, Some}
 use Rattle.std.proofs.Common.{refl, ap}
 use Rattle.std.specs.Prelude.{ℤ}

@@ -1,4 +1,4 @@
--- The laws that each step of a behaviour ends and that ways are short: a step that may begin comes to a complete
+-- The laws that each step of a behaviour ends and that paths are short: a step that may begin reaches a complete
 -- state.
 use Rattle.std.proofs.Common.{◌≡◌, cond, ◌∙◌, ℕ, ◌<◌, zero, suc, nat_eq, nat_lt, ℤ, pos, Bool, true, false, ◌&&◌, ◌||◌}
 use Rattle.std.proofs.Common.{if◌then◌else◌, List, [], ◌∷◌, length, map, Option, Some, None, refl, sym, ap, subst}
@@ -46,7 +46,7 @@ passed_find p test (x ∷ xs) found is all =
     found_passes p (test x) x found (find test xs) both.0 (λ later. passed_find p test xs found later both.1) is
 
 -- ---- states
--- a state that is there and complete, by its number
+-- a declared and complete state, by its index
 there : (xs : List StateDecl) (i : ℕ) → i < length xs → completes (slice_get xs i) ≡ true
     → may_begin (slice_get xs i) ≡ true
 there [] i within complete = absurd (omega arith)
@@ -57,11 +57,11 @@ begun : (o : Option StateDecl) → may_begin o ≡ true → (s : StateDecl) × (
 begun None begins = absurd (false≢true begins)
 begun (Some s) begins = (s, refl)
 
--- a state in which a step may begin is one of the states
+-- a state in which a step may begin is a declared state
 begun_within : (xs : List StateDecl) (i : ℕ) → may_begin (slice_get xs i) ≡ true → i < length xs
 begun_within xs i begins = let state = begun (slice_get xs i) begins in slice_get_within xs i state.0 state.1
 
--- ---- the first open transition
+-- ---- the first enabled transition
 abbrev pub is_found : Result (Option Edge) Trap → Bool
 is_found (Ok (Some e)) = true
 is_found (Ok None) = false
@@ -83,7 +83,7 @@ goes_on (Ok true) e found rest p here later is = subst (λ y. p y ≡ true) (ap 
 goes_on (Ok false) e found rest p here later is = later is
 goes_on (Err trap) e found rest p here later is = absurd (false≢true (ap is_found is))
 
--- it is one of those that leave the state
+-- it is one of the transitions that leave the state
 first_passes : (p : Edge → Bool) (es : List Edge) (frame : Frame) (fresh : List Bool) (found : Edge)
     → first_open es frame fresh ≡ Ok (Some found) → list_all p es ≡ true → p found ≡ true
 first_passes p [] frame fresh found is all = absurd (false≢true (ap is_found is))
@@ -103,7 +103,7 @@ always_opens Dispatch frame fresh is = absurd (false≢true is)
 always_opens Always frame fresh is = refl
 always_opens (When e) frame fresh is = absurd (false≢true is)
 
--- where the last has no guard, one is open
+-- if the last has no guard, one is enabled
 one_opens : (es : List Edge) (frame : Frame) (fresh : List Bool) (before : Bool)
     → fold (λ before e. is_always e.trigger) before es ≡ true → first_open es frame fresh ≡ Ok None → before ≡ true
 one_opens [] frame fresh before unguarded none = unguarded
@@ -261,7 +261,7 @@ starts_well b rules' =
       held = length-replicate (length b.ins) (pos 0);
     }
 
--- ---- ways
+-- ---- paths
 way_within : (b : BehaviourParts) (n s t : ℕ) → IsBehaviour b → s < length b.states → IsWay b n s t
     → t < length b.states
 way_within b zero s t rules' within way = subst (λ x. x < length b.states) way within

@@ -1,5 +1,5 @@
--- The law that ways are short: a way through states that are not complete is shorter than there are states, or comes
--- back to where it began; marks tell which.
+-- The law that paths are short: a path through states that are not complete is shorter than the number of states, or
+-- returns to its first state. Marks determine which.
 use Rattle.std.proofs.Common.{inl, inr, ◌≡◌, ℕ, ◌<◌, ◌≤◌, zero, suc, Bool, true, false, ◌&&◌, ◌||◌, List, [], ◌∷◌}
 use Rattle.std.proofs.Common.{length, refl, ap, sym, ◌∙◌, subst, arith, ◌↔◌}
 use Rattle.std.specs.Prelude.{map}
@@ -32,7 +32,7 @@ here_or_later p true x xs is not_all later =
     let found = later not_all in
     (found.0, (suc found.1.0, omega arith, found.1.2), found.2)
 
--- where not all pass, one fails
+-- if not all elements pass, one fails
 failed_element : {A : Type 0} (p : A → Bool) (xs : List A) → list_all p xs ≡ false → Fails p xs
 failed_element p [] not_all = absurd (true≢false not_all)
 failed_element p (x ∷ xs) not_all = here_or_later p (p x) x xs refl not_all (failed_element p xs)
@@ -48,14 +48,14 @@ apart x (y ∷ xs) none = (
   apart x xs (λ later. none (ap (λ b. eqb x y || b) later ∙ or-true (eqb x y))),
 )
 
--- ---- a way is shorter than there are states
+-- ---- a path is shorter than the number of states
 pub incomplete_within : (b : BehaviourParts) (s : ℕ) → is_complete b s ≡ false → s < length b.states
 incomplete_within b s incomplete =
     let past : length b.states ≤ s → ⊥ =
     λ beyond. both_ways (is_complete b s) incomplete (settles_past zero b s beyond) in
     omega (arith, past)
 
--- the states that a way of n transitions meets: n and one, no two equal, each of them there and a way from the first
+-- the states on a path of n transitions: n + 1 states, pairwise distinct, each declared and reachable from the first
 record Met (b : BehaviourParts) (n s : ℕ) : Type 0 where
   pub states : List ℕ
   pub count : length states ≡ suc n
@@ -106,8 +106,8 @@ way_is_short b n s t acyclic within way =
     length-le_from_distinct_below all.states (length b.states) all.distinct (λ q found. (all.each q found).2) in
     omega arith
 
--- ---- without a cycle each state settles
--- a state that does not settle has a long way to a state that is not complete
+-- ---- without a cycle, each state settles
+-- a state that does not settle has a path of maximal length to a state that is not complete
 abbrev pub IsLong : BehaviourParts → ℕ → ℕ → Type 0
 IsLong b n s = (t : ℕ) × IsWay b n s t × (is_complete b t ≡ false)
 
@@ -131,7 +131,7 @@ settled_unless_cycle b s acyclic =
       | inr unsettled ↦ absurd (too_long b s acyclic (long_way (length b.states) b s unsettled))
     ]
 
--- ---- where each state settles there is no cycle
+-- ---- if each state settles, there is no cycle
 goes_further : (n : ℕ) (b : BehaviourParts) (s : ℕ) (e : Edge) → is_complete b s ≡ false → settles (suc n) b s ≡ true
     → Contains (leaving b s) e → settles n b e.target ≡ true
 goes_further n b s e under_way settle is =
@@ -157,7 +157,7 @@ no_cycle b settle s n cycle =
     never_back (length b.states) b s s n zero cycle refl
     (rule_at (settles (length b.states) b) (length b.states) s settle (incomplete_within b s cycle.0))
 
--- the marks of all states tell whether there is a cycle
+-- the marks of all states determine whether there is a cycle
 pub marks_tell : (b : BehaviourParts) (marks : List Bool)
     → marks ≡ map (settles (length b.states) b) (upwards 0 (length b.states))
     → IsTrue (list_all (λ mark. mark) marks) ↔ IsAcyclic b

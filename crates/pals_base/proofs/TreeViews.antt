@@ -1,5 +1,5 @@
--- For functions over expressions and actions: the plain tree that contracts see of an expression or action, where it
--- holds boxes and vectors.
+-- For functions on expressions and actions: the plain tree of an expression or action that consists of boxes and
+-- vectors.
 use Rattle.std.proofs.Common.{◌≡◌, ℤ, refl, sym, ap, ◌∙◌}
 use Rattle.std.specs.declared.alloc.Global.{Global}
 use Rattle.std.specs.declared.boxed.Box.{Box}

@@ -1,4 +1,4 @@
--- Numbers that count up: how many there are, what stands at each place, what is made of each, and one number more.
+-- Numbers that count up: their number, the number at an index, the image under a map, and one number more.
 use Rattle.std.proofs.Common.{◌≡◌, ℕ, ◌+◌, ◌-◌, ◌<◌, ◌≤◌, zero, suc, Bool, true, List, [], ◌∷◌, ◌++◌, length, map, All}
 use Rattle.std.proofs.Common.{get_or, slice_get, Some, refl, ap, ap₂, ◌∙◌, sym, arith, add-one, zero-add}
 use Rattle.std.specs.Prelude.{flat_map, option_map}
@@ -9,7 +9,7 @@ use Rattle.std.proofs.lemmas.Option.{slice_get-map, get_or_from_slice_get}
 use Rattle.std.proofs.lemmas.List.Elements.{All-nil, All-cons}
 use Rattle.pals_base.specs.UpwardNumbers.{upwards}
 
--- ---- how many there are
+-- ---- the number of elements
 pub length-upwards : (from n : ℕ) → length (upwards from n) ≡ n
 length-upwards from zero = refl
 length-upwards from (suc n) = ap suc (length-upwards (suc from) n)
@@ -17,7 +17,7 @@ length-upwards from (suc n) = ap suc (length-upwards (suc from) n)
 pub length-map_upwards : {A : Type 0} (f : ℕ → A) (from n : ℕ) → length (map f (upwards from n)) ≡ n
 length-map_upwards f from n = length-map (upwards from n) f ∙ length-upwards from n
 
--- ---- what stands at each place
+-- ---- the element at an index
 at_from : (from n k : ℕ) → k < n → slice_get (upwards from n) k ≡ Some (from + k)
 at_from from zero k within = absurd (omega arith)
 at_from from (suc n) zero within = ap Some (omega arith)
@@ -39,7 +39,7 @@ upwards_is from (suc n) zero x is = let same : from ≡ x = cc in (omega arith, 
 upwards_is from (suc n) (suc k) x is = let later = upwards_is (suc from) n k x is in let a = later.0 in
     let b = later.1 in (omega arith, omega arith)
 
--- ---- what is made of each
+-- ---- the image under a map
 pub map_upwards_same : {A : Type 0} (f g : ℕ → A) (from n : ℕ) → ((k : ℕ) → from ≤ k → k < from + n → f k ≡ g k)
     → map f (upwards from n) ≡ map g (upwards from n)
 map_upwards_same f g from zero same = refl
@@ -82,7 +82,7 @@ map_upwards_more f n =
     ∙ map-append f (upwards 0 n) ((0 + n) ∷ [])
     ∙ ap (λ k. map f (upwards 0 n) ++ f k ∷ []) (zero-add n)
 
--- the first of those that are left
+-- the first of the remaining numbers
 pub upwards_next : (at n : ℕ) → at < n → upwards at (n - at) ≡ at ∷ upwards (at + 1) (n - (at + 1))
 upwards_next at n within =
     let e : n - at ≡ suc (n - (at + 1)) = omega arith in

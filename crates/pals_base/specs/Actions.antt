@@ -1,4 +1,4 @@
--- What actions do: new variables and this step's outputs, or a trap.
+-- The effect of actions: new variables and this step's outputs, or a trap.
 use Rattle.std.specs.Prelude.{ℕ, ℤ, Bool, if◌then◌else◌, List, [], ◌∷◌, ◌++◌, length, take, Result, Ok, slice_set}
 use Rattle.pals_base.specs.declared.basic_types.Trap.{Trap}
 use Rattle.pals_base.specs.declared.frames.Frame.{Frame}
@@ -8,7 +8,7 @@ use Rattle.pals_base.specs.ExpressionValues.{eval, on_value, is_true}
 use Rattle.pals_base.specs.ExpressionAndActionTrees.{Action, Assign, Emit, If, For, Actions, Nothing, Do, Branches, NoBranch, Where}
 use Rattle.pals_base.specs.ForRanges.{numbers}
 
--- the variables, and what the out ports have in this step so far
+-- the variables, and the values of the out ports in this step so far
 pub record Effect : Type 0 where
   pub vars : List ℤ
   pub outs : List PortValue
@@ -22,7 +22,7 @@ for_each (n ∷ ns) body so_far = on_value (body n so_far) (λ e. for_each ns bo
 abbrev pub with_vars : Frame → List ℤ → Frame
 with_vars frame vars = record frame { vars = vars }
 
--- the effect without the variable of a loop, which stood behind the first n
+-- the effect without the variable of a loop, which is the one after the first n
 abbrev pub without_loop : ℕ → Result Effect Trap → Result Effect Trap
 without_loop n done = on_value done (λ e. Ok (record e { vars = take n e.vars }))
 
@@ -38,13 +38,13 @@ abbrev mutual
       (λ n e. without_loop (length frame.vars) (acts body (with_vars frame (e.vars ++ n ∷ [])) fresh e.outs))
       (record { vars = frame.vars; outs = outs })
 
-  -- one after the other
+  -- actions in sequence
   pub acts : Actions → Frame → List Bool → List PortValue → Result Effect Trap
   acts Nothing frame fresh outs = Ok (record { vars = frame.vars; outs = outs })
   acts (Do a rest) frame fresh outs =
       on_value (act a frame fresh outs) (λ e. acts rest (with_vars frame e.vars) fresh e.outs)
 
-  -- the first branch whose guard is true, or else what is done otherwise
+  -- the effect of the first branch with a true guard, else the given effect
   pub act_first : Branches → Frame → List Bool → List PortValue → Result Effect Trap → Result Effect Trap
   act_first NoBranch frame fresh outs otherwise = otherwise
   act_first (Where guard actions rest) frame fresh outs otherwise =

@@ -1,4 +1,4 @@
--- How a tuple of a source of rate p is read by a target of rate q.
+-- How a target of rate q reads a tuple of a source of rate p.
 use Rattle.std.specs.Prelude.{ℕ, ◌-◌, ◌/◌, zero, suc, nat_lt, ℤ, pos, ◌+ℤ◌, int_div, if◌then◌else◌, List, [], ◌∷◌}
 use Rattle.std.specs.Prelude.{length, take, drop, map, fold, flat_map, replicate, Option, Some, None, slice_index_or}
 use Rattle.std.specs.Prelude.{slice_set}
@@ -14,14 +14,14 @@ abbrev pub groups : ℕ → ℕ → List PortValue → List (List PortValue)
 groups zero m list = []
 groups (suc count) m list = take m list ∷ groups count m (drop m list)
 
--- the numbers that are present
+-- the present numbers of a group
 abbrev pub present : List PortValue → List ℤ
 present [] = []
 present (Absent ∷ list) = present list
 present (Present v ∷ list) = v ∷ present list
 
 -- ---- to a higher rate: one value over m places
--- the value in the place n, from 1, and absent in the others
+-- the value in place n, from 1, and absent in the others
 abbrev pub placed : ℕ → ℕ → PortValue → List PortValue
 placed n m value = slice_set (replicate m Absent) (n - 1) value
 
@@ -33,7 +33,7 @@ spread (At n) m value = placed n m value
 spread other m value = replicate m Absent
 
 -- ---- to a lower rate: one place from a group
--- a value of the present numbers, absent where there are none
+-- a value computed from the present numbers, or absent if there are none
 abbrev pub of_present : (ℤ → List ℤ → ℤ) → List ℤ → PortValue
 of_present f [] = Absent
 of_present f (v ∷ vs) = Present (f v vs)
@@ -47,7 +47,7 @@ greatest_of v vs = fold int_max v vs
 abbrev pub least_of : ℤ → List ℤ → ℤ
 least_of v vs = fold int_min v vs
 
--- the sum divided by the count, towards zero
+-- the sum divided by the count, rounded towards zero
 abbrev pub average_of : ℤ → List ℤ → ℤ
 average_of v vs = int_div (fold (λ a b. a +ℤ b) v vs) (pos (suc (length vs)))
 

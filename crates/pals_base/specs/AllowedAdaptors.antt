@@ -10,7 +10,7 @@ use Rattle.pals_base.specs.declared.behaviour.Kind.TheVariants.{Boolean}
 abbrev pub divides_or_divided : ℕ → ℕ → Bool
 divides_or_divided p q = nat_eq (q % p) 0 || nat_eq (p % q) 0
 
--- to a higher rate, where each value gives m places
+-- to a higher rate, if each value fills m places
 abbrev pub may_spread : Adaptor → ℕ → Bool
 may_spread Repeat m = true
 may_spread First m = true
@@ -21,7 +21,7 @@ may_spread Max m = false
 may_spread Min m = false
 may_spread Average m = false
 
--- to a lower rate, where each group of m gives one place
+-- to a lower rate, if each group of m fills one place
 abbrev pub may_join : Adaptor → ℕ → Bool
 may_join Repeat m = false
 may_join First m = true
@@ -32,12 +32,12 @@ may_join Max m = true
 may_join Min m = true
 may_join Average m = true
 
--- an adaptor is given exactly where the rates differ
+-- a link has an adaptor if and only if the rates differ
 abbrev pub is_allowed : Option Adaptor → ℕ → ℕ → Bool
 is_allowed None p q = nat_eq p q
 is_allowed (Some a) p q = if nat_lt p q then may_spread a (q / p) else nat_lt q p && may_join a (p / q)
 
--- the greatest, the least and the average are of numbers alone
+-- `Max`, `Min` and `Average` require numbers
 abbrev pub suits_kind : Option Adaptor → Kind → Bool
 suits_kind (Some Max) Boolean = false
 suits_kind (Some Min) Boolean = false

@@ -1,4 +1,4 @@
--- What each behaviour keeps.
+-- The rules of a behaviour.
 use Rattle.std.specs.Prelude.{◌≡◌, ◌≢◌, ◌++◌, map, AllPairs, ℕ, zero, suc, nat_eq, nat_lt, Bool, true, false, ◌&&◌}
 use Rattle.std.specs.Prelude.{if◌then◌else◌, List, length, fold, filter, IsTrue, slice_get}
 use Rattle.std.specs.List.{list_all, Contains}
@@ -30,7 +30,7 @@ pub record HasNames (b : BehaviourParts) : Type 0 where
   pub states_differ : AllPairs (λ s t. s.name ≢ t.name) b.states
 
 -- ---- values
--- a variable's first value is of its type
+-- a variable's initial value fits its type
 abbrev pub has_first : VarDecl → Bool
 has_first v = allows (literal_kinds v.first) v.kind
 
@@ -59,19 +59,19 @@ is_always (When e) = false
 abbrev pub ends_unguarded : List Edge → Bool
 ends_unguarded edges = fold (λ before e. is_always e.trigger) false edges
 
--- one transition at the dispatch leaves a complete state, and none leaves another state; from there one can always go
--- on
+-- exactly one transition leaves a complete state, at the dispatch; no transition at the dispatch leaves another
+-- state, and a step can always proceed from there
 abbrev pub has_ways : BehaviourParts → ℕ → Bool
 has_ways b s =
     if is_complete b s then nat_eq (dispatch_count (leaving b s)) 1
     else nat_eq (dispatch_count (leaving b s)) 0 && ends_unguarded (leaving b s)
 
--- a way of n transitions from one state to another, each of which leaves a state that is not complete
+-- a path of n transitions from one state to another, each of which leaves a state that is not complete
 abbrev pub IsWay : BehaviourParts → ℕ → ℕ → ℕ → Type 0
 IsWay b zero s t = s ≡ t
 IsWay b (suc n) s t = (is_complete b s ≡ false) × ((e : Edge) × Contains (leaving b s) e × IsWay b n e.target t)
 
--- no way through states that are not complete comes back to where it began
+-- no path through states that are not complete returns to its first state
 unfoldable pub IsAcyclic : BehaviourParts → Type 0
 IsAcyclic b = (s n : ℕ) → IsWay b (suc n) s s → ⊥
 

@@ -13,7 +13,7 @@ mutual
     Not : Expression → Expression
     Chain : Expression → Operands → Expression
 
-  -- the later operands of a chain, each behind its operator
+  -- the later operands of a chain, each after its operator
   pub data Operands : Type 0 where
     NoMore : Operands
     Then : Op → Expression → Operands → Operands

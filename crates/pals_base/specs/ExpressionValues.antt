@@ -1,4 +1,4 @@
--- What an expression is worth.
+-- The values of expressions.
 use Rattle.std.specs.Prelude.{ℤ, pos, negsuc, zero, suc, Bool, true, false, not, ◌&&◌, ◌||◌, if◌then◌else◌, List}
 use Rattle.std.specs.Prelude.{Result, Ok, Err, slice_index_or, int_le, int_lt}
 use Rattle.pals_base.specs.declared.basic_types.Trap.{Trap}
@@ -11,7 +11,7 @@ use Rattle.pals_base.specs.Arithmetic.{negation_of, magnitude_of}
 use Rattle.pals_base.specs.ExpressionAndActionTrees.{Expression, Literal, Variable, PortRead, Fresh, Neg, Abs, Not, Chain, Operands}
 use Rattle.pals_base.specs.ExpressionAndActionTrees.{NoMore, Then}
 
--- goes on with a value; the first trap is the answer
+-- continues with a value; the result is the first trap
 abbrev pub on_value : {A B : Type 0} → Result A Trap → (A → Result B Trap) → Result B Trap
 on_value (Ok v) go = go v
 on_value (Err trap) go = Err trap
@@ -25,7 +25,7 @@ is_true (negsuc n) = true
 abbrev pub truth : Bool → ℤ
 truth b = if b then pos 1 else pos 0
 
--- whether two numbers are one
+-- whether two numbers are equal
 abbrev pub same_number : ℤ → ℤ → Bool
 same_number a b = int_le a b && int_le b a
 
@@ -49,14 +49,14 @@ applied Xor a b = Ok (truth (if is_true a then not (is_true b) else is_true b))
 applied AndThen a b = if is_true a then Ok b else Ok (pos 0)
 applied OrElse a b = if is_true a then Ok (pos 1) else Ok b
 
--- an operator at a left value and a right side, which `and then` and `or else` look at only where it is needed
+-- an operator on a left value and a right side; `and then` and `or else` evaluate the right side only if necessary
 abbrev pub combined : Op → ℤ → Result ℤ Trap → Result ℤ Trap
 combined AndThen a right = if is_true a then right else Ok (pos 0)
 combined OrElse a right = if is_true a then Ok (pos 1) else right
 combined op a right = on_value right (λ b. applied op a b)
 
 abbrev mutual
-  -- the value of an expression: it reads variables and held inputs, and whether an input is of this step
+  -- the value of an expression, which reads variables and held inputs, and whether an input is present in this step
   pub eval : Expression → Frame → List Bool → Result ℤ Trap
   eval (Literal n) frame fresh = Ok n
   eval (Variable x) frame fresh = Ok (slice_index_or frame.vars x (pos 0))
@@ -67,7 +67,7 @@ abbrev mutual
   eval (Not e) frame fresh = on_value (eval e frame fresh) (λ v. Ok (truth (not (is_true v))))
   eval (Chain first rest) frame fresh = on_value (eval first frame fresh) (λ v. eval_rest rest frame fresh v)
 
-  -- the later operands of a chain, from the value of what stands left of them
+  -- the later operands of a chain, from the value of the operands to their left
   pub eval_rest : Operands → Frame → List Bool → ℤ → Result ℤ Trap
   eval_rest NoMore frame fresh left = Ok left
   eval_rest (Then op e rest) frame fresh left =

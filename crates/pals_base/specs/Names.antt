@@ -25,7 +25,7 @@ is_word name = nat_le (length name) NAME_BYTES && is_led_by_letter name && list_
 abbrev pub is_dot : ℕ → Bool
 is_dot c = nat_eq c 46
 
--- a path: words with a `.` between each two
+-- a path: words separated by `.`
 abbrev pub is_path : List ℕ → Bool
 is_path path = list_all is_word (slice_split is_dot path)
 

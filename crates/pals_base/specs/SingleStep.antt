@@ -1,5 +1,5 @@
--- One step of a behaviour: held inputs, transitions and what the step leaves; and the frame that a component starts
--- with, and its shape.
+-- One step of a behaviour: held inputs, transitions and the next frame; and the initial frame of a component, and the
+-- frames that fit a behaviour.
 use Rattle.std.specs.Prelude.{◌≡◌, IsTrue, ℕ, zero, suc, nat_eq, ℤ, pos, Bool, true, false, if◌then◌else◌, List, []}
 use Rattle.std.specs.Prelude.{◌∷◌, length, map, replicate, filter, find, Option, Some, None, Result, Ok, Err, slice_get}
 use Rattle.pals_base.specs.declared.basic_types.Trap.{Trap}
@@ -14,12 +14,12 @@ use Rattle.pals_base.specs.Actions.{acts}
 use Rattle.pals_base.specs.ExpressionAndActionTrees.{Edge, Trigger, Dispatch, Always, When}
 
 -- ---- inputs
--- the value of a present input, else the one held before
+-- the value of a present input, else the value held before
 abbrev pub held_of : ℤ → PortValue → ℤ
 held_of before Absent = before
 held_of before (Present v) = v
 
--- holds each present input
+-- holds the value of each present input
 abbrev pub holding : List ℤ → List PortValue → List ℤ
 holding [] inputs = []
 holding (v ∷ held) [] = v ∷ held
@@ -34,12 +34,12 @@ abbrev pub silence : BehaviourParts → List PortValue
 silence b = replicate (length b.outs) Absent
 
 -- ---- transitions
--- a state that is not there is as good as complete: nothing leaves it
+-- an undeclared state counts as complete: no transition leaves it
 abbrev pub completes : Option StateDecl → Bool
 completes None = true
 completes (Some s) = s.complete
 
--- a state that is there and complete: a step may begin there
+-- the state is declared and complete, so a step may begin there
 abbrev pub may_begin : Option StateDecl → Bool
 may_begin None = false
 may_begin (Some s) = s.complete
@@ -47,7 +47,7 @@ may_begin (Some s) = s.complete
 abbrev pub is_complete : BehaviourParts → ℕ → Bool
 is_complete b state = completes (slice_get b.states state)
 
--- the transitions that leave a state, in the text's order
+-- the transitions that leave a state, in the order of the text
 abbrev pub leaving : BehaviourParts → ℕ → List Edge
 leaving b state = filter (λ e. nat_eq e.source state) b.transitions
 
@@ -56,7 +56,7 @@ is_dispatch Dispatch = true
 is_dispatch Always = false
 is_dispatch (When e) = false
 
--- whether a trigger lets a transition go, once the step is under way
+-- whether a trigger enables a transition after the dispatch
 abbrev pub opens : Trigger → Frame → List Bool → Result Bool Trap
 opens Dispatch frame fresh = Ok false
 opens Always frame fresh = Ok true
@@ -69,19 +69,19 @@ first_open (e ∷ es) frame fresh =
     on_value (opens e.trigger frame fresh) (λ open'. if open' then Ok (Some e) else first_open es frame fresh)
 
 -- ---- a step
--- a frame, and what the out ports have
+-- a frame, and the values of the out ports
 pub record Fired : Type 0 where
   pub frame : Frame
   pub outs : List PortValue
 
--- goes along a transition, if there is one
+-- takes a transition, if there is one
 abbrev pub along : Option Edge → List Bool → Fired → Result Fired Trap
 along None fresh at = Ok at
 along (Some e) fresh at =
     on_value (acts e.actions at.frame fresh at.outs)
     (λ done. Ok (record { frame = record at.frame { state = e.target; vars = done.vars }; outs = done.outs }))
 
--- from a state on until a complete one, by at most n transitions
+-- from a state to the first complete state, by at most n transitions
 abbrev pub settled : ℕ → BehaviourParts → List Bool → Fired → Result Fired Trap
 settled zero b fresh at = Ok at
 settled (suc n) b fresh at =
@@ -93,18 +93,18 @@ settled (suc n) b fresh at =
 abbrev pub dispatched : BehaviourParts → ℕ → Option Edge
 dispatched b state = find (λ e. is_dispatch e.trigger) (leaving b state)
 
--- the whole step of a frame that holds its inputs; it meets no state twice before a complete one
+-- the whole step of a frame after it held its inputs; it visits no state twice before a complete one
 abbrev pub reaction : BehaviourParts → List Bool → Frame → Result Fired Trap
 reaction b fresh frame =
     on_value (along (dispatched b frame.state) fresh (record { frame = frame; outs = silence b }))
     (λ at. settled (length b.states) b fresh at)
 
--- what a step leaves: at a trap, the frame from before it with the new held inputs and the halt, and no outputs
+-- the result of a step; at a trap, the frame before it with the new held inputs and the halt, and no outputs
 abbrev pub outcome : BehaviourParts → Frame → Result Fired Trap → Fired
 outcome b held (Ok fired) = fired
 outcome b held (Err trap) = record { frame = record held { halt = Some trap }; outs = silence b }
 
--- a halted frame stays
+-- a halted frame remains halted
 abbrev pub unless_halted : BehaviourParts → Frame → Option Trap → Result Fired Trap → Fired
 unless_halted b held None reacted = outcome b held reacted
 unless_halted b held (Some trap) reacted = record { frame = held; outs = silence b }
@@ -116,7 +116,7 @@ fire b frame inputs =
     unless_halted b held frame.halt (reaction b (map is_present inputs) held)
 
 -- ---- frames
--- the frame that a component starts with
+-- the initial frame of a component
 abbrev pub initial : BehaviourParts → Frame
 initial b =
     record {
@@ -126,7 +126,7 @@ initial b =
       halt = None;
     }
 
--- the frame fits the behaviour: a complete state, and as many variables and held inputs
+-- the frame fits the behaviour: a complete state, and matching numbers of variables and held inputs
 pub record HasShape (b : BehaviourParts) (frame : Frame) : Type 0 where
   pub state : IsTrue (may_begin (slice_get b.states frame.state))
   pub vars : length frame.vars ≡ length b.vars

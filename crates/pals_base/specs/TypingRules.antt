@@ -17,7 +17,7 @@ use Rattle.pals_base.specs.ExpressionValues.{same_number}
 use Rattle.pals_base.specs.ForRanges.{count_of}
 use Rattle.pals_base.specs.declared.limits.TheConstants.{TURNS, NESTED_TURNS}
 
--- ---- types that a value may have
+-- ---- possible types of a value
 abbrev pub may_be : Bool → Bool → Kinds
 may_be integer boolean = record { integer = integer; boolean = boolean }
 
@@ -25,12 +25,12 @@ abbrev pub only : Kind → Kinds
 only Integer = may_be true false
 only Boolean = may_be false true
 
--- whether a value of these types may stand where one of this type is asked for
+-- whether a value with these types can be used as a value of this type
 abbrev pub allows : Kinds → Kind → Bool
 allows kinds Integer = kinds.integer
 allows kinds Boolean = kinds.boolean
 
--- a number is an integer; 0 and 1 may also be false and true
+-- a number is an integer; 0 and 1 are also false and true
 abbrev pub literal_kinds : ℤ → Kinds
 literal_kinds n = may_be true (same_number n (pos 0) || same_number n (pos 1))
 
@@ -39,12 +39,12 @@ abbrev pub port_kinds : Option PortDecl → Kinds
 port_kinds None = may_be false false
 port_kinds (Some port) = only port.kind
 
--- a variable that is declared, or else the variable of a loop, if there is one
+-- a declared variable, or else the variable of a loop, if there is one
 abbrev pub declared_or : Option VarDecl → Bool → Kinds
 declared_or (Some v) is_loop = only v.kind
 declared_or None is_loop = may_be is_loop false
 
--- the types of a variable in sight within `loops` loops
+-- the types of a variable that is visible within `loops` loops
 abbrev pub variable_kinds : BehaviourParts → ℕ → ℕ → Kinds
 variable_kinds b loops x = declared_or (slice_get b.vars x) (nat_lt x (length b.vars + loops))
 
@@ -55,7 +55,7 @@ numbers_at a b = a.integer && b.integer
 abbrev pub truths_at : Kinds → Kinds → Bool
 truths_at a b = a.boolean && b.boolean
 
--- what an operator gives of both sides: of two numbers a number or a comparison, of two truth values a truth value
+-- the types of an operator's result: two numbers give a number or a comparison, two Booleans a Boolean
 abbrev pub operator_kinds : Op → Kinds → Kinds → Kinds
 operator_kinds Add a b = may_be (numbers_at a b) false
 operator_kinds Sub a b = may_be (numbers_at a b) false
@@ -76,7 +76,7 @@ operator_kinds AndThen a b = may_be false (truths_at a b)
 operator_kinds OrElse a b = may_be false (truths_at a b)
 
 abbrev mutual
-  -- the types that an expression may have within `loops` loops; none where it is not well typed
+  -- the types that an expression can have within `loops` loops; no type if it is ill typed
   pub kinds_of : Expression → BehaviourParts → ℕ → Kinds
   kinds_of (Literal n) b loops = literal_kinds n
   kinds_of (Variable x) b loops = variable_kinds b loops x
@@ -87,7 +87,7 @@ abbrev mutual
   kinds_of (Not e) b loops = may_be false (kinds_of e b loops).boolean
   kinds_of (Chain first rest) b loops = kinds_along rest b loops (kinds_of first b loops)
 
-  -- the later operands of a chain, from the types of what stands left of them
+  -- the later operands of a chain, from the types of the operands to their left
   pub kinds_along : Operands → BehaviourParts → ℕ → Kinds → Kinds
   kinds_along NoMore b loops left = left
   kinds_along (Then op e rest) b loops left = kinds_along rest b loops (operator_kinds op left (kinds_of e b loops))
@@ -101,16 +101,16 @@ abbrev pub suits_port : Option PortDecl → Kinds → Bool
 suits_port None kinds = false
 suits_port (Some port) kinds = allows kinds port.kind
 
--- how many turns a loop makes
+-- the number of iterations of a loop
 abbrev pub turns : ℤ → ℤ → ℕ
 turns low high = count_of (high -ℤ low)
 
--- a loop makes at most 1,000 turns, and at most 10,000 with the turns of the loops round it
+-- a loop has at most 1,000 iterations, and at most 10,000 multiplied with the enclosing loops
 abbrev pub is_short : ℕ → ℕ → Bool
 is_short count around = nat_le count TURNS && nat_le (around * count) NESTED_TURNS
 
 abbrev mutual
-  -- whether an action is well typed and its loops are short, within `loops` loops that make `around` turns
+  -- whether an action is well typed and its loops are short, within `loops` loops with `around` iterations
   pub is_sound : Action → BehaviourParts → ℕ → ℕ → Bool
   is_sound (Assign x e) b loops around = suits_variable (slice_get b.vars x) (kinds_of e b loops)
   is_sound (Emit p e) b loops around = suits_port (slice_get b.outs p) (kinds_of e b loops)

@@ -1,10 +1,10 @@
-//! Adaptors, and which are allowed between two rates and for which types of ports.
+//! Adaptors, and the rates and port types for which each is allowed.
 ghost use Rattle.std.specs.Prelude.{◌≡◌, ◌/◌, ◌%◌};
 ghost use Rattle.pals_base.specs.AllowedAdaptors.{divides_or_divided, may_spread, may_join, is_allowed, suits_kind};
 
 use crate::behaviour::Kind;
 
-/// How the places of a tuple go over to those of a target of another rate.
+/// How the values of a source's tuple become the tuple of a target with another rate.
 #[derive(Clone, Copy, PartialEq, Debug)]
 pub enum Adaptor {
     Repeat,
@@ -17,15 +17,15 @@ pub enum Adaptor {
     Average,
 }
 
-/// Whether one of two rates divides the other.
+/// Returns whether one of two rates divides the other.
 pub fn divides_or_divided(source_rate: u32, target_rate: u32) -> bool
     ensures { result ≡ divides_or_divided source_rate target_rate }
 {
     remainder(target_rate, source_rate) == 0 || remainder(source_rate, target_rate) == 0
 }
 
-/// Whether an adaptor, or none, is allowed from a source of one rate to a target of another: none
-/// exactly where the rates are equal.
+/// Returns whether a link from a source of one rate to a target of another may have this adaptor, or `None` for
+/// a link without an adaptor. Equal rates require `None`; different rates require an adaptor.
 pub fn is_allowed(adaptor: Option<Adaptor>, source_rate: u32, target_rate: u32) -> bool
     ensures { result ≡ is_allowed adaptor source_rate target_rate }
 {
@@ -41,8 +41,7 @@ pub fn is_allowed(adaptor: Option<Adaptor>, source_rate: u32, target_rate: u32) 
     }
 }
 
-/// Whether an adaptor, or none, is allowed on ports of a type: the greatest, the least and the
-/// average are of numbers alone.
+/// Returns whether ports of a type may have this adaptor. `Max`, `Min` and `Average` require numbers.
 pub fn suits_kind(adaptor: Option<Adaptor>, kind: Kind) -> bool
     ensures { result ≡ suits_kind adaptor kind }
 {
@@ -52,7 +51,7 @@ pub fn suits_kind(adaptor: Option<Adaptor>, kind: Kind) -> bool
     }
 }
 
-// Whether an adaptor gives `places` places for each value, to a higher rate.
+// Whether an adaptor to a higher rate can fill `places` places for each value.
 fn may_spread(adaptor: Adaptor, places: u32) -> bool
     ensures { result ≡ may_spread adaptor places }
 {
@@ -63,7 +62,7 @@ fn may_spread(adaptor: Adaptor, places: u32) -> bool
     }
 }
 
-// Whether an adaptor gives one place for each group of `places`, to a lower rate.
+// Whether an adaptor to a lower rate can fill one place from each group of `places`.
 fn may_join(adaptor: Adaptor, places: u32) -> bool
     ensures { result ≡ may_join adaptor places }
 {
@@ -74,14 +73,14 @@ fn may_join(adaptor: Adaptor, places: u32) -> bool
     }
 }
 
-// The quotient, which is 0 at a divisor of 0.
+// The quotient, or 0 if the divisor is 0.
 fn quotient(dividend: u32, divisor: u32) -> u32
     ensures { result ≡ dividend / divisor }
 {
     if divisor == 0 { 0 } else { dividend / divisor }
 }
 
-// The remainder, which is the dividend at a divisor of 0.
+// The remainder, or the dividend if the divisor is 0.
 fn remainder(dividend: u32, divisor: u32) -> u32
     ensures { result ≡ dividend % divisor }
 {

@@ -5,28 +5,28 @@ ghost use Rattle.pals_base.specs.Arithmetic.{negation_of, magnitude_of};
 
 use crate::basic_types::Trap;
 
-/// The sum, or `Overflow` where it does not fit 64 bits.
+/// Returns the sum. Errors: `Overflow` if the sum does not fit 64 bits.
 pub fn add(a: i64, b: i64) -> Result<i64, Trap>
     ensures { result ≡ sum_of a b }
 {
     a.checked_add(b).ok_or(Trap::Overflow)
 }
 
-/// The difference, or `Overflow` where it does not fit 64 bits.
+/// Returns the difference. Errors: `Overflow` if the difference does not fit 64 bits.
 pub fn sub(a: i64, b: i64) -> Result<i64, Trap>
     ensures { result ≡ difference_of a b }
 {
     a.checked_sub(b).ok_or(Trap::Overflow)
 }
 
-/// The product, or `Overflow` where it does not fit 64 bits.
+/// Returns the product. Errors: `Overflow` if the product does not fit 64 bits.
 pub fn mul(a: i64, b: i64) -> Result<i64, Trap>
     ensures { result ≡ product_of a b }
 {
     a.checked_mul(b).ok_or(Trap::Overflow)
 }
 
-/// The quotient, cut towards zero. `ZeroDivisor` at a divisor of 0, and `Overflow` where the
+/// Returns the quotient, rounded towards zero. Errors: `ZeroDivisor` if the divisor is 0, and `Overflow` if the
 /// quotient does not fit 64 bits.
 pub fn quot(a: i64, b: i64) -> Result<i64, Trap>
     ensures { result ≡ quotient_of a b }
@@ -37,7 +37,7 @@ pub fn quot(a: i64, b: i64) -> Result<i64, Trap>
     a.checked_div(b).ok_or(Trap::Overflow)
 }
 
-/// The remainder with the dividend's sign, or `ZeroDivisor` at a divisor of 0.
+/// Returns the remainder, which has the dividend's sign. Errors: `ZeroDivisor` if the divisor is 0.
 pub fn rem(a: i64, b: i64) -> Result<i64, Trap>
     ensures { result ≡ remainder_of a b }
 {
@@ -47,7 +47,7 @@ pub fn rem(a: i64, b: i64) -> Result<i64, Trap>
     Ok(a.wrapping_rem(b))
 }
 
-/// The remainder with the divisor's sign, or `ZeroDivisor` at a divisor of 0.
+/// Returns the modulus, which has the divisor's sign. Errors: `ZeroDivisor` if the divisor is 0.
 pub fn modulo(a: i64, b: i64) -> Result<i64, Trap>
     ensures { result ≡ modulus_of a b }
 {
@@ -59,14 +59,14 @@ pub fn modulo(a: i64, b: i64) -> Result<i64, Trap>
     }
 }
 
-/// The number with the other sign, or `Overflow` at the least number.
+/// Returns the number with the opposite sign. Errors: `Overflow` for -2^63.
 pub fn neg(a: i64) -> Result<i64, Trap>
     ensures { result ≡ negation_of a }
 {
     a.checked_neg().ok_or(Trap::Overflow)
 }
 
-/// The number without its sign, or `Overflow` at the least number.
+/// Returns the absolute value. Errors: `Overflow` for -2^63.
 pub fn abs(a: i64) -> Result<i64, Trap>
     ensures { result ≡ magnitude_of a }
 {

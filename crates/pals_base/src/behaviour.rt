@@ -1,4 +1,4 @@
-//! Behaviours of threads: typed machines whose steps are trees of actions and expressions.
+//! Behaviours of threads: typed state machines whose transitions have guards and actions.
 use crate::basic_types::NoMemory;
 use crate::item_list::ItemList;
 use crate::text::Text;
@@ -29,7 +29,7 @@ pub struct VarDecl {
     pub first: i64,
 }
 
-/// A state. A step begins and ends in complete states.
+/// A state. Each step begins and ends in a complete state.
 #[derive(Drop)]
 pub struct StateDecl {
     pub name: Text,
@@ -58,8 +58,8 @@ pub enum Op {
     OrElse,
 }
 
-/// An expression, with its names resolved to numbers. A number of a variable at or past the number
-/// of variables is a loop variable of a loop round the place, the outermost first.
+/// An expression. Names are resolved to indices. If the index of a variable is not below the number of
+/// variables, it denotes a loop variable: first the one of the outermost enclosing loop.
 #[cycle(expr)]
 pub enum Expr {
     Literal(i64),
@@ -75,7 +75,7 @@ pub enum Expr {
     },
 }
 
-// By hand, so that letting it go is one call in the crates above, and is proved once.
+// Written by hand, so that dropping a value is one call in the crates above, which is proved once.
 impl Drop for Expr {
     #[cycle(expr_drop)]
     fn drop(self) {
@@ -103,22 +103,22 @@ pub struct Operand {
 /// An action of a transition.
 #[cycle(act)]
 pub enum Act {
-    /// Sets a variable.
+    /// Assigns a value to a variable.
     Assign {
         variable: u32,
         value: Expr,
     },
-    /// Sets this step's value of an out port.
+    /// Sends a value at an out port in this step.
     Emit {
         port: u32,
         value: Expr,
     },
-    /// The first branch whose guard is true, or else the actions after them.
+    /// Executes the first branch with a true guard, or the last actions if there is none.
     If {
         branches: Vec<Branch>,
         otherwise: Vec<Act>,
     },
-    /// The body once for each number from `low` to `high`.
+    /// Executes the body once for each number from `low` to `high`.
     For {
         low: i64,
         high: i64,
@@ -126,7 +126,7 @@ pub enum Act {
     },
 }
 
-// By hand, so that letting it go is one call in the crates above, and is proved once.
+// Written by hand, so that dropping a value is one call in the crates above, which is proved once.
 impl Drop for Act {
     #[cycle(act_drop)]
     fn drop(self) {
@@ -157,8 +157,8 @@ pub struct Branch {
     pub acts: Vec<Act>,
 }
 
-/// When a transition is taken: at the dispatch, always (`otherwise` and an empty guard), or where
-/// an expression is true.
+/// The condition of a transition: the dispatch, always (`otherwise` and an empty guard), or an expression that
+/// must be true.
 #[derive(Drop)]
 pub enum Guard {
     Dispatch,
@@ -166,7 +166,7 @@ pub enum Guard {
     When(Expr),
 }
 
-/// A transition between two states, seen by contracts as an edge with its trees.
+/// A transition between two states. Its model is an edge with plain trees.
 #[derive(Drop)]
 pub struct Transition {
     pub source: u32,
@@ -193,8 +193,8 @@ impl Model for Transition {
     } };
 }
 
-/// The parts of a behaviour: its ports, variables and states, the number of its initial state, and
-/// the transitions in the text's order.
+/// The parts of a behaviour: its ports, variables and states, the index of its initial state, and the
+/// transitions in the order of the text.
 pub struct BehaviourParts {
     pub ins: ItemList<PortDecl>,
     pub outs: ItemList<PortDecl>,
@@ -204,7 +204,7 @@ pub struct BehaviourParts {
     pub transitions: ItemList<Transition>,
 }
 
-// By hand, so that letting it go is one call in the crates above, and is proved once.
+// Written by hand, so that dropping a value is one call in the crates above, which is proved once.
 impl Drop for BehaviourParts {
     fn drop(self) {
         let BehaviourParts {
@@ -218,10 +218,10 @@ impl Drop for BehaviourParts {
     }
 }
 
-/// What a thread does, which contracts see as its parts. It is well typed and its loops are short;
-/// one transition at the dispatch leaves each complete state, and from every other state a step can
-/// go on and comes to a complete one, so that each step ends. It never changes, so one behaviour may
-/// be that of many threads, and its parts are kept once.
+/// A behaviour of a thread. Its model is its parts. Invariants: it is well typed and its loops are short;
+/// exactly one transition at the dispatch leaves each complete state; from every other state a step can
+/// proceed, and every path reaches a complete state, so each step ends. A behaviour is immutable, so many
+/// threads can share one, and its parts are stored once.
 pub struct Behaviour {
     parts: Arc<BehaviourParts>,
 }
@@ -254,7 +254,7 @@ impl Behaviour {
     ghost use Rattle.std.specs.Prelude.{◌≡◌, IfOk, length};
     ghost use Rattle.pals_base.specs.BehaviourRules.{IsBehaviour};
 
-    /// The behaviour of these parts.
+    /// Creates a behaviour from parts that satisfy the rules. Errors: out of memory.
     pub fn new(alloc: Global, parts: BehaviourParts) -> Result<Behaviour, NoMemory>
         requires { IsBehaviour parts }
         ensures { IfOk result (λ behaviour. behaviour ≡ parts) }
@@ -264,7 +264,7 @@ impl Behaviour {
         })
     }
 
-    /// All parts at once.
+    /// Returns all parts.
     pub fn parts(&self) -> &BehaviourParts
         ensures value { result.now ≡ self.now }
         ensures rules { IsBehaviour self.now }
@@ -272,7 +272,7 @@ impl Behaviour {
         &self.parts
     }
 
-    /// The in ports, by their numbers.
+    /// Returns the in ports, by index.
     pub fn ins(&self) -> &[PortDecl]
         ensures value { result.now ≡ self.now.ins }
         ensures len { length result.now ≡ length self.now.ins }
@@ -280,7 +280,7 @@ impl Behaviour {
         self.parts.ins.as_slice()
     }
 
-    /// The out ports, by their numbers.
+    /// Returns the out ports, by index.
     pub fn outs(&self) -> &[PortDecl]
         ensures value { result.now ≡ self.now.outs }
         ensures len { length result.now ≡ length self.now.outs }
@@ -288,7 +288,7 @@ impl Behaviour {
         self.parts.outs.as_slice()
     }
 
-    /// The variables, by their numbers.
+    /// Returns the variables, by index.
     pub fn vars(&self) -> &[VarDecl]
         ensures value { result.now ≡ self.now.vars }
         ensures len { length result.now ≡ length self.now.vars }
@@ -296,7 +296,7 @@ impl Behaviour {
         self.parts.vars.as_slice()
     }
 
-    /// The states, by their numbers.
+    /// Returns the states, by index.
     pub fn states(&self) -> &[StateDecl]
         ensures value { result.now ≡ self.now.states }
         ensures len { length result.now ≡ length self.now.states }
@@ -304,14 +304,14 @@ impl Behaviour {
         self.parts.states.as_slice()
     }
 
-    /// The number of the state in which a component starts.
+    /// Returns the index of the initial state.
     pub fn initial(&self) -> u32
         ensures value { result ≡ self.now.initial }
     {
         self.parts.initial
     }
 
-    /// The transitions, in the text's order.
+    /// Returns the transitions in the order of the text.
     pub fn transitions(&self) -> &[Transition]
         ensures value { result.now ≡ self.now.transitions }
         ensures len { length result.now ≡ length self.now.transitions }
@@ -320,7 +320,7 @@ impl Behaviour {
     }
 }
 
-// A copy has the same parts, which are counted once more: it takes no memory.
+// A clone shares the parts and increments their reference count. Does not allocate.
 impl TryClone for Behaviour {
     fn try_clone(&self, _alloc: Global) -> Result<Behaviour, NoMemory> {
         Ok(Behaviour {

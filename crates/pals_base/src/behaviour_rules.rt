@@ -1,4 +1,4 @@
-//! Whether parts keep the rules of a behaviour.
+//! Checks the rules of a behaviour on its parts.
 ghost use Rattle.std.specs.Prelude.{◌≡◌, ◌↔◌, length, IsTrue, IfOk, IfSome, Option, slice_get};
 ghost use Rattle.std.specs.List.{list_all};
 ghost use Rattle.pals_base.specs.proof.TreeViews.{trigger_of};
@@ -21,7 +21,7 @@ use states::{are_marked, has_ways, settled_states};
 use std::alloc::Global;
 
 impl BehaviourParts {
-    /// Whether these are the parts of a behaviour.
+    /// Returns whether the parts satisfy all rules of a behaviour. Errors: out of memory.
     pub fn is_behaviour(&self, alloc: Global) -> Result<bool, NoMemory>
         ensures { IfOk result (λ sound. IsTrue sound ↔ IsBehaviour self.now) }
     {
@@ -35,7 +35,7 @@ impl BehaviourParts {
         )
     }
 
-    // The names of ports, variables and states are words, and differ.
+    // The names of ports, variables and states are words, and distinct.
     fn has_names(&self, alloc: Global) -> Result<bool, NoMemory>
         ensures { IfOk result (λ named. IsTrue named ↔ HasNames self.now) }
     {
@@ -59,7 +59,7 @@ impl BehaviourParts {
         Ok(names)
     }
 
-    // Each variable's first value is of its type.
+    // Each variable's initial value fits its type.
     fn has_firsts(&self) -> bool
         ensures { result ≡ list_all has_first self.now.vars }
     {
@@ -69,7 +69,7 @@ impl BehaviourParts {
             .all(|var| Kinds::of_literal(var.first).allows(var.kind))
     }
 
-    // The initial state is there, and complete.
+    // The initial state is declared and complete.
     fn may_start(&self) -> bool
         ensures { result ≡ may_begin (slice_get self.now.states self.now.initial) }
     {
@@ -79,7 +79,7 @@ impl BehaviourParts {
         }
     }
 
-    // Each transition is sound.
+    // Each transition is well formed.
     fn has_edges(&self) -> Result<bool, NoMemory>
         ensures { IfOk result (λ sound. sound ≡ list_all (is_edge self.now) self.now.transitions) }
     {
@@ -111,7 +111,7 @@ impl BehaviourParts {
         }
     }
 
-    // The right transitions leave each state.
+    // Each state has the outgoing transitions that the rules require.
     #[tactic(auto, using(crate::proofs::UpwardNumbers::upwards_next))]
     fn has_ways(&self) -> bool
         ensures { result ≡ list_all (has_ways self.now) (upwards 0 (length self.now.states)) }
@@ -124,7 +124,7 @@ impl BehaviourParts {
         true
     }
 
-    // No way outside the complete states comes back to where it began: each state settles.
+    // No path outside the complete states returns to its first state: a step from any state ends.
     #[tactic(auto, using(crate::proofs::TransitionWaysAndCycles::marks_tell))]
     fn is_acyclic(&self, alloc: Global) -> Result<bool, NoMemory>
         ensures { IfOk result (λ acyclic. IsTrue acyclic ↔ IsAcyclic self.now) }
@@ -135,7 +135,7 @@ impl BehaviourParts {
 }
 
 impl Behaviour {
-    /// The behaviour of these parts, or none where they do not keep its rules.
+    /// Creates a behaviour from parts, or returns `None` if they violate a rule. Errors: out of memory.
     pub fn try_new(alloc: Global, parts: BehaviourParts) -> Result<Option<Behaviour>, NoMemory>
         ensures some { IfOk result (λ found. IfSome found (λ behaviour. (behaviour ≡ parts) × IsBehaviour parts)) }
         ensures none { IfOk result (λ found. found ≡ Option.None → ¬ IsBehaviour parts) }

@@ -1,4 +1,4 @@
-//! Equality of contents, wherever the values lie in memory. It takes no memory.
+//! Equality of contents, independent of addresses. Does not allocate.
 ghost use Rattle.std.specs.Prelude.{◌≡◌, ◌↔◌, IsTrue};
 
 mod actions;
@@ -10,9 +10,9 @@ mod value_and_frame_equality;
 use crate::behaviour::{Behaviour, BehaviourParts};
 use crate::item_list::ItemList;
 
-/// A type whose values can be told apart by their contents.
+/// A type whose values can be compared by their contents.
 pub trait Same {
-    /// Whether another value has the same contents.
+    /// Returns whether another value has the same contents.
     fn same(&self, other: &Self) -> bool
         ensures { IsTrue result ↔ (self.now ≡ other.now) };
 }

@@ -6,8 +6,8 @@ ghost use Rattle.pals_base.specs.TypingRules.{kinds_of, kinds_along};
 
 use crate::behaviour::{BehaviourParts, Expr, Kind, Op, Operand, PortDecl};
 
-/// The types that a value may have: none where an expression is not well typed, and both for a
-/// number that may stand for a truth value.
+/// The possible types of a value. An ill-typed expression has none. A number that can also denote a Boolean has
+/// both.
 #[derive(Clone, Copy)]
 pub struct Kinds {
     pub integer: bool,
@@ -21,7 +21,7 @@ impl Kinds {
         Kinds { integer, boolean }
     }
 
-    // One type alone.
+    // Exactly one type.
     fn only(kind: Kind) -> Kinds
         ensures { result ≡ only kind }
     {
@@ -31,14 +31,14 @@ impl Kinds {
         }
     }
 
-    // A number is an integer; 0 and 1 may also be false and true.
+    // The types of a literal: a number is an integer; 0 and 1 are also false and true.
     pub(crate) fn of_literal(value: i64) -> Kinds
         ensures { result ≡ literal_kinds value }
     {
         Kinds::new(true, value == 0 || value == 1)
     }
 
-    // Those of a port, none where there is no such port.
+    // The type of a port, or no type if the port does not exist.
     fn of_port(port: Option<&PortDecl>) -> Kinds
         ensures { result ≡ port_kinds (option_copied port.entry) }
     {
@@ -48,7 +48,7 @@ impl Kinds {
         }
     }
 
-    // Whether a value of these types may stand where one of this type is asked for.
+    // Whether a value with these types can be used as a value of this type.
     pub(crate) fn allows(self, kind: Kind) -> bool
         ensures { result ≡ allows self kind }
     {
@@ -58,7 +58,7 @@ impl Kinds {
         }
     }
 
-    // What an operator gives of both sides.
+    // The types of the result of an operator.
     fn joined(self, op: Op, right: Kinds) -> Kinds
         ensures { result ≡ operator_kinds op self right }
     {
@@ -76,7 +76,7 @@ impl Kinds {
 }
 
 impl BehaviourParts {
-    // The types of a variable in sight within `loops` loops.
+    // The types of a variable that is visible within `loops` loops.
     fn variable_kinds(&self, loops: usize, variable: u32) -> Kinds
         ensures { result ≡ variable_kinds self.now loops variable }
     {
@@ -91,8 +91,8 @@ impl BehaviourParts {
 }
 
 impl Expr {
-    /// The types that the expression may have in a behaviour of these parts, within `loops` loops.
-    /// It recurs as deep as the tree is.
+    /// Returns the types that the expression can have in a behaviour with these parts, within `loops` loops.
+    /// The recursion is as deep as the tree.
     #[cycle(kinds_of_expr)]
     pub fn kinds(&self, parts: &BehaviourParts, loops: usize) -> Kinds
         ensures { result ≡ kinds_of (tree_of self.now) parts.now loops }
@@ -112,7 +112,7 @@ impl Expr {
     }
 }
 
-// Those of a chain, from the types of its first operand.
+// The types of a chain, from the types of its first operand.
 #[cycle(kinds_of_expr)]
 fn kinds_along(rest: &[Operand], parts: &BehaviourParts, loops: usize, first: Kinds) -> Kinds
     ensures { result ≡ kinds_along (operands_along rest.now) parts.now loops first }

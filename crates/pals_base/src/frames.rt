@@ -1,5 +1,4 @@
-//! Frames, which components keep between steps: the one that a component starts with, and one
-//! written over.
+//! Frames: the states of components between steps.
 ghost use Rattle.std.specs.Prelude.{◌≡◌, IfOk, map, replicate, pos, length};
 ghost use Rattle.pals_base.specs.SingleStep.{initial};
 
@@ -8,8 +7,8 @@ use crate::behaviour::{Behaviour, VarDecl};
 use crate::item_list::ItemList;
 use std::alloc::Global;
 
-/// What a component keeps from one step to the next: the number of its state, its variables, the
-/// last value that each in port brought, and the trap that halted it, if one did.
+/// A frame: the state of a component between two steps. It consists of the index of the behaviour's state, the
+/// variables, the last present value of each in port, and the trap that halted the component, if any.
 pub struct Frame {
     pub state: u32,
     pub vars: ItemList<i64>,
@@ -17,7 +16,7 @@ pub struct Frame {
     pub halt: Option<Trap>,
 }
 
-// By hand, so that letting it go is one call in the crates above.
+// Written by hand, so that dropping a frame is one call in the crates above.
 impl Drop for Frame {
     fn drop(self) {
         let Frame {
@@ -30,8 +29,8 @@ impl Drop for Frame {
 }
 
 impl Frame {
-    /// The frame that a component of this behaviour starts with: the initial state, the variables'
-    /// first values, and 0 held for each in port.
+    /// Returns the initial frame of a component with this behaviour: the initial state, the variables' initial
+    /// values, and 0 for each in port. Errors: out of memory.
     pub fn initial(alloc: Global, behaviour: &Behaviour) -> Result<Frame, NoMemory>
         ensures { IfOk result (λ frame. frame ≡ initial behaviour.now) }
     {
@@ -43,8 +42,8 @@ impl Frame {
         })
     }
 
-    /// Writes over all of the frame with the contents of another that has as many variables and
-    /// held inputs. It takes no memory.
+    /// Overwrites the frame with the contents of another one. Precondition: both have equally many variables
+    /// and held inputs. Does not allocate.
     pub fn copy_from(&mut self, other: &Frame)
         requires vars { length self.old.vars ≡ length other.now.vars }
         requires held { length self.old.held ≡ length other.now.held }
@@ -57,7 +56,7 @@ impl Frame {
     }
 }
 
-// The variables' first values.
+// The variables' initial values.
 fn first_values(alloc: Global, vars: &[VarDecl]) -> Result<ItemList<i64>, NoMemory>
     ensures { IfOk result (λ values. values ≡ map (λ v. v.first) vars.now) }
 {

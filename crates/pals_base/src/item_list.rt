@@ -1,4 +1,4 @@
-//! Lists that contracts see without their place in memory.
+//! Lists whose model is the list of their items, without addresses.
 ghost use Rattle.std.specs.Prelude.{◌≡◌, ◌<◌, [], ◌∷◌, ◌++◌, length, IfOk, OnOk, OnErr, slice_get, slice_set};
 ghost use Rattle.std.specs.Prelude.{slice_index_or, option_copied, ◌==◌};
 ghost use Rattle.std.specs.Slice.Iter.{iter_rest};
@@ -11,8 +11,8 @@ use std::marker::Model;
 use std::ops::{Index, IndexMut};
 use std::slice::Iter;
 
-/// ItemList in order. Contracts see the list of them, so two are equal exactly where they have equal
-/// items, wherever these lie in memory.
+/// A list of items. Its model is the list of the items' models, so two lists are equal if and only if they have
+/// equal items, wherever these are stored.
 #[derive(Drop)]
 pub struct ItemList<T> {
     items: Vec<T>,
@@ -27,7 +27,7 @@ impl<T> Model for ItemList<T> {
 }
 
 impl<T> ItemList<T> {
-    /// An empty list. It takes no memory.
+    /// Returns an empty list. Does not allocate.
     pub fn new(alloc: Global) -> ItemList<T>
         ensures { result ≡ [] }
     {
@@ -36,35 +36,35 @@ impl<T> ItemList<T> {
         }
     }
 
-    /// The items of a vector.
+    /// Converts a vector into a list.
     pub fn from_vec(items: Vec<T>) -> ItemList<T>
         ensures { result ≡ items.items }
     {
         ItemList { items }
     }
 
-    /// The items as a vector.
+    /// Converts the list into a vector.
     pub fn into_vec(self) -> Vec<T>
         ensures { result.items ≡ self }
     {
         self.items
     }
 
-    /// How many items there are.
+    /// Returns the number of items.
     pub fn len(&self) -> usize
         ensures { result ≡ length self.now }
     {
         self.items.len()
     }
 
-    /// Whether there are none.
+    /// Returns whether the list is empty.
     pub fn is_empty(&self) -> bool
         ensures { result ≡ (length self.now == 0) }
     {
         self.items.is_empty()
     }
 
-    /// The items as a slice.
+    /// Returns the items as a slice.
     pub fn as_slice(&self) -> &[T]
         ensures value { result.now ≡ self.now }
         ensures len { length result.now ≡ length self.now }
@@ -72,7 +72,7 @@ impl<T> ItemList<T> {
         self.items.as_slice()
     }
 
-    /// The items in order.
+    /// Iterates over the items in order.
     pub fn iter(&self) -> Iter<'_, T>
         ensures rest { iter_rest result ≡ self.now }
         ensures runs { IterYieldsInOrder T }
@@ -80,7 +80,7 @@ impl<T> ItemList<T> {
         self.items.as_slice().iter()
     }
 
-    /// The item at a place, or none past the end.
+    /// Returns the item at an index, or `None` past the end.
     pub fn get(&self, at: usize) -> Option<&T>
         ensures { option_copied result ≡ slice_get self.now at }
     {
@@ -89,7 +89,7 @@ impl<T> ItemList<T> {
 }
 
 impl<T: Drop> ItemList<T> {
-    /// Adds an item at the end. If there is not enough memory, nothing changes.
+    /// Appends an item. Errors: out of memory; the list is unchanged then.
     pub fn push(&mut self, item: T) -> Result<(), AllocError>
         ensures ok { OnOk result (self.new ≡ self.old ++ item ∷ []) }
         ensures err { OnErr result (self.new ≡ self.old) }
@@ -98,7 +98,7 @@ impl<T: Drop> ItemList<T> {
         Ok(())
     }
 
-    /// Puts an item in the place of another.
+    /// Replaces the item at an index.
     pub fn set(&mut self, at: usize, item: T)
         requires { at < length self.old }
         ensures { self.new ≡ slice_set self.old at item }
@@ -108,7 +108,7 @@ impl<T: Drop> ItemList<T> {
 }
 
 impl<T: Copy> ItemList<T> {
-    /// The items of a slice.
+    /// Copies a slice into a new list. Errors: out of memory.
     pub fn from_slice(alloc: Global, items: &[T]) -> Result<ItemList<T>, AllocError>
         ensures { IfOk result (λ list. list ≡ items.now) }
     {
@@ -117,7 +117,7 @@ impl<T: Copy> ItemList<T> {
         })
     }
 
-    /// Writes over all items with those of a slice of the same length. It takes no memory.
+    /// Overwrites all items with the items of a slice of the same length. Does not allocate.
     pub fn copy_from_slice(&mut self, items: &[T])
         requires { length self.old ≡ length items.now }
         ensures { self.new ≡ items.now }

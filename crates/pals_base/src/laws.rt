@@ -1,5 +1,4 @@
-//! Laws above the definitions that contracts cite. Each function does nothing: its contract is
-//! the law.
+//! Laws about the definitions that contracts cite. Each law is the contract of a function that does nothing.
 
 mod arithmetic;
 mod clocks;

@@ -1,5 +1,9 @@
-//! What all other crates share: values of ports, arithmetic with traps, behaviours, and what they
-//! mean. The definitions that contracts cite stand in `specs/`.
+//! The foundation of all other crates: port values, arithmetic with traps, behaviours and their semantics,
+//! adaptors, the period bound, and the limits of designs.
+//!
+//! Each function is proved equal to its definition in `specs/`, which contracts of all crates cite. The laws
+//! state, among others, that each step of a well-formed behaviour ends in a complete state, and that a halted
+//! component remains halted. The crate knows neither components nor links, and reads no text.
 #![tactic(auto)]
 
 pub mod allowed_adaptors;

@@ -11,14 +11,14 @@ use crate::text::Text;
 use crate::try_clone::TryClone;
 use std::alloc::Global;
 
-/// What has a name.
+/// An item with a name.
 pub trait HasName {
     ghost use Rattle.std.specs.Prelude.{ℕ, List};
 
     // The bytes of the name.
     ghost name_of: { Self → List ℕ };
 
-    /// The name.
+    /// Returns the name.
     fn name(&self) -> &Text
         ensures { result.now ≡ name_of self.now };
 }
@@ -55,28 +55,28 @@ fn is_led_by_letter(name: &[u8]) -> bool
     }
 }
 
-// Whether each byte may stand in a word.
+// Whether each byte can occur in a word.
 fn has_word_bytes(name: &[u8]) -> bool
     ensures { result ≡ list_all is_word_byte name.now }
 {
     name.iter().all(|byte| is_word_byte(*byte))
 }
 
-/// Whether a name is a word: a letter and then letters, digits and `_`, at most 64 bytes.
+/// Returns whether a name is a word: a letter followed by letters, digits and `_`, at most 64 bytes in total.
 pub fn is_word(name: &[u8]) -> bool
     ensures { result ≡ is_word name.now }
 {
     name.len() <= NAME_BYTES && is_led_by_letter(name) && has_word_bytes(name)
 }
 
-/// Whether each of these has a word for a name.
+/// Returns whether the name of each item is a word.
 pub fn are_words<T: HasName>(items: &[T]) -> bool
     ensures { result ≡ list_all (λ item. is_word (T.name_of item)) items.now }
 {
     items.iter().all(|item| is_word(item.name().as_bytes()))
 }
 
-// Whether none of these has a name.
+// Whether no item has this name.
 fn is_new<T: HasName>(name: &Text, others: &[T]) -> bool
     ensures { IsTrue result ↔ All (λ other. name.now ≢ T.name_of other) others.now }
 {
@@ -85,7 +85,7 @@ fn is_new<T: HasName>(name: &Text, others: &[T]) -> bool
         .all(|other| name.as_bytes() != other.name().as_bytes())
 }
 
-/// Whether no two of these have the same name. It compares each two.
+/// Returns whether the names are pairwise distinct. Compares each pair, which takes quadratic time.
 pub fn are_distinct<T: HasName>(items: &[T]) -> bool
     ensures { IsTrue result ↔ AllPairs (λ a b. T.name_of a ≢ T.name_of b) items.now }
 {
@@ -97,7 +97,7 @@ pub fn are_distinct<T: HasName>(items: &[T]) -> bool
     true
 }
 
-/// Adds the names of these behind others.
+/// Appends the names of these items to a list. Errors: out of memory.
 pub fn add_names<T: HasName>(
     alloc: Global,
     names: &mut ItemList<Text>,

@@ -1,12 +1,12 @@
-//! The least period that the bounds allow, and when in a round a node may send which of its steps. All times are
-//! nanoseconds. The calls are exact at any numbers and take no memory.
+//! The minimum period that the bounds allow, and the times in a round at which a node may send each step's
+//! outputs. All times are nanoseconds. The results are exact for all arguments. The functions do not allocate.
 ghost use Rattle.std.specs.Prelude.{◌≡◌, ◌/◌};
 ghost use Rattle.pals_base.specs.PeriodBoundAndReleases.{backoff, least_period, step_period, sent_steps, release_offset};
 
 use crate::basic_types::Nanos;
 
-/// The bounds of a system, in nanoseconds: how far a clock may be from the time (less than `eps`),
-/// how long a step executes, and how long a message is under way.
+/// The timing bounds of a system, in nanoseconds: the deviation of a clock from the time (below `eps`), the
+/// execution time of a step, and the delay of a message.
 #[derive(Clone, Copy, PartialEq)]
 pub struct Gamma {
     pub eps: Nanos,
@@ -17,15 +17,15 @@ pub struct Gamma {
 }
 
 impl Gamma {
-    /// How long a node waits with its outputs, so that none arrives before its target's round
-    /// begins.
+    /// Returns the output backoff: how long a node delays its outputs, so that none arrives before its target's
+    /// round begins.
     pub fn backoff(&self) -> u128
         ensures { result ≡ backoff self.now }
     {
         (2 * u128::from(self.eps)).saturating_sub(u128::from(self.mu_min))
     }
 
-    /// The least period that the bound allows where `rate` is the greatest rate.
+    /// Returns the minimum period that the bounds allow if `rate` is the maximum rate.
     pub fn least_period(&self, rate: u32) -> u128
         ensures { result ≡ least_period self.now rate }
     {
@@ -36,7 +36,8 @@ impl Gamma {
         round.max(u128::from(rate) * execution)
     }
 
-    /// How many of its `rate` steps in a round of `t` end in time for a message to carry them.
+    /// Returns how many of the `rate` steps in a round of `t` end early enough for the round's message to carry
+    /// their outputs.
     pub fn sent_steps(&self, t: Nanos, rate: u32) -> u32
         ensures { result ≡ sent_steps self.now t rate }
     {
@@ -48,8 +49,7 @@ impl Gamma {
         u64::from(rate).min(later.saturating_add(1)) as u32
     }
 
-    /// How long after its alarm a component that makes `rate` steps in a round of `t` may send its
-    /// outputs.
+    /// Returns how long after its alarm a component with `rate` steps in a round of `t` may send its outputs.
     pub fn release_offset(&self, t: Nanos, rate: u32) -> u128
         ensures { result ≡ release_offset self.now t rate }
     {
@@ -58,15 +58,15 @@ impl Gamma {
     }
 }
 
-/// The time from one step to the next of a component that makes `rate` steps in a round of `t`, 0
-/// where it makes none.
+/// Returns the time between consecutive steps of a component with `rate` steps in a round of `t`, or 0 if the
+/// rate is 0.
 pub fn step_period(t: Nanos, rate: u32) -> Nanos
     ensures { result ≡ step_period t rate }
 {
     quotient(t, u64::from(rate))
 }
 
-// The quotient, which is 0 at a divisor of 0.
+// The quotient, or 0 if the divisor is 0.
 fn quotient(time: Nanos, divisor: u64) -> u64
     ensures { result ≡ time / divisor }
 {

@@ -1,4 +1,4 @@
-//! Text that contracts see as its bytes.
+//! Texts whose model is their bytes.
 ghost use Rattle.std.specs.Prelude.{◌≡◌, IfOk, length, string_bytes};
 
 use std::alloc::{AllocError, Global};
@@ -7,7 +7,7 @@ use std::fmt;
 use std::hash::{Hash, Hasher};
 use std::marker::Model;
 
-/// A text, as a name, a path or a word. Contracts see its bytes.
+/// A text, for example a name, a path or a word. Its model is its bytes.
 #[derive(Drop)]
 pub struct Text {
     text: String,
@@ -22,14 +22,14 @@ impl Model for Text {
 }
 
 impl Text {
-    /// The text of a string.
+    /// Converts a string into a text.
     pub fn new(text: String) -> Text
         ensures { result ≡ string_bytes text }
     {
         Text { text }
     }
 
-    /// A copy of a text.
+    /// Copies a string slice into a new text. Errors: out of memory.
     pub fn from_str(alloc: Global, text: &str) -> Result<Text, AllocError>
         ensures { IfOk result (λ t. t ≡ text.now) }
     {
@@ -38,14 +38,14 @@ impl Text {
         })
     }
 
-    /// The text as a `str`.
+    /// Returns the text as a `str`.
     pub fn as_str(&self) -> &str
         ensures { result.now ≡ self.now }
     {
         self.text.as_str()
     }
 
-    /// The text's bytes.
+    /// Returns the bytes of the text.
     pub fn as_bytes(&self) -> &[u8]
         ensures value { result.now ≡ self.now }
         ensures len { length result.now ≡ length self.now }
@@ -102,7 +102,7 @@ impl Hash for Text {
     }
 }
 
-/// The order of the bytes.
+/// The lexicographic order of the bytes.
 impl Ord for Text {
     ghost use Rattle.std.specs.Prelude.{refl};
     ghost use Rattle.std.specs.Ordering.{nat_cmp};

@@ -7,9 +7,9 @@ use crate::basic_types::NoMemory;
 use crate::item_list::ItemList;
 use std::alloc::Global;
 
-/// A type whose values can be copied if there is enough memory.
+/// A type whose values can be cloned if memory suffices.
 pub trait TryClone {
-    /// Another value with the same contents. What never changes may be kept once for both.
+    /// Returns a value with the same contents. Immutable contents may be shared. Errors: out of memory.
     fn try_clone(&self, alloc: Global) -> Result<Self, NoMemory>
         ensures { IfOk result (λ copy. copy ≡ self.now) };
 }

@@ -10,7 +10,7 @@ use std::alloc::Global;
 /// The values of a port over the steps of a round.
 pub type Tuple = ItemList<PortValue>;
 
-/// The place with a number, from 0, absent past the end.
+/// Returns the value at an index, or `Absent` past the end.
 pub fn place(tuple: &[PortValue], at: usize) -> PortValue
     ensures { result ≡ slice_index_or tuple.now at Absent }
 {
@@ -21,14 +21,14 @@ pub fn place(tuple: &[PortValue], at: usize) -> PortValue
     }
 }
 
-/// A tuple without values.
+/// Returns a tuple of absent values. Errors: out of memory.
 pub fn absent(alloc: Global, places: usize) -> Result<Tuple, NoMemory>
     ensures { IfOk result (λ tuple. tuple ≡ replicate places Absent) }
 {
     Ok(ItemList::from_vec(vec![in alloc; PortValue::Absent; places]?))
 }
 
-/// A tuple with every place after its first `count` absent.
+/// Returns a copy of a tuple in which all values after the first `count` are absent. Errors: out of memory.
 pub fn cut(alloc: Global, count: usize, tuple: &[PortValue]) -> Result<Tuple, NoMemory>
     ensures { IfOk result (λ t. t ≡ cut count tuple.now) }
 {
@@ -41,7 +41,7 @@ pub fn cut(alloc: Global, count: usize, tuple: &[PortValue]) -> Result<Tuple, No
     Ok(ItemList::from_vec(places))
 }
 
-/// The place with a number of each tuple.
+/// Returns the value at an index of each tuple. Errors: out of memory.
 pub fn column(alloc: Global, at: usize, tuples: &[Tuple]) -> Result<Tuple, NoMemory>
     ensures { IfOk result (λ c. c ≡ column at tuples.now) }
 {

@@ -1,4 +1,4 @@
--- For `read_all` and `write_all`: what a source gave, and what a sink took, in several calls.
+-- For `read_all` and `write_all`: the bytes that several calls consumed or wrote.
 use Rattle.std.proofs.Common.{◌≡◌, ◌↔◌, ℕ, ◌+◌, ◌<◌, ◌≤◌, List, [], ◌++◌, length, take, drop, Option, Some, None, refl}
 use Rattle.std.proofs.Common.{sym, ap, ◌∙◌, subst, append_assoc, arith, length-append, length-drop}
 use Rattle.std.specs.Prelude.{IfSome, option_map}
@@ -23,20 +23,20 @@ after_giving-more source m n = ap (λ o. record source { left = o }) (more_gone 
     more_gone None = refl
     more_gone (Some left) = ap Some (drop-drop n m left)
 
--- these bytes are the first that were left
+-- these bytes are a prefix of the remaining ones
 abbrev pub IsFront : List ℕ → List ℕ → Type 0
 IsFront got left = (got ≡ take (length got) left) × (length got ≤ length left)
 
--- the first n bytes that were left are at the front of the buffer
+-- the first n remaining bytes are at the front of the buffer
 abbrev IsNext : List ℕ → ℕ → List ℕ → Type 0
 IsNext buf n left = (n ≤ length left) × (take n buf ≡ take n left) × ((n ≡ 0) ↔ (left ≡ []))
 
--- these bytes are the first that were left, and are gone
+-- these bytes are a prefix of the remaining ones, and are consumed
 pub record GivesFirst (before after : SourceView) (got : List ℕ) : Type 0 where
   pub view : after ≡ after_giving before (length got)
   pub bytes : IfSome before.left (IsFront got)
 
--- nothing is gone at first
+-- initially no byte is consumed
 pub first_nothing : (source : SourceView) → GivesFirst source source []
 first_nothing source = record { view = after_giving-nil source; bytes = nothing source.left }
   where
@@ -44,19 +44,19 @@ first_nothing source = record { view = after_giving-nil source; bytes = nothing 
     nothing None = tt
     nothing (Some left) = (refl, omega arith)
 
--- a call gives the next bytes, seen from before those that came first
+-- a call provides the next bytes after the ones already consumed
 from_first : (first mid last : SourceView) (got buf : List ℕ) (n : ℕ) → GivesFirst first mid got → Gives mid last buf n
     → Gives (after_giving first (length got)) last buf n
 from_first first mid last got buf n before given = subst (λ m. Gives m last buf n) before.view given
 
--- the bytes that are gone after a call more
+-- the bytes consumed after one more call
 gone_more : (first mid last : SourceView) (got buf : List ℕ) (n count : ℕ) → GivesFirst first mid got
     → Gives mid last buf n → length got + n ≡ count → last ≡ after_giving first count
 gone_more first mid last got buf n count before given sum =
     (from_first first mid last got buf n before given).view ∙ after_giving-more first (length got) n
     ∙ ap (after_giving first) sum
 
--- a call gives the next bytes, which are copied from a longer buffer
+-- a call provides the next bytes, which are copied from a longer buffer
 pub first_kept : (first mid last : SourceView) (got buf rest kept : List ℕ) (n : ℕ) → GivesFirst first mid got
     → Gives mid last buf n → n ≤ length buf → kept ≡ got ++ take n (buf ++ rest) → GivesFirst first last kept
 first_kept first mid last got buf rest kept n before given within same =
@@ -80,7 +80,7 @@ first_kept first mid last got buf rest kept n before given within same =
       omega (arith, count, front.1, next.0, length-drop (length got) left),
     )
 
--- a call that gives nothing comes when all was given
+-- a call that provides nothing follows the last byte
 pub first_all : (first mid last : SourceView) (got buf : List ℕ) (n : ℕ) → GivesFirst first mid got
     → Gives mid last buf n → n ≡ 0 → GivesAll first last got
 first_all first mid last got buf n before given none = record {
@@ -94,7 +94,7 @@ first_all first mid last got buf n before given none = record {
     whole (Some left) front next =
         front.0 ∙ take_all (length got) left (omega (arith, ap length (next.2.0 none), length-drop (length got) left))
 
--- a call that gives one byte past the limit
+-- a call that provides one byte past the limit
 pub first_too_many : (first mid last : SourceView) (got buf : List ℕ) (n most : ℕ) → GivesFirst first mid got
     → Gives mid last buf n → length got + n ≡ most + 1 → GivesTooMany first last most
 first_too_many first mid last got buf n most before given sum = record {
@@ -107,7 +107,7 @@ first_too_many first mid last got buf n most before given sum = record {
     past None front next = tt
     past (Some left) front next = omega (arith, sum, front.1, next.0, length-drop (length got) left)
 
--- what was given so far, and a call more, within the limit
+-- the bytes consumed so far, and by one more call, within the limit
 pub first_within : (first mid last : SourceView) (got buf : List ℕ) (n most : ℕ) → GivesFirst first mid got
     → Gives mid last buf n → length got + n ≤ most → GivesWithin first last most
 first_within first mid last got buf n most before given small = record {
@@ -116,7 +116,7 @@ first_within first mid last got buf n most before given small = record {
   view = gone_more first mid last got buf n (length got + n) before given refl;
 }
 
--- what was given so far, within the limit, and then a failed call
+-- the bytes consumed so far, within the limit, and then a failed call
 pub first_failed : (first mid last : SourceView) (got : List ℕ) (most : ℕ) → GivesFirst first mid got
     → last ≡ after_read_fault mid → length got ≤ most → FailsWithin first last most
 first_failed first mid last got most before failed small = record {
@@ -126,7 +126,7 @@ first_failed first mid last got most before failed small = record {
 }
 
 -- ---- sinks
--- a call takes the next bytes
+-- a call accepts the next bytes
 pub after_taking-more : (first mid last : SinkView) (bytes piece : List ℕ) (done n : ℕ)
     → mid ≡ after_taking first (take done bytes) → last ≡ after_taking mid (take n piece)
     → take n piece ≡ take n (drop done bytes) → last ≡ after_taking first (take (done + n) bytes)

@@ -1,9 +1,10 @@
-//! Where bytes come from and where they go.
+//! Sources and sinks of bytes.
 //!
-//! A [`Source`] gives bytes and a [`Sink`] takes them. Each counts its faults, so that whoever is
-//! told of a failed call can see its cause. [`read_all`] and [`write_all`] work over any of them.
-//! [`MemSource`] and [`MemSink`] are in memory and fail where they are told to; [`ReadSource`] and
-//! [`WriteSink`] stand over std's readers and writers.
+//! A [`Source`] provides bytes and a [`Sink`] accepts them. Each counts its failed calls, so that a caller can
+//! determine the cause of an error. [`read_all`] and [`write_all`] work for every source and sink: their
+//! contracts state which bytes were consumed and written, also if a call fails. [`MemSource`] and [`MemSink`]
+//! are in memory and fail at calls of the test's choice; [`ReadSource`] and [`WriteSink`] wrap the readers and
+//! writers of std. The crate never repeats a failed call and never flushes a writer.
 #![tactic(auto)]
 
 mod memory_sink;

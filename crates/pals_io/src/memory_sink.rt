@@ -8,7 +8,7 @@ use super::streams::Sink;
 use std::alloc::{AllocError, Global};
 use std::marker::Model;
 
-/// A sink that keeps what it took, up to its room, and fails at the calls that it was told.
+/// A sink that stores the accepted bytes, up to its capacity, and fails at given calls.
 #[derive(Drop)]
 pub struct MemSink {
     bytes: Vec<u8>,
@@ -38,13 +38,12 @@ impl Model for MemSink {
 }
 
 impl MemSink {
-    /// An empty sink that holds at most `room` bytes and takes at most `most` of them per call. The
-    /// calls fail whose numbers, counted from 1, are among `failing`, and those that find no room.
+    /// Creates an empty sink that stores at most `room` bytes and accepts at most `most` of them in a call. A
+    /// call fails if its number, counted from 1, is in `failing`, or if the sink is full.
     ///
     /// # Errors
     ///
-    /// [`AllocError`] if there is not enough memory for the room. It is taken here, and writing
-    /// takes no memory.
+    /// [`AllocError`] if there is not enough memory for the capacity. Writing does not allocate.
     pub fn new(
         alloc: Global,
         room: usize,
@@ -72,7 +71,7 @@ impl MemSink {
         })
     }
 
-    /// All bytes that it took, in order.
+    /// Returns all accepted bytes, in order.
     pub fn taken(&self) -> &[u8]
         ensures { result.now ≡ self.now.held }
     {
@@ -87,8 +86,8 @@ impl Sink for MemSink {
         requires { 0 < length piece.now }
         ensures bound { IfOk result (λ n. (0 < n) × (n ≤ length piece.now)) }
 
-        // It fails exactly at the calls that it was told and where no room is left, and else takes
-        // as much as it can.
+        // It fails if and only if its number is given or the sink is full, and otherwise accepts as many bytes
+        // as possible.
         ensures fails { IsErr result ↔ (Contains self.old.failing (one_more self.old.calls)
             ⊎ (self.old.room ≤ length self.old.held)) }
         ensures count { IfOk result (λ n. n ≡ count_taken self.old (length piece.now)) }

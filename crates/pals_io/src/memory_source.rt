@@ -8,7 +8,7 @@ use super::stream_errors::Failed;
 use super::streams::Source;
 use std::marker::Model;
 
-/// A source that gives the bytes it was made with, and fails at the calls that it was told.
+/// A source that provides the bytes that it was created with, and fails at given calls.
 #[derive(Drop)]
 pub struct MemSource {
     bytes: Vec<u8>,
@@ -37,8 +37,8 @@ impl Model for MemSource {
 }
 
 impl MemSource {
-    /// A source of these bytes that gives at most `most` of them per call. The calls fail whose
-    /// numbers, counted from 1, are among `failing`.
+    /// Creates a source of these bytes that provides at most `most` of them in a call. A call fails if its
+    /// number, counted from 1, is in `failing`.
     pub fn new(bytes: Vec<u8>, most: usize, failing: Vec<u64>) -> MemSource
         requires { 0 < most }
         ensures { result ≡ record { left = bytes.items; most = most; failing = failing.items; calls = 0; faults = 0 } }
@@ -62,7 +62,7 @@ impl Source for MemSource {
         ensures bound { IfOk result (λ n. n ≤ length buf.new) }
         ensures end { IfOk result (λ n. (n ≡ 0) ↔ (self.old.left ≡ [])) }
 
-        // It fails exactly at the calls that it was told, and else gives as much as it can.
+        // It fails if and only if its number is given, and otherwise provides as many bytes as possible.
         ensures fails { IsErr result ↔ Contains self.old.failing (one_more self.old.calls) }
         ensures count { IfOk result (λ n. n ≡ count_given self.old (length buf.old)) }
         ensures given { IfOk result (λ n. self.new ≡ after_giving self.old n) }

@@ -1,4 +1,4 @@
-//! A source over a reader of std.
+//! A source that wraps a reader of std.
 ghost use Rattle.std.specs.Prelude.{◌≡◌, ◌<◌, ◌≤◌, length, None, IfOk, OnOk, OnErr};
 ghost use Rattle.std.specs.Io.KnownBytes.{ReadConsumes};
 ghost use Rattle.pals_io.specs.SourcesAndSinks.{one_more};
@@ -8,8 +8,8 @@ use super::streams::Source;
 use std::io::Read;
 use std::marker::Model;
 
-/// A source over a reader. It tells no bytes, and its faults are the reader's errors. Contracts see
-/// the reader and the count.
+/// A source that wraps a reader. It does not expose its bytes, and its failed calls are the reader's errors.
+/// Its model is the reader and the count.
 #[derive(Drop)]
 pub struct ReadSource<R> {
     reader: R,
@@ -25,7 +25,7 @@ impl<R> Model for ReadSource<R> {
 }
 
 impl<R> ReadSource<R> {
-    /// A source of what the reader has left.
+    /// Creates a source of the reader's remaining bytes.
     pub fn new(reader: R) -> ReadSource<R>
         ensures { result ≡ record { inner = reader; faults = 0 } }
     {
@@ -40,7 +40,8 @@ impl<R: Read> Source for ReadSource<R> {
         requires { 0 < length buf.old }
         ensures bound { IfOk result (λ n. n ≤ length buf.new) }
 
-        // A reader that tells its bytes gives them. Each of its errors counts, and nothing else.
+        // The source provides the bytes of a reader that exposes them. The count increases by one for each
+        // error of the reader, and does not change otherwise.
         ensures passed { ReadConsumes (R.remaining self.old.inner) (R.remaining self.new.inner) result buf.new }
         ensures uncounted { OnOk result (self.new.faults ≡ self.old.faults) }
         ensures counted { OnErr result (self.new.faults ≡ one_more self.old.faults) }

@@ -1,4 +1,4 @@
-//! How a call ends that does not succeed.
+//! The errors of calls.
 ghost use Rattle.std.specs.Prelude.{◌≡◌};
 ghost use Rattle.pals_io.specs.declared.stream_errors.ReadEnd.TheVariants.{ReadFault, Memory};
 
@@ -6,22 +6,22 @@ use std::alloc::AllocError;
 use std::error::Error;
 use std::fmt;
 
-/// A call of a source or of a sink failed. The count of its faults has the cause.
+/// A failed call of a source or of a sink. The count of failed calls distinguishes its cause.
 #[derive(Clone, Copy, Debug, PartialEq)]
 pub struct Failed;
 
-/// Why not all bytes of a source were read.
+/// The reason why the bytes of a source were not all read.
 #[derive(Clone, Copy, Debug, PartialEq)]
 pub enum ReadEnd {
     /// A call of the source failed.
     ReadFault,
-    /// There are more bytes than the caller allows.
+    /// The source has more bytes than the caller allows.
     TooLong,
-    /// There was not enough memory.
+    /// Out of memory.
     Memory,
 }
 
-/// Not all bytes were written, since a call of the sink failed.
+/// A call of the sink failed, so not all bytes were written.
 #[derive(Clone, Copy, Debug)]
 pub struct WriteFault;
 

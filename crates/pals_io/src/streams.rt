@@ -1,4 +1,4 @@
-//! Sources, which give bytes, and sinks, which take them.
+//! Sources, which provide bytes, and sinks, which accept them.
 ghost use Rattle.std.specs.Prelude.{◌≡◌, ◌<◌, ◌≤◌, length, take, IfOk, OnErr};
 ghost use Rattle.pals_io.specs.SourcesAndSinks.{SourceView, SinkView, Gives, after_read_fault, after_taking};
 ghost use Rattle.pals_io.specs.SourcesAndSinks.{after_write_fault};
@@ -7,16 +7,16 @@ use super::stream_errors::Failed;
 
 /// A source of bytes.
 pub trait Source {
-    // The bytes that are left, where the source tells them, and the count of its faults.
+    // The remaining bytes, if the source exposes them, and the count of its failed calls.
     ghost shown: { Self → SourceView };
 
-    /// Moves the first bytes that are left to the front of the buffer, which is not empty, and
-    /// returns how many these are: 0 exactly at the end. The count of faults stays.
+    /// Moves the first remaining bytes to the front of the buffer, which is not empty, and returns their
+    /// number, which is 0 if and only if no byte remains. The count of failed calls is unchanged.
     ///
     /// # Errors
     ///
-    /// [`Failed`] where the call failed, which is one fault more. The bytes left are then as before,
-    /// and the buffer holds anything.
+    /// [`Failed`] if the call failed, which increases the count by one. The remaining bytes are then unchanged,
+    /// and the content of the buffer is unspecified.
     fn read(&mut self, buf: &mut [u8]) -> Result<usize, Failed>
         requires { 0 < length buf.old }
         ensures bound { IfOk result (λ n. n ≤ length buf.new) }
@@ -24,17 +24,17 @@ pub trait Source {
         ensures failed { OnErr result (shown self.new ≡ after_read_fault (shown self.old)) };
 }
 
-/// What takes bytes.
+/// A sink of bytes.
 pub trait Sink {
-    // The bytes that the sink took, where it tells them, and the count of its faults.
+    // The accepted bytes, if the sink exposes them, and the count of its failed calls.
     ghost shown: { Self → SinkView };
 
-    /// Takes the first bytes of the piece, which is not empty, and returns how many: at least 1. The
-    /// count of faults stays.
+    /// Accepts the first bytes of the piece, which is not empty, and returns their number, which is at least 1.
+    /// The count of failed calls is unchanged.
     ///
     /// # Errors
     ///
-    /// [`Failed`] where the call failed, which is one fault more. Nothing was taken then.
+    /// [`Failed`] if the call failed, which increases the count by one. The sink then accepted nothing.
     fn write(&mut self, piece: &[u8]) -> Result<usize, Failed>
         requires { 0 < length piece.now }
         ensures bound { IfOk result (λ n. (0 < n) × (n ≤ length piece.now)) }

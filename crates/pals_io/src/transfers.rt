@@ -1,4 +1,4 @@
-//! All bytes of a source, and all bytes to a sink.
+//! Reads all bytes of a source, and writes all bytes to a sink.
 ghost use Rattle.std.specs.Prelude.{◌≡◌, ◌≤◌, [], vec_len, Err, IfOk, OnOk, OnErr};
 ghost use Rattle.pals_io.specs.SourcesAndSinks.{GivesAll, GivesWithin, GivesTooMany, FailsWithin, after_taking};
 ghost use Rattle.pals_io.specs.SourcesAndSinks.{TakesPart};
@@ -7,17 +7,17 @@ use super::stream_errors::{ReadEnd, WriteFault};
 use super::streams::{Sink, Source};
 use std::alloc::{AllocError, Global};
 
-// How many bytes a source is asked for at a time. They are cleared once: for a small bundle, more of them would be a
-// tenth of all that `check` does.
+// The number of bytes to read in one call. They are cleared once: for a small bundle, clearing more of them
+// would take a tenth of the time of `check`.
 const PIECE: usize = 8_192;
 
-/// Reads a source to its end, where it has at most `most` bytes left.
+/// Reads a source to its end, if at most `most` bytes remain.
 ///
 /// # Errors
 ///
-/// [`ReadEnd::ReadFault`] where a call failed, the last one, and [`ReadEnd::TooLong`] where the
-/// source gave `most + 1` bytes. [`ReadEnd::Memory`] if there is not enough memory: no call failed
-/// then, and the source gave no more than `most` bytes. What was read until then is lost.
+/// [`ReadEnd::ReadFault`] if a call failed, which is the last one, and [`ReadEnd::TooLong`] if the source
+/// provided `most + 1` bytes. [`ReadEnd::Memory`] if there is not enough memory: then no call failed, and the
+/// source provided at most `most` bytes. The bytes read until then are lost.
 pub fn read_all<S: Source>(alloc: Global, source: &mut S, most: usize) -> Result<Vec<u8>, ReadEnd>
     ensures all { IfOk result (λ v. GivesAll (S.shown source.old) (S.shown source.new) v.items) }
     ensures within { IfOk result (λ v. vec_len v ≤ most) }
@@ -42,18 +42,18 @@ pub fn read_all<S: Source>(alloc: Global, source: &mut S, most: usize) -> Result
     }
 }
 
-// `count` bytes, to be written over.
+// `count` bytes, which will be overwritten.
 fn zeros(alloc: Global, count: usize) -> Result<Vec<u8>, AllocError>
     ensures { IfOk result (λ v. vec_len v ≡ count) }
 {
     vec![in alloc; 0u8; count]
 }
 
-/// Writes all bytes, in order. It takes no memory. For an empty slice it makes no call.
+/// Writes all bytes, in order. Does not allocate. Makes no call for an empty slice.
 ///
 /// # Errors
 ///
-/// [`WriteFault`] where a call failed, the last one. Some first bytes were written, and not all.
+/// [`WriteFault`] if a call failed, which is the last one. A proper prefix of the bytes was then written.
 pub fn write_all<K: Sink>(sink: &mut K, bytes: &[u8]) -> Result<(), WriteFault>
     ensures all { OnOk result (K.shown sink.new ≡ after_taking (K.shown sink.old) bytes.now) }
     ensures part { OnErr result (TakesPart (K.shown sink.old) (K.shown sink.new) bytes.now) }

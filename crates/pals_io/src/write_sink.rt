@@ -1,4 +1,4 @@
-//! A sink over a writer of std.
+//! A sink that wraps a writer of std.
 ghost use Rattle.std.specs.Prelude.{◌≡◌, ◌<◌, ◌≤◌, length, None, IfOk, OnOk, OnErr};
 ghost use Rattle.std.specs.Io.KnownBytes.{WriteAppends};
 ghost use Rattle.pals_io.specs.SourcesAndSinks.{one_more};
@@ -8,9 +8,9 @@ use super::streams::Sink;
 use std::io::Write;
 use std::marker::Model;
 
-/// A sink over a writer. It tells no bytes, and its faults are the writer's errors and the writes
-/// that took nothing. Contracts see the writer and the count. It never flushes: lend it a writer
-/// that keeps bytes back, as `&mut writer`, and flush that afterwards.
+/// A sink that wraps a writer. It does not expose its bytes; its failed calls are the writer's errors and the
+/// writes that accepted nothing. Its model is the writer and the count. It never flushes: pass a buffering
+/// writer as `&mut writer`, and flush it afterwards.
 #[derive(Drop)]
 pub struct WriteSink<W> {
     writer: W,
@@ -26,7 +26,7 @@ impl<W> Model for WriteSink<W> {
 }
 
 impl<W> WriteSink<W> {
-    /// A sink that writes to the writer.
+    /// Creates a sink that writes to the writer.
     pub fn new(writer: W) -> WriteSink<W>
         ensures { result ≡ record { inner = writer; faults = 0 } }
     {
@@ -41,8 +41,8 @@ impl<W: Write> Sink for WriteSink<W> {
         requires { 0 < length piece.now }
         ensures bound { IfOk result (λ n. (0 < n) × (n ≤ length piece.now)) }
 
-        // A writer that tells its bytes takes them. Each of its errors and each write that took
-        // nothing counts, and nothing else.
+        // A writer that exposes its bytes accepts the bytes of the call. The count increases by one for each
+        // error and for each write that accepted nothing, and does not change otherwise.
         ensures passed { WriteAppends (W.contents self.old.inner) (W.contents self.new.inner) result piece.now }
         ensures uncounted { OnOk result (self.new.faults ≡ self.old.faults) }
         ensures counted { OnErr result (self.new.faults ≡ one_more self.old.faults) }

@@ -1,4 +1,4 @@
--- No more bytes stand behind the last line end of a text's first i bytes than i: for the columns of positions.
+-- At most i bytes follow the last line end of a text's first i bytes: for the columns of positions.
 use Rattle.std.proofs.Common.{ℕ, ◌≤◌, not, nat_eq, List, take, length-take, arith}
 use Rattle.std.specs.List.{suffix_len}
 use Rattle.std.proofs.lemmas.List.Sums.{suffix_len-le-length}

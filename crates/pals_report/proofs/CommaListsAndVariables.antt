@@ -1,5 +1,4 @@
--- The texts of tuples, with commas between their places, and of variables with their values, as one more item is
--- written.
+-- The texts of tuples, with commas between their values, and of variables with their values, after one more item.
 use Rattle.std.proofs.Common.{◌≡◌, ℕ, ℤ, zero, suc, ◌<◌, ◌≤◌, ◌-◌, min, List, [], ◌∷◌, ◌++◌, length, map, take, drop}
 use Rattle.std.proofs.Common.{get_or, codes, refl, sym, ap, ◌∙◌, arith, append_assoc, add-one, ◌+◌}
 use Rattle.std.specs.List.{flat_map}
@@ -7,14 +6,14 @@ use Rattle.std.proofs.lemmas.List.{append-nil, take_all, take_rest}
 use Rattle.pals_base.specs.declared.behaviour.VarDecl.{VarDecl}
 use Rattle.pals_model.specs.RoundTexts.{with_commas, variable_text, vars_text}
 
--- commas stand before each text but the first
+-- commas precede each text except the first
 with_commas-cons : {X : Type 0} (f : X → List ℕ) (x : X) (xs : List X)
     → with_commas (map f (x ∷ xs)) ≡ f x ++ flat_map (λ y. codes "," ++ f y) xs
 with_commas-cons f x [] = sym (append-nil (f x))
 with_commas-cons f x (y ∷ ys) =
     ap (λ t. f x ++ codes "," ++ t) (with_commas-cons f y ys) ∙ simp append_assoc
 
--- the first place, and all that follow it
+-- the first value, and all following ones
 pub with_commas-all : {X : Type 0} (f : X → List ℕ) (d : X) (xs : List X) (i : ℕ) (old one out : List ℕ) → 1 ≤ length xs
     → length (take (length xs - 1) (drop 1 xs)) ≤ i → one ≡ old ++ f (get_or xs 0 d)
     → out ≡ one ++ flat_map (λ y. codes "," ++ f y) (take i (take (length xs - 1) (drop 1 xs)))
@@ -40,7 +39,7 @@ vars_text-suc (v ∷ vs) (z ∷ zs) (suc n) d e h k =
     ∙ sym (append_assoc (variable_text v z) (vars_text (take n vs) (take n zs))
     (variable_text (get_or vs n d) (get_or zs n e)))
 
--- a variable behind those before it
+-- a variable after the earlier ones
 pub vars_text-turn : (vars : List VarDecl) (values : List ℤ) (n : ℕ) (v : VarDecl) (z : ℤ) (old out new : List ℕ)
     → n < length vars → n < length values → ((d : VarDecl) → v ≡ get_or vars n d) → ((d : ℤ) → z ≡ get_or values n d)
     → out ≡ old ++ vars_text (take n vars) (take n values) → new ≡ out ++ variable_text v z
@@ -54,7 +53,7 @@ vars_text-turn vars values n v z old out new h k at_v at_z before added =
     (ap (λ t. vars_text (take n vars) (take n values) ++ t) same ∙ sym (vars_text-suc vars values n v z h k)
     ∙ ap (λ m. vars_text (take m vars) (take m values)) (sym (add-one n)))
 
--- all that have both a name and a value
+-- all variables with both a name and a value
 pub vars_text-all : (vars : List VarDecl) (values : List ℤ) (n : ℕ) → n ≡ min (length vars) (length values)
     → vars_text (take n vars) (take n values) ≡ vars_text vars values
 vars_text-all [] values zero h = refl

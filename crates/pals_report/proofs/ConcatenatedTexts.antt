@@ -1,11 +1,11 @@
--- A text of several lines, and a text that grows by one part after the other, are their parts joined in order.
+-- A text of several lines, and a text that grows by one part after another, are the concatenation of their parts.
 use Rattle.std.proofs.Common.{◌≡◌, ℕ, List, [], ◌∷◌, ◌++◌, sym, ap, ◌∙◌, append_assoc}
 use Rattle.std.proofs.lemmas.List.{append-nil}
 use Rattle.pals_model.specs.RoundTexts.{text_of, line_end}
 use Rattle.pals_model.proofs.TextLineLaws.{text_of-append}
 use Rattle.pals_report.specs.CheckReports.{time_line}
 
--- four texts, one behind the other
+-- four texts in sequence
 pub four_behind : (old a b c d m n o p : List ℕ) → m ≡ old ++ a → n ≡ m ++ b → o ≡ n ++ c → p ≡ o ++ d
     → p ≡ old ++ (a ++ (b ++ (c ++ d)))
 four_behind old a b c d m n o p i j k l =
@@ -18,7 +18,7 @@ five_lines a b c d word {time} {is} e =
     ap (λ t. ((a ++ line_end) ++ ((b ++ line_end) ++ ((c ++ line_end) ++ (d ++ line_end))))
     ++ (time_line word t ++ line_end)) e ∙ simp (append_assoc, append-nil)
 
--- five texts, one behind the other
+-- five texts in sequence
 pub five_behind : (old a b c d e m n o p q : List ℕ) → m ≡ old ++ a → n ≡ m ++ b → o ≡ n ++ c → p ≡ o ++ d → q ≡ p ++ e
     → q ≡ old ++ (a ++ (b ++ (c ++ (d ++ e))))
 five_behind old a b c d e m n o p q i j k l f =

@@ -1,4 +1,4 @@
--- The lines of a list's items, each with the same end, as one more item is written.
+-- The lines of a list's items, each with the same end, after one more item.
 use Rattle.std.proofs.Common.{◌≡◌, ℕ, ◌+◌, ◌<◌, ◌≤◌, List, [], ◌∷◌, ◌++◌, length, map, take, get_or, sym, ap, ◌∙◌}
 use Rattle.std.proofs.Common.{append_assoc}
 use Rattle.std.specs.List.{flat_map}
@@ -27,7 +27,7 @@ lines_turn end f xs i x old out new within is before added =
     ∙ append_assoc old (ended end (map f (take i xs))) (f x ++ end)
     ∙ ap (λ t. old ++ t) (sym (one_more end f xs i x within is))
 
--- those of all items
+-- the lines of all items
 pub lines_all : {X : Type 0} (end : List ℕ) (f : X → List ℕ) (xs : List X) (i : ℕ) (old out : List ℕ) → length xs ≤ i
     → out ≡ old ++ ended end (map f (take i xs))
     → out ≡ old ++ ended end (map f xs)

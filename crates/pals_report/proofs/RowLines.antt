@@ -1,4 +1,4 @@
--- The lines of rows as one more component or tap is written, and the parts that rows are made of.
+-- The lines of rows after one more component or tap, and the parts of rows.
 use Rattle.std.proofs.Common.{◌≡◌, ℕ, suc, ◌<◌, ◌+◌, List, [], ◌∷◌, ◌++◌, length, All, Option, Some, None, refl, sym}
 use Rattle.std.proofs.Common.{ap, ap₂, ◌∙◌, arith, append_assoc}
 use Rattle.pals_model.specs.declared.design.Component.{Component}
@@ -13,14 +13,14 @@ use Rattle.pals_model.specs.RoundTexts.{composed_lines}
 use Rattle.pals_model.proofs.TextLineLaws.{text_of-append}
 use Rattle.pals_report.specs.proof.RowLines.{lines_at_place, component_lines_from, tap_lines_from, ArePartsOf}
 
--- lines behind those before them, where others are left
+-- lines appended to earlier ones, if others remain
 pub lines_turn : (out new total : List ℕ) (shown first rest : List (List ℕ)) → new ≡ out ++ text_of shown
     → shown ≡ first → out ++ text_of (first ++ rest) ≡ total → new ++ text_of rest ≡ total
 lines_turn out new total shown first rest added is before =
     ap (λ t. t ++ text_of rest) added ∙ append_assoc out (text_of shown) (text_of rest)
     ∙ ap (λ t. out ++ t) (sym (text_of-append shown rest)) ∙ ap (λ ls. out ++ text_of (ls ++ rest)) is ∙ before
 
--- the lines of a tap, from its place
+-- the lines of a tap, from its index
 pub at_place : (design : DesignParts) (number place : ℕ) (tap : Tap) (shown : Option Part)
     → place ≡ taps_before design.taps number tap.source.0
     → lines_at_place design place tap shown ≡ tap_lines design number tap shown

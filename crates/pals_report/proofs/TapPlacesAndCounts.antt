@@ -1,4 +1,4 @@
--- The places of taps and the number of taps of each source, as one more tap is counted.
+-- The indices of taps and the number of taps of each source, after one more tap.
 use Rattle.std.proofs.Common.{◌≡◌, ◌≢◌, ℕ, suc, ◌<◌, ◌≤◌, ◌+◌, inl, inr, Bool, true, false, nat_eq, cond, List, [], ◌∷◌}
 use Rattle.std.proofs.Common.{◌++◌, length, map, filter, take, get_or, set, sym, ap, ◌∙◌, arith, zero-add, append_assoc}
 use Rattle.std.proofs.Common.{get_or-set_same, get_or-set_other}
@@ -11,7 +11,7 @@ use Rattle.pals_model.specs.declared.design.Tap.{Tap}
 use Rattle.pals_model.specs.RoundTexts.{taps_before}
 use Rattle.pals_report.specs.proof.TapPlaces.{tap_places}
 
--- a tap with its number has this place
+-- a tap with its number has this index
 abbrev pub place_in : List Tap → ℕ × Tap → ℕ
 place_in taps numbered = taps_before taps numbered.0 numbered.1.source.0
 
@@ -21,7 +21,7 @@ length-filter_le p (x ∷ xs) =
     elim (p x) as (λ b. length (cond b (x ∷ filter p xs) (filter p xs)) ≤ suc (length xs))
     [ true ↦ omega (arith, length-filter_le p xs) | false ↦ omega (arith, length-filter_le p xs) ]
 
--- a place is not past the tap's number
+-- an index is not past the tap's number
 pub place_le : (taps : List Tap) (n node : ℕ) → taps_before taps n node ≤ n
 place_le taps n node =
     omega (arith, length-filter_le (λ (tap : Tap). nat_eq tap.source.0 node) (take n taps), length-take n taps)
@@ -56,7 +56,7 @@ counts_turn taps counts i count nodes tap within is long source before found nod
           get_or-set_other counts tap.source.0 node (count + 1) 0 differ ∙ before node below ∙ omega (arith, counted)
     ]
 
--- one more place
+-- one more index
 pub places_turn : (taps : List Tap) (places : List ℕ) (i count : ℕ) (tap : Tap) (rest : List Tap) (total : List ℕ)
     → count ≡ taps_before taps i tap.source.0
     → places ++ map (place_in taps) (enumerate_from i (tap ∷ rest)) ≡ total
@@ -65,7 +65,7 @@ places_turn taps places i count tap rest total is before =
     append_assoc places (count ∷ []) (map (place_in taps) (enumerate_from (i + 1) rest))
     ∙ ap (λ k. places ++ k ∷ map (place_in taps) (enumerate_from (i + 1) rest)) is ∙ before
 
--- the place that stands for a tap
+-- the index of the tap
 pub place_at : (taps : List Tap) (n place : ℕ) (tap : Tap) → n < length taps → tap ≡ get_or taps n tap
     → place ≡ get_or (tap_places taps) n place → place ≡ taps_before taps n tap.source.0
 place_at taps n place tap within is found =

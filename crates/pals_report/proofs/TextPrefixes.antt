@@ -1,10 +1,10 @@
--- Texts that begin with another text, and texts that more is added to: for calls that write a text part by part.
+-- Prefixes of texts, and texts that grow: for calls that append a text part by part.
 use Rattle.std.proofs.Common.{◌≡◌, Result, Ok, Err, OnOk, OnErr, ℕ, List, ◌++◌, length, drop, sym, ap, ◌∙◌, subst}
 use Rattle.std.proofs.Common.{append_assoc}
 use Rattle.std.proofs.lemmas.List.Prefix.{front_rest}
 use Rattle.pals_report.specs.proof.TextPrefixes.{BeginsWith}
 
--- what begins with more begins with less
+-- a text with a longer prefix has the shorter one
 begins_before : (text start more middle : List ℕ) → middle ≡ start ++ more → BeginsWith text middle
     → BeginsWith text start
 begins_before text start more middle e h =
@@ -13,20 +13,20 @@ begins_before text start more middle e h =
     ∙ append_assoc start more (drop (length middle) text) in
     joined ∙ ap (λ t. start ++ t) (sym (front_rest text start rest joined))
 
--- more text behind what begins with a start
+-- more text after a prefix
 pub begins_more : (text middle start more : List ℕ) → BeginsWith middle start → text ≡ middle ++ more
     → BeginsWith text start
 begins_more text middle start more h e =
     begins_before text start (drop (length start) middle) middle h
     (e ∙ ap (λ t. middle ++ t) (sym (front_rest text middle more e)))
 
--- a text that begins with more than a start begins with the start too, where a call is refused
+-- a text with a prefix longer than a start has the start as a prefix too, if a call fails
 pub begins_on_err : {T E : Type 0} (r : Result T E) (text start more middle : List ℕ) → middle ≡ start ++ more
     → BeginsWith text middle → OnErr r (BeginsWith text start)
 begins_on_err (Ok x) text start more middle e h = tt
 begins_on_err (Err x) text start more middle e h = begins_before text start more middle e h
 
--- a call that keeps what another has added
+-- a call that retains the text that another one appended
 pub joined_on_ok : {T E : Type 0} (r written : Result T E) (new middle old text same : List ℕ) → r ≡ written
     → OnOk written (new ≡ middle) → OnOk written (middle ≡ old ++ text) → text ≡ same → OnOk r (new ≡ old ++ same)
 joined_on_ok r (Ok x) new middle old text same is kept added e =
@@ -34,7 +34,7 @@ joined_on_ok r (Ok x) new middle old text same is kept added e =
 joined_on_ok r (Err x) new middle old text same is kept added e =
     subst (λ q. OnOk q (new ≡ old ++ same)) (sym is) tt
 
--- a call that adds the last part
+-- a call that appends the last part
 pub last_on_ok : {T E : Type 0} (r : Result T E) (new middle old first last whole : List ℕ) → middle ≡ old ++ first
     → first ++ last ≡ whole → OnOk r (new ≡ middle ++ last) → OnOk r (new ≡ old ++ whole)
 last_on_ok (Ok x) new middle old first last whole before e added =

@@ -1,4 +1,4 @@
--- The report that `check` writes of an accepted design.
+-- The output of `check` for an accepted design.
 use Rattle.std.specs.Prelude.{◌≡◌, ℕ, codes, decimal, List, [], ◌∷◌, ◌++◌, map, Option, Some, None, slice_get}
 use Rattle.std.specs.Prelude.{MatchOption}
 use Rattle.pals_base.specs.declared.allowed_adaptors.Adaptor.{Adaptor}
@@ -14,7 +14,7 @@ use Rattle.pals_model.specs.RoundTexts.{text_of}
 use Rattle.pals_model.specs.DesignRules.{greatest_rate}
 use Rattle.bound_checker.specs.LeastMultiples.{IsLeastMultiple, HasNoMultiple}
 
--- ---- adaptors, each behind a space
+-- ---- a space and an adaptor
 abbrev pub adaptor_text : Adaptor → List ℕ
 adaptor_text Repeat = codes "repeat"
 adaptor_text First = codes "first"
@@ -37,7 +37,7 @@ out_port_name (Some c) port = c.path ++ codes "." ++ port_name (slice_get c.beha
 abbrev pub source_name : DesignParts → ℕ → ℕ → List ℕ
 source_name design node port = out_port_name (slice_get design.components node) port
 
--- ---- one line for each component, link, feed, tap and name that means nothing
+-- ---- one line for each component, link, feed, tap and name without meaning
 abbrev pub component_line : Component → List ℕ
 component_line c = codes "component " ++ c.path ++ codes " rate " ++ decimal c.rate
 
@@ -64,7 +64,7 @@ rate_of c = c.rate
 abbrev pub rates : DesignParts → List ℕ
 rates design = map rate_of design.components
 
--- the shortest period for these rates that the bound allows, or none where it would be longer than an hour
+-- the shortest period for these rates that the bound allows, or `None` if it would be longer than one hour
 abbrev pub IsShortest : DesignParts → Option ℕ → Type 0
 IsShortest design shortest =
     MatchOption shortest (HasNoMultiple design.gamma (rates design)) (IsLeastMultiple design.gamma (rates design))

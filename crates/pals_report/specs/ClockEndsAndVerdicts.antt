@@ -9,7 +9,7 @@ use Rattle.pals_runs.specs.JournalLines.{node_word, link_word, spaced}
 use Rattle.pals_runs.specs.declared.journal.Stop.TheVariants as stop
 use Rattle.pals_runs.specs.declared.verdicts.TraceRule.TheVariants as rule
 
--- the node whose list ends, and the target for which it holds no reading
+-- the node whose clock ends, and the wake-up time without a reading
 abbrev pub clock_end_line : DesignParts → ℕ → ℕ → List ℕ
 clock_end_line design node target = spaced (codes "clock" ∷ codes "ended" ∷ node_word design node ∷ decimal target ∷ [])
 
@@ -25,7 +25,7 @@ rule_word rule.Stop = codes "stop"
 rule_word rule.Unfinished = codes "unfinished"
 rule_word rule.Count = codes "count"
 
--- the message of a stop: its link and its round
+-- the message of a run stop: its link and its round
 abbrev pub stopped_words : DesignParts → Option Stop → List (List ℕ)
 stopped_words design None = codes "none" ∷ []
 stopped_words design (Some (stop.Missed link round reading cause)) = link_word design link.0 ∷ decimal round ∷ []

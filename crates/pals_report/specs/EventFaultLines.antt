@@ -1,4 +1,4 @@
--- The line of a refused event: `event`, its index among the events, the fault, and what the fault is about.
+-- The line of a rejected event: `event`, its index among the events, the fault, and the details of the fault.
 use Rattle.std.specs.Prelude.{ℕ, codes, decimal, List, [], ◌∷◌, ◌++◌}
 use Rattle.pals_model.specs.declared.design.DesignParts.{DesignParts}
 use Rattle.pals_runs.specs.declared.events_and_faults.EventFault.{EventFault}
@@ -15,7 +15,7 @@ abbrev pub subject_words : DesignParts → EventSubject → List (List ℕ)
 subject_words design (Node node) = node_word design node.0 ∷ []
 subject_words design (Message link round) = link_word design link.0 ∷ decimal round ∷ []
 
--- that there is not enough memory is no fault of an event
+-- an allocation failure is not a fault of an event
 abbrev pub event_fault_words : DesignParts → EventFault → List (List ℕ)
 event_fault_words design BadName = codes "BadName" ∷ []
 event_fault_words design LossOrRepeat = codes "LossOrRepeat" ∷ []

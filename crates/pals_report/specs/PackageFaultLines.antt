@@ -1,4 +1,4 @@
--- The line that says why a package has no instance.
+-- The line of a package without an instance model.
 use Rattle.std.specs.Prelude.{ℕ, codes, decimal, List, ◌++◌}
 use Rattle.aadl_names.specs.declared.fault.PackageFault.{PackageFault}
 use Rattle.aadl_names.specs.declared.fault.PackageFault.TheVariants.{NoRoot, Unknown, Twice, WrongKind, Recursive}
@@ -6,11 +6,11 @@ use Rattle.aadl_names.specs.declared.fault.PackageFault.TheVariants.{DeadEnd, Tw
 use Rattle.aadl_names.specs.FirstFaults.{number_of}
 use Rattle.pals_report.specs.LinesAndColumns.{position_text}
 
--- each word behind a space
+-- a space and a word, for each word
 abbrev pub and_word : List ℕ → List ℕ
 and_word word = codes " " ++ word
 
--- what is wrong, with the name or what is above its limit, and with the place, each where it has one
+-- the fault, with the name or the exceeded limit, and with the position, if it has them
 abbrev pub package_fault_words : List ℕ → PackageFault → List ℕ
 package_fault_words text NoRoot = codes "NoRoot"
 package_fault_words text (Unknown name at) = codes "Unknown" ++ and_word name ++ and_word (position_text text at)
@@ -22,6 +22,6 @@ package_fault_words text (TwoSources name at) = codes "TwoSources" ++ and_word n
 package_fault_words text (TooMany what) = codes "TooMany" ++ and_word what
 package_fault_words text Memory = codes "Memory"
 
--- `flat NUMBER NAME` and what belongs to it
+-- `flat NUMBER NAME` and the details
 abbrev pub package_fault_line : List ℕ → PackageFault → List ℕ
 package_fault_line text fault = codes "flat " ++ decimal (number_of fault) ++ and_word (package_fault_words text fault)

@@ -1,11 +1,11 @@
--- The line of a refused scenario: `scenario`, the fault, and the name of its place or a number where it has one.
+-- The line of a rejected scenario: `scenario`, the fault, and the name of its location or a number, if it has one.
 use Rattle.std.specs.Prelude.{ℕ, codes, decimal, List, [], ◌∷◌}
 use Rattle.pals_runs.specs.JournalLines.{spaced}
 use Rattle.scenario_values.specs.declared.fault.ScenarioFault.{ScenarioFault}
 use Rattle.scenario_values.specs.declared.fault.ScenarioFault.TheVariants.{NotJson, Field, WrongKind, Unknown}
 use Rattle.scenario_values.specs.declared.fault.ScenarioFault.TheVariants.{OutOfRange, TooBig, Memory}
 
--- that there is not enough memory is no fault of a scenario
+-- an allocation failure is not a fault of a scenario
 abbrev pub scenario_fault_words : ScenarioFault → List (List ℕ)
 scenario_fault_words NotJson = codes "scenario" ∷ codes "NotJson" ∷ []
 scenario_fault_words (Field name) = codes "scenario" ∷ codes "Field" ∷ name ∷ []

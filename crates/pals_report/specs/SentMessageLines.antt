@@ -1,4 +1,4 @@
--- The line of a message that was sent: `sent`, its link, its round, and its tuple.
+-- The line of a sent message: `sent`, its link, its round, and its tuple.
 use Rattle.std.specs.Prelude.{ℕ, codes, decimal, List, [], ◌∷◌, slice_get}
 use Rattle.pals_base.specs.declared.behaviour.Kind.{Kind}
 use Rattle.pals_base.specs.declared.basic_types.PortValue.{PortValue}
@@ -8,7 +8,7 @@ use Rattle.pals_model.specs.RoundTexts.{tuple_text}
 use Rattle.pals_runs.specs.JournalLines.{link_word, spaced}
 use Rattle.bus_machine.specs.Plans.{link_at}
 
--- the type of the out port that a link comes from
+-- the type of the source port of a link
 abbrev pub source_kind : DesignParts → ℕ → Kind
 source_kind design link =
     out_kind (slice_get design.components (link_at design link).source.0) (link_at design link).out_port

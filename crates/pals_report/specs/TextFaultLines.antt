@@ -1,4 +1,4 @@
--- The lines that say why a bundle's design text is refused.
+-- The lines of a rejected design text.
 use Rattle.std.specs.Prelude.{ℕ, codes, List, ◌++◌, length}
 use Rattle.aadl_lex.specs.declared.fault.LexFault.{LexFault}
 use Rattle.aadl_parse.specs.declared.text_fault.TextFault.{TextFault}
@@ -6,7 +6,7 @@ use Rattle.aadl_parse.specs.declared.text_fault.TextFault.TheVariants.{Lex, Memo
 use Rattle.pals_report.specs.LinesAndColumns.{position_text}
 use Rattle.aadl_lex.specs.declared.fault.LexFault.TheVariants as lexical
 
--- ---- the name of a fault and its place; that there is not enough memory is no fault of a text, and stands at 0
+-- ---- the name of a fault and its position; an allocation failure is not a fault of a text, and has position 0
 abbrev pub lexical_name : LexFault → List ℕ
 lexical_name (lexical.NotUtf8 at) = codes "NotUtf8"
 lexical_name (lexical.BadByte at) = codes "BadByte"
@@ -44,6 +44,6 @@ text_line text at name = codes "text " ++ position_text text at ++ codes " " ++ 
 abbrev pub text_fault_line : List ℕ → TextFault → List ℕ
 text_fault_line text fault = text_line text (fault_place fault) (fault_name fault)
 
--- no line of a bundle is `%%%`, which is found out at its end
+-- no line of a bundle is `%%%`; this fault is at its end
 abbrev pub no_divider_line : List ℕ → List ℕ
 no_divider_line bundle = text_line bundle (length bundle) (codes "NoDivider")

@@ -1,4 +1,4 @@
--- The lines that say what is wrong with a design.
+-- The lines of violations.
 use Rattle.std.specs.Prelude.{ℕ, codes, decimal, List, [], ◌∷◌, ◌++◌, map, slice_index_or}
 use Rattle.annex_resolve.specs.declared.violation.Violation.{Violation}
 use Rattle.pals_report.specs.LinesAndColumns.{position_text}
@@ -18,7 +18,7 @@ rule_names =
 unfoldable pub rule_name : ℕ → List ℕ
 rule_name number = slice_index_or (codes "" ∷ rule_names) number (codes "")
 
--- what is printed behind a rule's name
+-- the text after a rule's name
 abbrev pub details_text : List ℕ → List ℕ
 details_text [] = []
 details_text (byte ∷ bytes) = and_word (byte ∷ bytes)

@@ -1,4 +1,4 @@
-//! The line of a run whose clock ends, and that of a verdict on a trace.
+//! The line of a run whose clock ends, and the line of a verdict on a trace.
 ghost use Rattle.std.specs.Prelude.{◌≡◌, ◌++◌, OnOk, OnErr};
 ghost use Rattle.pals_model.specs.RoundTexts.{line_end};
 ghost use Rattle.pals_report.specs.ClockEndsAndVerdicts.{clock_end_line, rule_word, verdict_line};
@@ -8,8 +8,8 @@ use pals_base::{Nanos, NoMemory, NodeNo};
 use pals_model::{Design, DesignParts};
 use pals_runs::{Stop, TraceRule, Verdict};
 
-/// Adds the line of a node whose list holds no reading for its next target, in nanoseconds. If there is
-/// not enough memory, nothing is added.
+/// Appends the line of a node whose scripted clock has no reading for its next wake-up time, in nanoseconds.
+/// Errors: out of memory; the buffer is then unchanged.
 pub fn add_clock_end_line(
     out: &mut Vec<u8>,
     design: &Design,
@@ -42,7 +42,7 @@ fn rule_word(rule: TraceRule) -> &'static [u8]
     }
 }
 
-// The line of a sound trace with this number of rows.
+// The line of a sound trace with this number of rounds.
 fn add_sound(
     out: &mut Vec<u8>,
     design: &DesignParts,
@@ -76,7 +76,7 @@ fn add_sound(
     }
 }
 
-/// Adds the line of a verdict on a trace. If there is not enough memory, nothing is added.
+/// Appends the line of a verdict on a trace. Errors: out of memory; the buffer is then unchanged.
 pub fn add_verdict(out: &mut Vec<u8>, design: &Design, verdict: &Verdict) -> Result<(), NoMemory>
     ensures ok { OnOk result (out.new.items ≡ out.old.items ++ verdict_line design.now verdict.now ++ line_end) }
     ensures err { OnErr result (out.new.items ≡ out.old.items) }

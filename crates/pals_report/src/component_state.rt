@@ -10,7 +10,7 @@ use crate::value::add_value;
 use pals_base::{BehaviourParts, Frame, NoMemory, Text, Trap, VarDecl};
 use pals_model::{Component, Part};
 
-// The words for a trap, which stand in the place of a state's name.
+// The text of a trap, which replaces the name of the state.
 pub(crate) fn add_trap(out: &mut Vec<u8>, trap: Trap) -> Result<(), NoMemory>
     ensures ok { (b : BehaviourParts) (frame : Frame)
         → OnOk result (out.new.items ≡ out.old.items ++ state_text b frame (Some trap)) }
@@ -22,7 +22,7 @@ pub(crate) fn add_trap(out: &mut Vec<u8>, trap: Trap) -> Result<(), NoMemory>
     }
 }
 
-// The state's name, or the trap.
+// The name of the state, or the trap.
 fn add_state(out: &mut Vec<u8>, behaviour: &BehaviourParts, frame: &Frame) -> Result<(), NoMemory>
     ensures ok { OnOk result
         (out.new.items ≡ out.old.items ++ state_text behaviour.now frame.now frame.now.halt) }
@@ -37,7 +37,7 @@ fn add_state(out: &mut Vec<u8>, behaviour: &BehaviourParts, frame: &Frame) -> Re
     }
 }
 
-// A variable's name and value, behind a space.
+// A space, and a variable's name and value.
 fn add_variable(out: &mut Vec<u8>, variable: &VarDecl, value: i64) -> Result<(), NoMemory>
     ensures ok { OnOk result
         (out.new.items ≡ out.old.items ++ variable_text variable.now value) }
@@ -49,7 +49,7 @@ fn add_variable(out: &mut Vec<u8>, variable: &VarDecl, value: i64) -> Result<(),
     add_value(out, variable.kind, value)
 }
 
-// Each variable that has a value.
+// Each variable with a value.
 fn add_variables(out: &mut Vec<u8>, variables: &[VarDecl], values: &[i64]) -> Result<(), NoMemory>
     ensures ok { OnOk result
         (out.new.items ≡ out.old.items ++ vars_text variables.now values.now) }
@@ -61,7 +61,7 @@ fn add_variables(out: &mut Vec<u8>, variables: &[VarDecl], values: &[i64]) -> Re
     Ok(())
 }
 
-// The line of a component that is shown by this name.
+// The line of a component with this name.
 pub(crate) fn add_component_line(
     out: &mut Vec<u8>,
     name: &Text,
@@ -79,7 +79,7 @@ pub(crate) fn add_component_line(
     out.extend_from_slice(b"\n")
 }
 
-// The line of a component that has a part, and none else.
+// The line of a component, if it has a part.
 pub(crate) fn add_part_line(
     out: &mut Vec<u8>,
     component: &Component,

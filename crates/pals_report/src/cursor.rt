@@ -1,4 +1,4 @@
-//! A cursor in a text, which writes places as lines and columns.
+//! A cursor in a text, which formats positions as line and column.
 ghost use Rattle.std.specs.Prelude.{◌≡◌, ◌++◌, ◌≤◌, length, min, OnOk, OnErr};
 ghost use Rattle.pals_report.specs.proof.TextPrefixes.{BeginsWith};
 ghost use Rattle.pals_report.specs.LinesAndColumns.{line_of, column_of, position_text};
@@ -6,8 +6,8 @@ ghost use Rattle.pals_report.specs.LinesAndColumns.{line_of, column_of, position
 use itoa::Buffer;
 use pals_base::NoMemory;
 
-/// A place in a text, with its line and its column. It counts on from the last place, so places that
-/// rise take one pass through the text in all.
+/// A position in a text, with its line and its column. A cursor continues from its last position, so increasing
+/// positions take one pass through the text in total.
 #[derive(Drop)]
 pub struct Cursor<'t> {
     text: &'t [u8],
@@ -20,7 +20,7 @@ pub struct Cursor<'t> {
 }
 
 impl<'t> Cursor<'t> {
-    /// A cursor at the text's first byte.
+    /// Returns a cursor at the first byte of the text.
     pub fn new(text: &'t [u8]) -> Cursor<'t>
         ensures text { result.text.now ≡ text.now }
         ensures at { result.at ≡ 0 }
@@ -33,7 +33,7 @@ impl<'t> Cursor<'t> {
         }
     }
 
-    // Goes on to a place.
+    // Moves forward to a position.
     fn go_on(&mut self, at: usize)
         requires forward { self.old.at ≤ at }
         requires within { at ≤ length self.old.text.now }
@@ -58,7 +58,7 @@ impl<'t> Cursor<'t> {
         };
     }
 
-    // Goes to a place, or to the text's end where it lies behind it.
+    // Moves to a position, or to the end of the text if the position is after it.
     fn go_to(&mut self, at: usize)
         ensures text { self.new.text.now ≡ self.old.text.now }
         ensures at { self.new.at ≡ min at (length self.old.text.now) }
@@ -70,7 +70,7 @@ impl<'t> Cursor<'t> {
         self.go_on(at);
     }
 
-    /// Adds `LINE:COLUMN` of the byte at a place.
+    /// Appends `LINE:COLUMN` of the byte at an offset.
     pub fn add_position(&mut self, out: &mut Vec<u8>, at: usize) -> Result<(), NoMemory>
         ensures text { self.new.text.now ≡ self.old.text.now }
         ensures ok { OnOk result (out.new.items ≡ out.old.items ++ position_text self.old.text.now at) }

@@ -1,4 +1,4 @@
-//! Lines of components, links, feeds, taps and ignored names.
+//! The lines of components, links, feeds, taps and ignored names.
 ghost use Rattle.std.specs.Prelude.{◌≡◌, ◌++◌, map, OnOk, OnErr};
 ghost use Rattle.pals_model.specs.RoundTexts.{text_of, line_end};
 ghost use Rattle.pals_report.specs.proof.TextPrefixes.{BeginsWith};
@@ -64,7 +64,7 @@ fn add_ignored(out: &mut Vec<u8>, name: &Text) -> Result<(), NoMemory>
     out.extend_from_slice(b"\n")
 }
 
-/// Adds a line for each component.
+/// Appends a line for each component.
 pub fn add_components(out: &mut Vec<u8>, components: &[Component]) -> Result<(), NoMemory>
     ensures ok { OnOk result
         (out.new.items ≡ out.old.items ++ text_of (map component_line components.now)) }
@@ -76,7 +76,7 @@ pub fn add_components(out: &mut Vec<u8>, components: &[Component]) -> Result<(),
     Ok(())
 }
 
-/// Adds a line for each of these links of the design.
+/// Appends a line for each of these links of the design.
 #[tactic(auto, using(crate::proofs::LinePerItem::lines_turn))]
 pub fn add_links(out: &mut Vec<u8>, design: &DesignParts, links: &[Link]) -> Result<(), NoMemory>
     ensures ok { OnOk result
@@ -89,7 +89,7 @@ pub fn add_links(out: &mut Vec<u8>, design: &DesignParts, links: &[Link]) -> Res
     Ok(())
 }
 
-/// Adds a line for each of these feeds of the design.
+/// Appends a line for each of these feeds of the design.
 pub fn add_feeds(out: &mut Vec<u8>, design: &DesignParts, feeds: &[Feed]) -> Result<(), NoMemory>
     ensures ok { OnOk result
         (out.new.items ≡ out.old.items ++ text_of (map (feed_line design.now) feeds.now)) }
@@ -101,7 +101,7 @@ pub fn add_feeds(out: &mut Vec<u8>, design: &DesignParts, feeds: &[Feed]) -> Res
     Ok(())
 }
 
-/// Adds a line for each of these taps of the design.
+/// Appends a line for each of these taps of the design.
 pub fn add_taps(out: &mut Vec<u8>, design: &DesignParts, taps: &[Tap]) -> Result<(), NoMemory>
     ensures ok { OnOk result
         (out.new.items ≡ out.old.items ++ text_of (map (tap_line design.now) taps.now)) }
@@ -113,7 +113,7 @@ pub fn add_taps(out: &mut Vec<u8>, design: &DesignParts, taps: &[Tap]) -> Result
     Ok(())
 }
 
-/// Adds a line for each name that means nothing.
+/// Appends a line for each name without meaning.
 pub fn add_ignored_name_lines(out: &mut Vec<u8>, names: &[Text]) -> Result<(), NoMemory>
     ensures ok { OnOk result
         (out.new.items ≡ out.old.items ++ text_of (map ignored_line names.now)) }

@@ -12,9 +12,8 @@ use pals_base::{Nanos, NoMemory};
 use pals_model::{Design, DesignParts};
 use std::alloc::Global;
 
-/// Adds the report of an accepted design: its period and those that its bound allows, and a line
-/// for each component, link, feed, tap and ignored name. If there is not enough memory, nothing is
-/// added.
+/// Appends the report of an accepted design: its period, the periods that its bound allows, and a line for each
+/// component, link, feed, tap and ignored name. Errors: out of memory; the buffer is then unchanged.
 pub fn add_check(alloc: Global, out: &mut Vec<u8>, design: &Design) -> Result<(), NoMemory>
     ensures ok { OnOk result
         ((text : List ℕ) × (out.new.items ≡ out.old.items ++ text) × IsCheckReport design.now text) }

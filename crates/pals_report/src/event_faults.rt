@@ -1,4 +1,4 @@
-//! The line of an event that a world refuses.
+//! The line of an event that a world rejects.
 ghost use Rattle.std.specs.Prelude.{◌≡◌, [], ◌∷◌, ◌++◌, decimal, OnOk, OnErr, codes};
 ghost use Rattle.pals_model.specs.RoundTexts.{line_end};
 ghost use Rattle.pals_runs.specs.JournalLines.{node_word, link_word, spaced};
@@ -9,7 +9,7 @@ use pals_base::{LinkNo, Nanos, NoMemory, NodeNo};
 use pals_model::{Design, DesignParts};
 use pals_runs::{EventFault, EventSubject};
 
-// A fault, and nothing that it is about.
+// A fault without details.
 fn add_bare(out: &mut Vec<u8>, index: u32, fault: &[u8]) -> Result<(), NoMemory>
     ensures ok { OnOk result (out.new.items
         ≡ out.old.items ++ spaced (codes "event" ∷ decimal index ∷ fault.now ∷ []) ++ line_end) }
@@ -49,7 +49,7 @@ fn add_reading<'a>(
     )
 }
 
-// A fault with a link's message of a round.
+// A fault with the message of a link and a round.
 fn add_message(
     out: &mut Vec<u8>,
     design: &DesignParts,
@@ -109,8 +109,8 @@ fn add_time<'a>(
     }
 }
 
-/// Adds the line of a refused event, with its index among the events: `event`, the index, the
-/// fault, and what the fault is about. If there is not enough memory, nothing is added.
+/// Appends the line of a rejected event: `event`, its index among the events, the fault, and the details of the
+/// fault. Errors: out of memory; the buffer is then unchanged.
 pub fn add_event_fault(
     out: &mut Vec<u8>,
     design: &Design,

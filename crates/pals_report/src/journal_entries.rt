@@ -1,4 +1,4 @@
-//! The lines of a journal.
+//! The lines of an event journal.
 ghost use Rattle.std.specs.Prelude.{◌≡◌, [], ◌∷◌, ◌++◌, decimal, OnOk, OnErr};
 ghost use Rattle.pals_model.specs.RoundTexts.{line_end};
 ghost use Rattle.pals_runs.specs.JournalLines.{node_word, link_word, reading_word, arrived_word, cause_word};
@@ -29,7 +29,7 @@ fn cause_word(cause: Cause) -> &'static [u8]
     }
 }
 
-// The line of a stop.
+// The line of a run stop.
 fn add_stop(out: &mut Vec<u8>, design: &DesignParts, stop: Stop) -> Result<(), NoMemory>
     ensures ok { OnOk result
         (out.new.items ≡ out.old.items ++ spaced (stop_words design.now stop) ++ line_end) }
@@ -63,7 +63,7 @@ fn add_stop(out: &mut Vec<u8>, design: &DesignParts, stop: Stop) -> Result<(), N
     }
 }
 
-// The line of what a node does in a round, at a reading.
+// The line of an action of a node in a round, at a reading.
 fn add_action<'a>(
     out: &mut Vec<u8>,
     design: &'a DesignParts,
@@ -84,7 +84,7 @@ fn add_action<'a>(
     )
 }
 
-// The line of what happens to a link's message of a round under way.
+// The line of an event that affects the message of a link and a round in flight.
 fn add_loss<'a>(
     out: &mut Vec<u8>,
     design: &'a DesignParts,
@@ -107,7 +107,7 @@ fn add_loss<'a>(
     )
 }
 
-/// Adds the line of an entry of a journal. If there is not enough memory, nothing is added.
+/// Appends the line of a journal entry. Errors: out of memory; the buffer is then unchanged.
 pub fn add_entry(out: &mut Vec<u8>, design: &Design, entry: &JournalEntry) -> Result<(), NoMemory>
     ensures ok { OnOk result
         (out.new.items ≡ out.old.items ++ entry_line design.now entry.now ++ line_end) }

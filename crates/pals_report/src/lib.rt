@@ -1,5 +1,9 @@
-//! The texts that the program writes, added at the end of a buffer: the rounds of a run, an
-//! accepted design, what is wrong with a text, and the lines of runs and scenarios.
+//! Formats the program's output: the rounds of a run, an accepted design, the errors of a text, and the lines
+//! of runs and scenarios.
+//!
+//! Each function appends one text to a buffer, and is proved to append exactly the text of its definition. On
+//! an allocation failure most functions leave the buffer unchanged. The crate formats values; it computes none
+//! of them, and writes to no file.
 #![tactic(auto)]
 
 mod clock_ends_and_verdicts;

@@ -1,4 +1,4 @@
-//! The kinds of words in a line, and lines that are written of them with a space between each two.
+//! The kinds of words in a line, and lines of words separated by spaces.
 ghost use Rattle.std.specs.Prelude.{◌≡◌, ◌++◌, map, Some, OnOk, OnErr};
 ghost use Rattle.pals_model.specs.ComponentAndLinkNames.{in_port_name};
 ghost use Rattle.pals_model.specs.RoundTexts.{line_end};
@@ -20,7 +20,7 @@ pub enum LineWord<'a> {
     Number(u64),
     /// A number of up to 128 bits in decimal.
     Wide(u128),
-    /// A number in decimal, with `-` where it is negative.
+    /// A number in decimal, with `-` if it is negative.
     Signed(i64),
     /// The name of a loop's slot: `#` and its number among the slots of loops.
     LoopSlot(u64),
@@ -30,7 +30,7 @@ pub enum LineWord<'a> {
     Tuple(Kind, &'a [PortValue]),
 }
 
-// Adds a word.
+// Appends a word.
 fn add_word(out: &mut Vec<u8>, word: LineWord<'_>) -> Result<(), NoMemory>
     ensures ok { OnOk result (out.new.items ≡ out.old.items ++ word_text word.entry) }
     ensures err { OnErr result (BeginsWith out.new.items out.old.items) }
@@ -53,7 +53,7 @@ fn add_word(out: &mut Vec<u8>, word: LineWord<'_>) -> Result<(), NoMemory>
     }
 }
 
-// Adds words, with one space between each two.
+// Appends words, separated by single spaces.
 fn add_words(out: &mut Vec<u8>, words: &[LineWord<'_>]) -> Result<(), NoMemory>
     ensures ok { OnOk result
         (out.new.items ≡ out.old.items ++ spaced (map word_text words.now)) }
@@ -70,7 +70,7 @@ fn add_words(out: &mut Vec<u8>, words: &[LineWord<'_>]) -> Result<(), NoMemory>
     Ok(())
 }
 
-// Adds words and the end of their line.
+// Appends words and a line end.
 fn add_whole_line(out: &mut Vec<u8>, words: &[LineWord<'_>]) -> Result<(), NoMemory>
     ensures ok { OnOk result
         (out.new.items ≡ out.old.items ++ spaced (map word_text words.now) ++ line_end) }
@@ -80,7 +80,7 @@ fn add_whole_line(out: &mut Vec<u8>, words: &[LineWord<'_>]) -> Result<(), NoMem
     out.extend_from_slice(b"\n")
 }
 
-/// Adds a line of words. If there is not enough memory, nothing is added.
+/// Appends a line of words. Errors: out of memory; the buffer is then unchanged.
 pub fn add_line(out: &mut Vec<u8>, words: &[LineWord<'_>]) -> Result<(), NoMemory>
     ensures ok { OnOk result
         (out.new.items ≡ out.old.items ++ spaced (map word_text words.now) ++ line_end) }
@@ -91,7 +91,7 @@ pub fn add_line(out: &mut Vec<u8>, words: &[LineWord<'_>]) -> Result<(), NoMemor
     whole_or_none(out, start, written)
 }
 
-/// The path of a component, empty where there is none.
+/// Returns the path of a component; empty if there is no such component.
 pub fn node_word(design: &DesignParts, node: NodeNo) -> LineWord<'_>
     ensures { word_text result ≡ node_word design.now node.0 }
 {
@@ -112,7 +112,7 @@ fn port_word(component: &Component, port: u32) -> LineWord<'_>
     }
 }
 
-/// The name of a link: that of the in port that it goes to.
+/// Returns the name of a link, which is the name of its target port.
 pub(crate) fn link_word(design: &DesignParts, link: LinkNo) -> LineWord<'_>
     ensures { word_text result ≡ link_word design.now link.0 }
 {
@@ -125,7 +125,7 @@ pub(crate) fn link_word(design: &DesignParts, link: LinkNo) -> LineWord<'_>
     }
 }
 
-/// A reading, or `_` where there is none.
+/// Returns a reading, or `_` if there is none.
 pub(crate) fn reading_word(reading: Option<Nanos>) -> LineWord<'static>
     ensures { word_text result ≡ reading_word reading }
 {

@@ -7,8 +7,8 @@ use crate::line_word::{LineWord, add_line, node_word};
 use pals_base::{NoMemory, NodeNo};
 use pals_model::Design;
 
-/// Adds the line of a component whose code would have `length` instructions. If there is not enough
-/// memory, nothing is added.
+/// Appends the line of a component whose code would have `length` instructions. Errors: out of memory; the
+/// buffer is then unchanged.
 pub fn add_overlong_code(
     out: &mut Vec<u8>,
     design: &Design,

@@ -1,4 +1,4 @@
-//! Why a package has no instance, as a line of text.
+//! The line of a package without an instance model.
 ghost use Rattle.std.specs.Prelude.{◌≡◌, ◌++◌, OnOk, OnErr};
 ghost use Rattle.pals_model.specs.RoundTexts.{line_end};
 ghost use Rattle.pals_report.specs.proof.TextPrefixes.{BeginsWith};
@@ -10,8 +10,8 @@ use aadl_names::PackageFault;
 use itoa::Buffer;
 use pals_base::{NoMemory, Text};
 
-/// Adds the line of a package's fault: its number, its name, and the name and place in the text
-/// that belong to it. If there is not enough memory, nothing is added.
+/// Appends the line of a package fault: its number, its name, and the name and position in the text that belong
+/// to it. Errors: out of memory; the buffer is then unchanged.
 pub fn add_package_fault(
     out: &mut Vec<u8>,
     text: &[u8],
@@ -58,7 +58,7 @@ fn add_words(out: &mut Vec<u8>, text: &[u8], fault: &PackageFault) -> Result<(),
     }
 }
 
-// What is wrong, the name that it is said of, and its place.
+// The fault, the name that it concerns, and its position.
 fn add_named(
     out: &mut Vec<u8>,
     word: &[u8],
@@ -75,7 +75,7 @@ fn add_named(
     add_placed(out, name.as_bytes(), text, at)
 }
 
-// A word, and a place behind it.
+// A word followed by a position.
 fn add_placed(out: &mut Vec<u8>, word: &[u8], text: &[u8], at: usize) -> Result<(), NoMemory>
     ensures ok { OnOk result
         (out.new.items ≡ out.old.items ++ word.now ++ and_word (position_text text.now at)) }

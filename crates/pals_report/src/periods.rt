@@ -1,4 +1,4 @@
-//! The period of a design, and those that its bound allows.
+//! The period of a design, and the periods that its bound allows.
 ghost use Rattle.std.specs.Prelude.{◌≡◌, ◌++◌, codes, map, IfOk, OnOk, OnErr};
 ghost use Rattle.pals_model.specs.RoundTexts.{text_of, line_end};
 ghost use Rattle.pals_report.specs.proof.TextPrefixes.{BeginsWith};
@@ -10,7 +10,7 @@ use pals_model::rates_and_kinds::greatest_rate;
 use pals_model::{Component, DesignParts};
 use std::alloc::Global;
 
-/// The rates of components, in their order.
+/// Returns the rates of components, in order. Errors: out of memory.
 pub fn rates(alloc: Global, components: &[Component]) -> Result<Vec<u32>, NoMemory>
     ensures { IfOk result (λ found. found.items ≡ map rate_of components.now) }
 {
@@ -32,7 +32,7 @@ fn add_time(out: &mut Vec<u8>, word: &[u8], time: u128) -> Result<(), NoMemory>
     out.extend_from_slice(b"\n")
 }
 
-// The shortest period for the rates, or that there is none.
+// The shortest period for the rates, or the statement that there is none.
 #[tactic(auto, unfolding(crate::specs::CheckReports::time_line))]
 fn add_shortest(out: &mut Vec<u8>, shortest: Option<Nanos>) -> Result<(), NoMemory>
     ensures ok { OnOk result (out.new.items ≡ out.old.items ++ (codes "shortest " ++ shortest_word shortest ++ line_end)) }
@@ -44,8 +44,8 @@ fn add_shortest(out: &mut Vec<u8>, shortest: Option<Nanos>) -> Result<(), NoMemo
     }
 }
 
-/// Adds the lines of a design's period, of the least one that its bound allows, of the shortest one
-/// that suits its rates too, and of its backoff.
+/// Appends the lines of a design's period, of the minimum period that its bound allows, of the shortest period
+/// that also suits its rates, and of its backoff.
 pub fn add_periods(
     out: &mut Vec<u8>,
     design: &DesignParts,

@@ -8,7 +8,7 @@ use itoa::Buffer;
 use pals_base::{Adaptor, NoMemory, NodeNo, PortDecl};
 use pals_model::DesignParts;
 
-// The name of a port, where there is one.
+// The name of a port, if it exists.
 fn add_port_name(out: &mut Vec<u8>, ports: &[PortDecl], port: u32) -> Result<(), NoMemory>
     ensures ok { OnOk result (out.new.items ≡ out.old.items ++ port_name (slice_get ports.now port)) }
     ensures err { OnErr result (BeginsWith out.new.items out.old.items) }
@@ -19,7 +19,7 @@ fn add_port_name(out: &mut Vec<u8>, ports: &[PortDecl], port: u32) -> Result<(),
     }
 }
 
-/// Adds the name of an in port: its component's path, a `.`, and its own name.
+/// Appends the name of an in port: its component's path, a `.`, and its own name.
 pub fn add_target(
     out: &mut Vec<u8>,
     design: &DesignParts,
@@ -37,7 +37,7 @@ pub fn add_target(
     add_port_name(out, component.behaviour.ins(), port)
 }
 
-/// Adds the name of an out port, likewise.
+/// Appends the name of an out port in the same form.
 pub fn add_source(
     out: &mut Vec<u8>,
     design: &DesignParts,
@@ -75,7 +75,7 @@ fn add_adaptor_text(out: &mut Vec<u8>, adaptor: Adaptor) -> Result<(), NoMemory>
     }
 }
 
-/// Adds an adaptor behind a space, where there is one.
+/// Appends a space and an adaptor, if there is one.
 pub fn add_adaptor(out: &mut Vec<u8>, adaptor: Option<Adaptor>) -> Result<(), NoMemory>
     ensures ok { OnOk result (out.new.items ≡ out.old.items ++ and_adaptor adaptor) }
     ensures err { OnErr result (BeginsWith out.new.items out.old.items) }

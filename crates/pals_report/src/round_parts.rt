@@ -1,15 +1,15 @@
-//! A trait for what has the parts of a round: of each component that is shown the part that it left.
+//! The trait of a collection of parts: the result of a round for each component that is shown.
 ghost use Rattle.std.specs.Prelude.{◌≡◌, ℕ, Option, option_copied, slice_get};
 ghost use Rattle.pals_model.specs.declared.part.Part.{Part};
 
 use pals_base::NodeNo;
 use pals_model::Part;
 
-/// What the components that are shown left after a round.
+/// The results of one round, for the components that are shown.
 pub trait RoundParts {
     ghost part_of: { Self → ℕ → Option Part };
 
-    /// The part of a component, or none where the component is not shown.
+    /// Returns the part of a component, or `None` if the component is not shown.
     fn part(&self, node: NodeNo) -> Option<&Part>
         ensures { option_copied result ≡ part_of self.now node.0 };
 }

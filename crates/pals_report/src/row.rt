@@ -1,4 +1,4 @@
-//! The row of a round: its own line, and those of its components and root out ports.
+//! The row of a round: its own line, and the lines of its components and root out ports.
 ghost use Rattle.std.specs.Prelude.{◌≡◌, ◌≤◌, ◌++◌, length, OnOk, OnErr};
 ghost use Rattle.pals_base.specs.declared.limits.TheConstants.{COMPONENTS};
 ghost use Rattle.pals_model.specs.RoundTexts.{text_of, line_end, round_line, row_lines};

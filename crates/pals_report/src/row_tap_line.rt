@@ -8,7 +8,7 @@ use crate::value::add_tuple;
 use pals_base::{Kind, NoMemory, NodeNo, PortValue, Tuple};
 use pals_model::{DesignParts, Part, Tap};
 
-// The place of a tap among those of its source: how many of the taps before it have that source.
+// The index of a tap among the taps with the same source: the number of earlier taps with that source.
 pub(crate) fn place_of_tap(taps: &[Tap], number: usize, source: NodeNo) -> usize
     ensures { result ≡ taps_before taps.now number source.0 }
 {
@@ -18,7 +18,7 @@ pub(crate) fn place_of_tap(taps: &[Tap], number: usize, source: NodeNo) -> usize
         .count()
 }
 
-// The tuple in a place, an empty one past the last.
+// The tuple at an index; empty past the last one.
 fn tuple_at(tuples: &[Tuple], place: usize) -> &[PortValue]
     ensures { result.now ≡ slice_index_or tuples.now place [] }
 {
@@ -28,7 +28,7 @@ fn tuple_at(tuples: &[Tuple], place: usize) -> &[PortValue]
     }
 }
 
-// The line of a root out port of this type, with this tuple.
+// The line of a root out port with this type and this tuple.
 pub(crate) fn add_tap_line(
     out: &mut Vec<u8>,
     kind: Kind,
@@ -46,8 +46,8 @@ pub(crate) fn add_tap_line(
     out.extend_from_slice(b"\n")
 }
 
-// The line of a root out port whose source has a part, and none else. The place is that of the tap
-// among those of its source.
+// The line of a root out port, if its source has a part. The index is the tap's among the taps with the same
+// source.
 pub(crate) fn add_line_at_place(
     out: &mut Vec<u8>,
     design: &DesignParts,

@@ -1,4 +1,4 @@
-//! The line of a refused scenario.
+//! The line of a rejected scenario.
 ghost use Rattle.std.specs.Prelude.{◌≡◌, [], ◌∷◌, ◌++◌, codes, OnOk, OnErr};
 ghost use Rattle.pals_model.specs.RoundTexts.{line_end};
 ghost use Rattle.pals_runs.specs.JournalLines.{spaced};
@@ -8,7 +8,7 @@ use crate::line_word::{LineWord, add_line};
 use pals_base::{NoMemory, Text};
 use scenario_values::ScenarioFault;
 
-// A fault and the name of the place where it stands.
+// A fault and the name of its location.
 fn add_named<'a>(out: &mut Vec<u8>, fault: &'a [u8], place: &'a Text) -> Result<(), NoMemory>
     ensures ok { OnOk result (out.new.items
         ≡ out.old.items ++ spaced (codes "scenario" ∷ fault.now ∷ place.now ∷ []) ++ line_end) }
@@ -25,8 +25,8 @@ fn add_named<'a>(out: &mut Vec<u8>, fault: &'a [u8], place: &'a Text) -> Result<
     )
 }
 
-/// Adds the line of a scenario's fault: `scenario`, the fault, and where it stands. If there is not
-/// enough memory, nothing is added.
+/// Appends the line of a scenario fault: `scenario`, the fault, and its location. Errors: out of memory; the
+/// buffer is then unchanged.
 pub fn add_scenario_fault(out: &mut Vec<u8>, fault: &ScenarioFault) -> Result<(), NoMemory>
     ensures ok { OnOk result
         (out.new.items ≡ out.old.items ++ scenario_fault_line fault.now ++ line_end) }

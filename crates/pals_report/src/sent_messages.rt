@@ -1,4 +1,4 @@
-//! The lines of messages that were sent.
+//! The lines of sent messages.
 ghost use Rattle.std.specs.Prelude.{◌≡◌, ◌++◌, ◌<◌, length, OnOk, OnErr};
 ghost use Rattle.pals_model.specs.RoundTexts.{line_end};
 ghost use Rattle.pals_report.specs.SentMessageLines.{sent_line};
@@ -7,8 +7,8 @@ use crate::line_word::{LineWord, add_line, link_word};
 use pals_base::{LinkNo, NoMemory, PortValue};
 use pals_model::Design;
 
-/// Adds the line of a message that was sent on a link in a round, in the link's own type. If there
-/// is not enough memory, nothing is added.
+/// Appends the line of the message that was sent on a link in a round, with the link's own type. Errors: out of
+/// memory; the buffer is then unchanged.
 pub fn add_sent<'a>(
     out: &mut Vec<u8>,
     design: &'a Design,

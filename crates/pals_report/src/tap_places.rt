@@ -1,4 +1,4 @@
-//! The places of taps among those of their sources.
+//! The index of each tap among the taps with the same source.
 ghost use Rattle.std.specs.Prelude.{◌≡◌, ◌<◌, All, IfOk};
 ghost use Rattle.pals_report.specs.proof.TapPlaces.{tap_places};
 
@@ -7,8 +7,8 @@ use pals_model::{Design, Tap};
 use std::alloc::Global;
 use std::marker::Model;
 
-/// For each tap of a design, by its number, how many of the taps before it have its source. A part
-/// has the tuples of its component's taps in these places.
+/// For each tap of a design, by its number, the number of earlier taps with the same source. A part has the
+/// tuples of its component's taps at these indices.
 #[derive(Drop)]
 pub struct TapPlaces {
     places: ItemList<usize>,
@@ -25,7 +25,8 @@ impl Model for TapPlaces {
 impl TapPlaces {
     ghost use Rattle.std.specs.Prelude.{◌≡◌, ◌<◌, IfOk, length, slice_index_or};
 
-    /// Finds the places of all taps, in time that is in line with taps and components.
+    /// Computes the indices of all taps, in time linear in the numbers of taps and components. Errors: out of
+    /// memory.
     pub fn new(alloc: Global, design: &Design) -> Result<TapPlaces, NoMemory>
         ensures { IfOk result (λ places. places ≡ tap_places design.now.taps) }
     {
@@ -33,7 +34,7 @@ impl TapPlaces {
         Ok(TapPlaces { places })
     }
 
-    // The place of the tap with this number.
+    // The index of the tap with this number.
     pub(crate) fn place(&self, tap: usize) -> usize
         requires { tap < length self.now }
         ensures { result ≡ slice_index_or self.now tap result }
@@ -42,7 +43,7 @@ impl TapPlaces {
     }
 }
 
-// The places of taps whose sources are below a number, by counting the taps of each source.
+// The indices of taps whose sources are below a number, by counting the taps of each source.
 fn places_of(alloc: Global, taps: &[Tap], nodes: usize) -> Result<ItemList<usize>, NoMemory>
     requires { All (λ tap. tap.source.0 < nodes) taps.now }
     ensures { IfOk result (λ places. places ≡ tap_places taps.now) }

@@ -1,4 +1,4 @@
-//! Why the design text of a bundle is refused, as a line of text.
+//! The line of a rejected design text.
 ghost use Rattle.std.specs.Prelude.{◌≡◌, ◌++◌, OnOk, OnErr};
 ghost use Rattle.pals_model.specs.RoundTexts.{line_end};
 ghost use Rattle.pals_report.specs.proof.TextPrefixes.{BeginsWith};
@@ -10,8 +10,8 @@ use aadl_lex::LexFault;
 use aadl_parse::TextFault;
 use pals_base::NoMemory;
 
-/// Adds the line of a fault of a design text: its place as `LINE:COLUMN`, and its name. If there is
-/// not enough memory, nothing is added.
+/// Appends the line of a fault of a design text: its position as `LINE:COLUMN`, and its name. Errors: out of
+/// memory; the buffer is then unchanged.
 pub fn add_text_fault(out: &mut Vec<u8>, text: &[u8], fault: &TextFault) -> Result<(), NoMemory>
     ensures ok { OnOk result
         (out.new.items ≡ out.old.items ++ text_fault_line text.now fault.now ++ line_end) }
@@ -22,8 +22,8 @@ pub fn add_text_fault(out: &mut Vec<u8>, text: &[u8], fault: &TextFault) -> Resu
     whole_or_none(out, start, written)
 }
 
-/// Adds the line of a bundle that no line divides, at the bundle's end. If there is not enough
-/// memory, nothing is added.
+/// Appends the line of a bundle without a dividing line; the position is the bundle's end. Errors: out of
+/// memory; the buffer is then unchanged.
 pub fn add_no_divider(out: &mut Vec<u8>, bundle: &[u8]) -> Result<(), NoMemory>
     ensures ok { OnOk result
         (out.new.items ≡ out.old.items ++ no_divider_line bundle.now ++ line_end) }
@@ -34,7 +34,7 @@ pub fn add_no_divider(out: &mut Vec<u8>, bundle: &[u8]) -> Result<(), NoMemory>
     whole_or_none(out, start, written)
 }
 
-// The line of what is wrong at a place of a text.
+// The line of a fault at a position of a text.
 fn add_text_line(out: &mut Vec<u8>, text: &[u8], at: usize, name: &[u8]) -> Result<(), NoMemory>
     ensures ok { OnOk result
         (out.new.items ≡ out.old.items ++ text_line text.now at name.now ++ line_end) }

@@ -7,7 +7,7 @@ ghost use Rattle.pals_report.specs.proof.TextPrefixes.{BeginsWith};
 use itoa::Buffer;
 use pals_base::{Kind, NoMemory, PortValue};
 
-// A number, in decimal.
+// A number in decimal.
 fn add_number(out: &mut Vec<u8>, number: i64) -> Result<(), NoMemory>
     ensures ok { OnOk result (out.new.items ≡ out.old.items ++ signed_decimal number) }
     ensures err { OnErr result (BeginsWith out.new.items out.old.items) }
@@ -27,7 +27,7 @@ pub(crate) fn add_value(out: &mut Vec<u8>, kind: Kind, value: i64) -> Result<(),
     }
 }
 
-// A value, or the sign of an absent one.
+// A value, or the sign for an absent one.
 fn add_port(out: &mut Vec<u8>, kind: Kind, port: PortValue) -> Result<(), NoMemory>
     ensures ok { OnOk result (out.new.items ≡ out.old.items ++ port_text kind port) }
     ensures err { OnErr result (BeginsWith out.new.items out.old.items) }
@@ -38,7 +38,7 @@ fn add_port(out: &mut Vec<u8>, kind: Kind, port: PortValue) -> Result<(), NoMemo
     }
 }
 
-// The places of a tuple, with commas between them.
+// The values of a tuple, separated by commas.
 fn add_places(out: &mut Vec<u8>, kind: Kind, tuple: &[PortValue]) -> Result<(), NoMemory>
     ensures ok { OnOk result
         (out.new.items ≡ out.old.items ++ with_commas (map (port_text kind) tuple.now)) }
@@ -55,8 +55,8 @@ fn add_places(out: &mut Vec<u8>, kind: Kind, tuple: &[PortValue]) -> Result<(), 
     Ok(())
 }
 
-/// Adds a tuple of values of one type, in parentheses. If there is not enough memory, a part of it
-/// may be there.
+/// Appends a tuple of values of one type, in parentheses. Errors: out of memory; a part of the text may then be
+/// in the buffer.
 pub fn add_tuple(out: &mut Vec<u8>, kind: Kind, tuple: &[PortValue]) -> Result<(), NoMemory>
     ensures ok { OnOk result (out.new.items ≡ out.old.items ++ tuple_text kind tuple.now) }
     ensures err { OnErr result (BeginsWith out.new.items out.old.items) }

@@ -1,4 +1,4 @@
-//! What is wrong with a design, a line for each finding.
+//! The violations of a design, one line each.
 ghost use Rattle.std.specs.Prelude.{◌≡◌, ◌++◌, OnOk, OnErr};
 ghost use Rattle.pals_model.specs.RoundTexts.{line_end, text_of};
 ghost use Rattle.pals_report.specs.proof.TextPrefixes.{BeginsWith};
@@ -10,9 +10,9 @@ use annex_resolve::Violation;
 use itoa::Buffer;
 use pals_base::NoMemory;
 
-/// Adds a line for each finding: its place, its rule's number and name, and the details. Findings
-/// in the order of their places take one pass through the text. If there is not enough memory,
-/// nothing is added.
+/// Appends a line for each violation: its position, the number and the name of its rule, and the details.
+/// Violations in the order of their positions take one pass through the text. Errors: out of memory; the buffer
+/// is then unchanged.
 pub fn add_violations(out: &mut Vec<u8>, text: &[u8], found: &[Violation]) -> Result<(), NoMemory>
     ensures ok { OnOk result
         (out.new.items ≡ out.old.items ++ text_of (violation_lines text.now found.now)) }
@@ -52,7 +52,7 @@ fn add_line(
     out.extend_from_slice(b"\n")
 }
 
-// A word behind a space.
+// A space and a word.
 fn add_word(out: &mut Vec<u8>, word: &[u8]) -> Result<(), NoMemory>
     ensures ok { OnOk result (out.new.items ≡ out.old.items ++ and_word word.now) }
     ensures err { OnErr result (BeginsWith out.new.items out.old.items) }
@@ -61,7 +61,7 @@ fn add_word(out: &mut Vec<u8>, word: &[u8]) -> Result<(), NoMemory>
     out.extend_from_slice(word)
 }
 
-// What is printed behind a rule's name, where there is something.
+// The text after a rule's name, if there is any.
 fn add_details(out: &mut Vec<u8>, details: &[u8]) -> Result<(), NoMemory>
     ensures ok { OnOk result (out.new.items ≡ out.old.items ++ details_text details.now) }
     ensures err { OnErr result (BeginsWith out.new.items out.old.items) }

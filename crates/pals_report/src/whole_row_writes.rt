@@ -1,4 +1,4 @@
-//! Rows, and single lines of a row, written at the end of a buffer whole or not at all.
+//! Rows, and single lines of a row, appended to a buffer entirely or not at all.
 ghost use Rattle.std.specs.Prelude.{◌≡◌, ◌<◌, ◌++◌, Some, length, slice_get, OnOk, OnErr};
 ghost use Rattle.pals_model.specs.declared.design.Tap.{Tap};
 ghost use Rattle.pals_model.specs.declared.environment.Env.{Env};
@@ -16,7 +16,7 @@ use crate::whole_or_none;
 use pals_base::{BehaviourParts, Frame, Kind, NoMemory, PortValue, Text};
 use pals_model::{Component, Design, Part, Tap};
 
-/// Adds the line of a round. If there is not enough memory, nothing is added.
+/// Appends the line of a round. Errors: out of memory; the buffer is then unchanged.
 pub fn add_round(out: &mut Vec<u8>, round: u32) -> Result<(), NoMemory>
     ensures ok { OnOk result (out.new.items ≡ out.old.items ++ round_line round ++ line_end) }
     ensures err { OnErr result (out.new.items ≡ out.old.items) }
@@ -26,8 +26,8 @@ pub fn add_round(out: &mut Vec<u8>, round: u32) -> Result<(), NoMemory>
     whole_or_none(out, start, written)
 }
 
-/// Adds the line of a component after a round, from what it left. It is shown by its path. If there
-/// is not enough memory, nothing is added.
+/// Appends the line of a component after a round, with its path and its part. Errors: out of memory; the buffer
+/// is then unchanged.
 pub fn add_part(out: &mut Vec<u8>, component: &Component, part: &Part) -> Result<(), NoMemory>
     ensures ok { OnOk result
         (out.new.items ≡ out.old.items ++ text_of (part_lines component.now (Some part.now))) }
@@ -38,8 +38,8 @@ pub fn add_part(out: &mut Vec<u8>, component: &Component, part: &Part) -> Result
     whole_or_none(out, start, written)
 }
 
-/// Adds the line of a component that is shown by this name, from its frame. If there is not enough
-/// memory, nothing is added.
+/// Appends the line of a component with this name, from its frame. Errors: out of memory; the buffer is then
+/// unchanged.
 pub fn add_frame(
     out: &mut Vec<u8>,
     name: &Text,
@@ -55,8 +55,8 @@ pub fn add_frame(
     whole_or_none(out, start, written)
 }
 
-/// Adds the line of a root out port of this type, which shows a tuple. If there is not enough
-/// memory, nothing is added.
+/// Appends the line of a root out port with this type and a tuple. Errors: out of memory; the buffer is then
+/// unchanged.
 pub fn add_tap_tuple(
     out: &mut Vec<u8>,
     kind: Kind,
@@ -72,9 +72,8 @@ pub fn add_tap_tuple(
     whole_or_none(out, start, written)
 }
 
-/// Adds the line of a root out port after a round, by its number among the taps and from what its
-/// source left. It takes time in line with the taps. If there is not enough memory, nothing is
-/// added.
+/// Appends the line of a root out port after a round, from its number among the taps and the part of its
+/// source. Takes time linear in the number of taps. Errors: out of memory; the buffer is then unchanged.
 pub fn add_tap(out: &mut Vec<u8>, design: &Design, tap: u32, part: &Part) -> Result<(), NoMemory>
     requires { tap < length design.now.taps }
     ensures ok { (shown : Tap) → slice_get design.now.taps tap ≡ Some shown
@@ -90,8 +89,8 @@ pub fn add_tap(out: &mut Vec<u8>, design: &Design, tap: u32, part: &Part) -> Res
     whole_or_none(out, start, written)
 }
 
-/// Adds the row of a round, from the parts of those components that are shown. If there is not
-/// enough memory, nothing is added.
+/// Appends the row of a round, from the parts of the components that are shown. Errors: out of memory; the
+/// buffer is then unchanged.
 pub fn add_row<P: RoundParts>(
     out: &mut Vec<u8>,
     design: &Design,
@@ -102,7 +101,7 @@ pub fn add_row<P: RoundParts>(
     requires { places.now ≡ tap_places design.now.taps }
     ensures ok { OnOk result (out.new.items
         ≡ out.old.items ++ text_of (row_lines design.now (P.part_of parts.now) round)) }
-    // the parts that the synchronous composition leaves give its row
+    // the parts of the synchronous composition give its row
     ensures composed { (env : Env) → ArePartsOf design.now env round (P.part_of parts.now)
         → OnOk result (out.new.items ≡ out.old.items ++ row design.now env round) }
     ensures err { OnErr result (out.new.items ≡ out.old.items) }

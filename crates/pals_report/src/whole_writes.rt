@@ -1,9 +1,9 @@
-//! Texts that are written whole or not at all.
+//! Texts that are appended entirely or not at all.
 ghost use Rattle.std.specs.Prelude.{◌≡◌, take, OnOk, OnErr};
 
 use pals_base::NoMemory;
 
-/// Takes back what a refused call has written from `start` on.
+/// Removes everything from `start` on if the call failed.
 pub fn whole_or_none(
     out: &mut Vec<u8>,
     start: usize,

@@ -1,4 +1,4 @@
--- The inputs, delays and clocks of a scenario that was read keep what their readers look at.
+-- The parsed inputs, delays and clocks of a scenario satisfy the invariants that their parsers check.
 use Rattle.std.proofs.Common.{◌≡◌, ℕ, ◌<◌, ◌≤◌, ◌+◌, ◌-◌, Bool, true, false, cond, List, [], ◌∷◌, ◌++◌, length}
 use Rattle.std.proofs.Common.{replicate, Ok, All, refl, ◌∙◌, subst, arith, codes, decimal, length-append, lit<}
 use Rattle.std.specs.Prelude.{nat_lt, slice_set}
@@ -112,7 +112,7 @@ link_keeps design lists entry more keeps e =
       each = All-set IsDelayList lists link.0 delays.0 (delay_list_keeps place entry.1 delays.0 delays.1) keeps.each;
     })
 
--- the least delay of the network for each link
+-- the minimum network delay for each link
 pub least_delays_keep : (design : DesignParts) → design.gamma.mu_min ≤ HOUR
     → AreDelaysOf design (replicate (length design.links) (design.gamma.mu_min ∷ []))
 least_delays_keep design small =

@@ -1,4 +1,4 @@
--- Readings that don't fall, one more at a time.
+-- Readings that never decrease, one more at a time.
 use Rattle.std.proofs.Common.{◌≡◌, ℕ, ◌≤◌, ◌-◌, List, [], ◌∷◌, ◌++◌, length, arith}
 use Rattle.std.specs.List.Sorted.{IsNonDecreasing}
 use Rattle.std.proofs.lemmas.Grind.{common_steps, get_or_default_zero}

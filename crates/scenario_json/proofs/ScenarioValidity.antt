@@ -1,4 +1,4 @@
--- A scenario that was read keeps what its fields keep.
+-- A parsed scenario satisfies the invariants of its fields.
 use Rattle.std.proofs.Common.{◌≡◌, ℕ, ◌≤◌, Bool, true, false, List, [], ◌∷◌, length, codes, Option, Some, None, Result}
 use Rattle.std.proofs.Common.{Ok, Err, All, IfOk, replicate, subst, refl, sym, ap, ◌∙◌, arith}
 use Rattle.std.specs.Prelude.{nat_le, min, ◌^◌, ◌-◌}
@@ -42,7 +42,7 @@ use Rattle.scenario_json.specs.Scenarios.{field, small_enough, needs_processors,
 use Rattle.scenario_json.specs.Scenarios.{clocks_field, delays_field, trace_field, properties_field, replicas_field}
 use Rattle.scenario_json.specs.Scenarios.{faults_field, plants_field, processors_field, fields_in}
 
--- a field that is there keeps what its reader keeps, and one that is not there what stands in its place keeps
+-- a present field satisfies the invariant of its parser, and the default of an absent field satisfies it too
 field_keeps : {A : Type 0} (P : A → Type 0) (name : List ℕ) (needed : Bool) (otherwise : A)
     (read : Data → Result A ScenarioFault) (found : Option Data) (a : A) → P otherwise
     → ((d : Data) → read d ≡ Ok a → P a) → field name needed otherwise read found ≡ Ok a → P a
@@ -80,7 +80,7 @@ by_bind : {A B : Type 0} (m : Result A ScenarioFault) (go : A → Result B Scena
 by_bind (Ok a) go b Q e next = next a refl e
 by_bind (Err fault) go b Q e next = absurd (cc)
 
--- what is read before a field
+-- the fields before a given one
 record Read : Type 0 where
   rounds : ℕ
   inputs : List (List PortValue)
@@ -125,7 +125,7 @@ abbrev from_clocks : Data → DesignParts → Command → ℕ → List (List Por
 from_clocks d design command n i v =
     clocks_field design d >>= λ c. delays_field design d >>= λ l. from_trace d design command n i v c l
 
--- what is kept by then
+-- their invariants
 record Keeps (design : DesignParts) (x : Read) : Type 0 where
   rounds_are : AreRounds design x.rounds
   inputs_are : AreInputsOf design x.inputs
@@ -223,7 +223,7 @@ fields_keep d design command s quick e =
     (λ y read. inputs_keep design y i read) is_i)
     last)))
 
--- a scenario that a call answers, over tables of the design's names, is one of the design
+-- a scenario that a call returns, for tables of the design's names, belongs to the design
 pub answer_keeps : (d : Data) (names design : DesignParts) (command : Command) (answer : Result Scenario ScenarioFault)
     → names ≡ design → IsDesign design → Answers (fields_in d names command) answer → IfOk answer (IsScenarioOf design)
 answer_keeps d names design command (Ok s) same rules is =

@@ -1,4 +1,5 @@
--- What the field of clocks means: a list of readings for each node, or that all meet, or its first fault.
+-- The meaning of the field of clocks: a list of readings for each node, the virtual-time schedule, or its first
+-- fault.
 use Rattle.std.specs.Prelude.{ℕ, bytes_eq, codes, decimal, List, [], ◌∷◌, ◌++◌, length, replicate, slice_set}
 use Rattle.std.specs.Prelude.{slice_index, Bool, ◌-◌, option_map, unwrap_or, false, Result, Ok, if◌then◌else◌}
 use Rattle.serde_json.specs.Data.{Data}
@@ -26,14 +27,14 @@ with_reading place readings d =
 unfoldable pub reading_list : List ℕ → Data → Result (List ℕ) ScenarioFault
 reading_list place d = short_list place LIST_ITEMS d >>= λ ds. through (with_reading place) [] ds
 
--- the clock of one node, in its place
+-- the clock of one node, at its index
 unfoldable pub with_clock : DesignParts → List ClockState → List ℕ × Data → Result (List ClockState) ScenarioFault
 with_clock design clocks entry =
     let place = inside (codes "clocks") entry.0 in
     node_at place design entry.0 >>= λ node. reading_list place entry.1 >>= λ readings.
     Ok (slice_set clocks node (unpicked readings))
 
--- a list for each node, empty where it is not named
+-- a list for each node; empty if the field does not name the node
 unfoldable pub clock_lists : DesignParts → Data → Result Clocks ScenarioFault
 clock_lists design d =
     entries (codes "clocks") d >>= λ es.

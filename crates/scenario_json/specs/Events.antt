@@ -1,4 +1,4 @@
--- What the field of events means for a command, or its first fault.
+-- The meaning of the field of events for a command, or its first fault.
 use Rattle.std.specs.Prelude.{ℕ, nat_eq, bytes_eq, codes, decimal, List, [], ◌∷◌, ◌++◌, length, Bool, true, false, ◌&&◌}
 use Rattle.std.specs.Prelude.{Option, Some, None, option_and_then, Result, Ok, Err, if◌then◌else◌}
 use Rattle.std.specs.List.{list_all}
@@ -23,7 +23,7 @@ use Rattle.scenario_values.specs.NameLookup.{node_no, link_no, node_at, link_at}
 use Rattle.pals_runs.specs.declared.events_and_faults.Event.TheVariants as event
 
 -- ---- words
--- the kind of event that a word is
+-- the kind of event with a name
 abbrev pub word_of : List ℕ → Option EventWord
 word_of name =
     if bytes_eq name (codes "pass") then Some Pass else if bytes_eq name (codes "start") then Some Start
@@ -32,8 +32,8 @@ word_of name =
     else if bytes_eq name (codes "drop") then Some Drop else if bytes_eq name (codes "repeat") then Some
     Repeat else None
 
--- time stands still in a loose world, and nothing is lost or doubled in another; the events of other commands may be
--- any
+-- a loose world has no time, and in a timed world no message is lost or repeated; the events of other commands may
+-- have any word
 abbrev pub is_usual : Command → EventWord → Bool
 is_usual (World root true) Pass = false
 is_usual (World root false) Drop = false
@@ -41,12 +41,12 @@ is_usual (World root false) Repeat = false
 is_usual command word = true
 
 -- ---- parts
--- the node of an event that has one
+-- the node of an event with a node
 unfoldable pub node_part : DesignParts → List ℕ → List Data → Result NodeNo ScenarioFault
 node_part design place (d ∷ []) = text place d >>= λ path. node_at place design path >>= λ node. Ok (node_no node)
 node_part design place ds = Err (WrongKind place)
 
--- the link and the round of an event that has them
+-- the link and the round of an event with these parts
 unfoldable pub link_parts : DesignParts → List ℕ → List Data → Result (LinkNo × ℕ) ScenarioFault
 link_parts design place (d ∷ round ∷ []) =
     text place d >>= λ name. only_if (is_whole round) (WrongKind place)
@@ -79,7 +79,7 @@ event_of design place Arrive ds = link_parts design place ds >>= λ p. Ok (event
 event_of design place Drop ds = link_parts design place ds >>= λ p. Ok (event.Drop p.0 p.1)
 event_of design place Repeat ds = link_parts design place ds >>= λ p. Ok (event.Repeat p.0 p.1)
 
--- the word that an event begins with, where this command's events may have it
+-- the first word of an event, if this command's events may have it
 unfoldable pub usual_word : Command → List ℕ → Data → Result EventWord ScenarioFault
 usual_word command place d =
     given (WrongKind place) (option_and_then word_of (as_str d)) >>= λ word.

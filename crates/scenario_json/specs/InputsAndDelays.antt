@@ -1,4 +1,5 @@
--- What the fields of inputs and of delays mean: a list for each root in port and for each link, or the first fault.
+-- The meaning of the fields of inputs and of delays: a list for each root in port and for each link, or the first
+-- fault.
 use Rattle.std.specs.Prelude.{ℕ, nat_lt, codes, decimal, List, [], ◌∷◌, ◌++◌, length, replicate, slice_set, Result, Ok}
 use Rattle.serde_json.specs.Data.{Data}
 use Rattle.pals_base.specs.declared.behaviour.Kind.{Kind}
@@ -15,7 +16,7 @@ use Rattle.scenario_values.specs.FieldValues.{elements, entries, port_value, who
 use Rattle.scenario_values.specs.NameLookup.{link_at, root_at}
 
 -- ---- inputs
--- one more value of a list, whose place ends with its index
+-- one more value of a list; its location ends with its index
 abbrev pub with_value : Kind → List ℕ → List PortValue → Data → Result (List PortValue) ScenarioFault
 with_value kind place values d =
     port_value kind (inside place (decimal (length values))) d >>= λ v. Ok (values ++ v ∷ [])
@@ -23,7 +24,7 @@ with_value kind place values d =
 unfoldable pub value_list : Kind → List ℕ → Data → Result (List PortValue) ScenarioFault
 value_list kind place d = elements place d >>= λ ds. through (with_value kind place) [] ds
 
--- the list of one root in port, in its place
+-- the list of one root in port, at its index
 unfoldable pub with_input : DesignParts → List (List PortValue) → List ℕ × Data
     → Result (List (List PortValue)) ScenarioFault
 with_input design lists entry =
@@ -31,7 +32,7 @@ with_input design lists entry =
     root_at place design entry.0 >>= λ root.
     value_list (root_kind design entry.0) place entry.1 >>= λ values. Ok (slice_set lists root values)
 
--- a list for each root in port, empty where it is not named
+-- a list for each root in port; empty if the field does not name the port
 unfoldable pub inputs_in : DesignParts → Data → Result (List (List PortValue)) ScenarioFault
 inputs_in design d =
     entries (codes "inputs") d >>= λ es. through (with_input design) (replicate (length (root_inputs design)) []) es
@@ -45,13 +46,13 @@ unfoldable pub delay_list : List ℕ → Data → Result (List ℕ) ScenarioFaul
 delay_list place d =
     elements place d >>= λ ds. only_if (nat_lt 0 (length ds)) (OutOfRange place) (through (with_delay place) [] ds)
 
--- the list of one link, in its place
+-- the list of one link, at its index
 unfoldable pub with_link_delays : DesignParts → List (List ℕ) → List ℕ × Data → Result (List (List ℕ)) ScenarioFault
 with_link_delays design lists entry =
     let place = inside (codes "delays") entry.0 in
     link_at place design entry.0 >>= λ link. delay_list place entry.1 >>= λ delays. Ok (slice_set lists link delays)
 
--- a list for each link, of the least delay of the network where it is not named
+-- a list for each link; only the minimum network delay if the field does not name the link
 unfoldable pub delays_in : DesignParts → Data → Result (List (List ℕ)) ScenarioFault
 delays_in design d =
     entries (codes "delays") d >>= λ es.

@@ -1,4 +1,4 @@
--- What a scenario means, or its first fault.
+-- The meaning of a scenario, or its first fault.
 use Rattle.std.specs.Prelude.{◌≡◌, ◌≢◌, ◌⊎◌, IsUtf8, MatchResult, ℕ, ◌^◌, ◌-◌, min, nat_le, bytes_eq, codes, List, []}
 use Rattle.std.specs.Prelude.{◌∷◌, length, find, replicate, Bool, true, false, not, Option, Some, None, Result, Ok, Err}
 use Rattle.std.specs.Prelude.{if◌then◌else◌}
@@ -45,12 +45,12 @@ fields =
 abbrev pub is_field : List ℕ → Bool
 is_field name = list_any (bytes_eq name) fields
 
--- the first name in byte order that is no field
+-- the first unknown field, in byte order
 abbrev pub only_known : {A : Type 0} → Option (List ℕ × Data) → Result A ScenarioFault → Result A ScenarioFault
 only_known None next = next
 only_known (Some entry) next = Err (Unknown entry.0)
 
--- a field that is there, or what stands in its place; a command may need it
+-- a field, or its default if it is absent; a command may require the field
 abbrev pub field : {A : Type 0} → List ℕ → Bool → A → (Data → Result A ScenarioFault) → Option Data
     → Result A ScenarioFault
 field name needed otherwise read None = if needed then Err (Field name) else Ok otherwise
@@ -73,7 +73,8 @@ needs_processors (Budget root) = true
 needs_processors command = false
 
 -- ---- the number of rounds
--- the cells are not too many; a fault names their number, or the greatest number of 64 bits where that is less
+-- the number of output values is within the limit; a fault has their number, or the maximum 64-bit number if that is
+-- smaller
 abbrev pub small_enough : {A : Type 0} → ℕ → Result A ScenarioFault → Result A ScenarioFault
 small_enough cells next = only_if (nat_le cells CELLS) (TooBig (min cells (2 ^ 64 - 1))) next
 
@@ -83,7 +84,7 @@ rounds_in design d =
     small_enough (cells_of design rounds) (Ok rounds)
 
 -- ---- the other fields, each by its name
--- none for each root input, where they are absent
+-- without the field, each root in port has an empty list
 abbrev pub inputs_field : DesignParts → Data → Result (List (List PortValue)) ScenarioFault
 inputs_field design d =
     field (codes "inputs") false (replicate (length (root_inputs design)) []) (inputs_in design)
@@ -93,11 +94,11 @@ abbrev pub events_field : DesignParts → Command → Data → Result (List Even
 events_field design command d =
     field (codes "events") (needs_events command) [] (events_in design command) (get (codes "events") d)
 
--- clocks that meet, where they are absent
+-- without the field, the nodes follow the virtual-time schedule
 abbrev pub clocks_field : DesignParts → Data → Result Clocks ScenarioFault
 clocks_field design d = field (codes "clocks") false Meet (clocks_in design) (get (codes "clocks") d)
 
--- the least delay for each link, where they are absent
+-- without the field, each link has the minimum delay
 abbrev pub delays_field : DesignParts → Data → Result (List (List ℕ)) ScenarioFault
 delays_field design d =
     field (codes "delays") false (replicate (length design.links) (design.gamma.mu_min ∷ [])) (delays_in design)
@@ -160,13 +161,13 @@ scen d design command =
 abbrev pub IsValue : List ℕ → Data → Type 0
 IsValue bytes d = IsUtf8 bytes × (read bytes ≡ Some d)
 
--- what bytes mean: what their value means, or that they are no JSON
+-- the meaning of bytes: the meaning of their value, or the fault that they are not JSON
 abbrev pub Means : List ℕ → DesignParts → Command → Result Scenario ScenarioFault → Type 0
 Means bytes design command meant =
     ((d : Data) × IsValue bytes d × (scen d design command ≡ meant))
     ⊎ (((d : Data) → IsValue bytes d → ⊥) × (meant ≡ Err NotJson))
 
--- an answer is what the bytes mean, unless there was not enough memory
+-- the result is the meaning of the bytes, unless memory ran out
 abbrev pub IsAnswer : List ℕ → DesignParts → Command → Result Scenario ScenarioFault → Type 0
 IsAnswer bytes design command answer =
     MatchResult answer (λ s. Means bytes design command (Ok s))

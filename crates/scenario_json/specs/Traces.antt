@@ -1,4 +1,4 @@
--- What the field of a trace means: its lines, or its first fault.
+-- The meaning of the field of a trace: its lines, or its first fault.
 use Rattle.std.specs.Prelude.{ℕ, codes, decimal, List, [], ◌∷◌, ◌++◌, length, Result, Ok}
 use Rattle.serde_json.specs.Data.{Data}
 use Rattle.pals_base.specs.declared.limits.TheConstants.{LIST_ITEMS}

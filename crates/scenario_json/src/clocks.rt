@@ -1,4 +1,4 @@
-//! Reads the field of clocks: a list of readings for each node, or that all nodes meet.
+//! Parses the field of clocks: a list of readings for each node, or the virtual-time schedule.
 ghost use Rattle.std.specs.Prelude.{◌≡◌, [], IfOk, codes, length, replicate};
 ghost use Rattle.std.specs.List.Sorted.{IsNonDecreasing};
 ghost use Rattle.serde_json.specs.View.{view};
@@ -16,7 +16,7 @@ use scenario_values::{DesignNames, ScenarioFault};
 use serde_json::Value;
 use std::alloc::Global;
 
-// The readings of one clock, which don't fall.
+// The readings of one clock, which never decrease.
 #[tactic(auto, unfolding(crate::specs::Clocks::reading_list))]
 fn reading_list(alloc: Global, name: &str, value: &Value) -> Result<ItemList<Nanos>, ScenarioFault>
     ensures value { Answers (reading_list (inside (codes "clocks") name.now) (view value.now)) result }
@@ -35,7 +35,7 @@ fn reading_list(alloc: Global, name: &str, value: &Value) -> Result<ItemList<Nan
     Ok(readings)
 }
 
-// Puts the clock of one node into its place.
+// Stores the clock of one node.
 #[tactic(auto, unfolding(crate::specs::Clocks::with_clock))]
 fn add_clock(
     alloc: Global,
@@ -65,7 +65,7 @@ fn empty_clocks(alloc: Global, count: usize) -> Result<ItemList<ListClock>, NoMe
     Ok(clocks)
 }
 
-// A list for each node, empty where it is not named.
+// A list for each node; empty if the field does not name the node.
 #[tactic(auto, unfolding(crate::specs::Clocks::clock_lists))]
 fn clock_lists(
     alloc: Global,
@@ -91,7 +91,8 @@ fn is_meet(value: &Value) -> bool
     }
 }
 
-/// The hour on which all nodes meet, or a list of readings for each node.
+/// Returns the virtual-time schedule, which ends at one hour, or a list of readings for each node. Errors: the
+/// first fault of the field.
 #[tactic(auto, unfolding(crate::specs::Clocks::clocks_in))]
 pub fn read_clocks(
     alloc: Global,

@@ -1,4 +1,4 @@
-//! Reads the field of events, each by its word and its parts.
+//! Parses the field of events, each from its word and its parts.
 ghost use Rattle.std.specs.Prelude.{◌≡◌, map, option_and_then};
 ghost use Rattle.std.specs.List.{list_all};
 ghost use Rattle.serde_json.specs.Find.{as_str};
@@ -18,7 +18,7 @@ use scenario_values::{DesignNames, ScenarioFault};
 use serde_json::Value;
 use std::alloc::Global;
 
-/// The word that an event begins with.
+/// The first word of an event.
 #[derive(Clone, Copy, PartialEq)]
 pub enum EventWord {
     Pass,
@@ -31,7 +31,7 @@ pub enum EventWord {
     Repeat,
 }
 
-// The kind of event that a word is.
+// The kind of event with a name.
 fn word_of(name: &str) -> Option<EventWord>
     ensures { result ≡ word_of name.now }
 {
@@ -66,7 +66,7 @@ fn word_in(value: &Value) -> Option<EventWord>
     }
 }
 
-// Whether the events of this command may begin with a word.
+// Whether the events of this command may have this word.
 fn is_usual(command: &Command, word: EventWord) -> bool
     ensures { result ≡ is_usual command.now word }
 {
@@ -77,7 +77,7 @@ fn is_usual(command: &Command, word: EventWord) -> bool
     }
 }
 
-// The word of an event, where this command's events may have it.
+// The word of an event, if this command's events may have it.
 #[tactic(auto, unfolding(crate::specs::Events::usual_word))]
 fn usual_word(
     alloc: Global,
@@ -96,7 +96,7 @@ fn usual_word(
     Ok(word)
 }
 
-// The node of an event that has one.
+// The node of an event with a node.
 #[tactic(auto, unfolding(crate::specs::Events::node_part))]
 fn node_part(
     alloc: Global,
@@ -113,7 +113,7 @@ fn node_part(
     names.node(alloc, place, path)
 }
 
-// The link and the round of an event that has them.
+// The link and the round of an event with these parts.
 #[tactic(auto, unfolding(crate::specs::Events::link_parts))]
 fn link_parts(
     alloc: Global,
@@ -188,7 +188,7 @@ fn pass_parts(
     Ok((time, readings))
 }
 
-// The event of a word and of what follows it.
+// The event with a word and the values after it.
 #[tactic(auto, unfolding(crate::specs::Events::event_of))]
 fn event_of(
     alloc: Global,
@@ -254,7 +254,8 @@ fn read_event(
     event_of(alloc, names, place, word, parts)
 }
 
-/// The events of a world, by their form and their names; whether each may happen is for the world.
+/// Returns the events of a world, after a check of their shapes and names. Whether each may occur is checked by
+/// the world. Errors: the first fault of the field.
 #[tactic(auto, unfolding(crate::specs::Events::events_in))]
 pub fn read_events(
     alloc: Global,

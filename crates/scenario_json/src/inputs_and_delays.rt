@@ -1,4 +1,4 @@
-//! The values of the root in ports, and how long messages take.
+//! The values of the root in ports, and the delays of messages.
 ghost use Rattle.std.specs.Prelude.{◌≡◌, [], ◌∷◌, IfOk, codes, length, replicate};
 ghost use Rattle.serde_json.specs.View.{view};
 ghost use Rattle.pals_model.specs.ComponentInputs.{root_inputs};
@@ -30,7 +30,7 @@ fn value_list(alloc: Global, kind: Kind, name: &str, value: &Value) -> Result<Tu
     Ok(values)
 }
 
-// Puts the values of one root in port into their place.
+// Stores the values of one root in port.
 #[tactic(auto, unfolding(crate::specs::InputsAndDelays::with_input))]
 fn add_input(
     alloc: Global,
@@ -49,7 +49,7 @@ fn add_input(
     Ok(())
 }
 
-/// An empty list for each of `count` root in ports.
+/// Returns an empty list for each of `count` root in ports. Errors: out of memory.
 pub fn no_inputs(alloc: Global, count: usize) -> Result<ItemList<Tuple>, NoMemory>
     ensures { IfOk result (λ lists. lists ≡ replicate count []) }
 {
@@ -60,7 +60,8 @@ pub fn no_inputs(alloc: Global, count: usize) -> Result<ItemList<Tuple>, NoMemor
     Ok(lists)
 }
 
-/// A list for each root in port, empty where it is not named.
+/// Returns a list for each root in port; empty if the field does not name the port. Errors: the first fault of
+/// the field.
 #[tactic(auto, unfolding(crate::specs::InputsAndDelays::inputs_in))]
 pub fn read_inputs(
     alloc: Global,
@@ -95,7 +96,7 @@ fn delay_list(alloc: Global, name: &str, value: &Value) -> Result<ItemList<Nanos
     Ok(delays)
 }
 
-// Puts the delays of one link into their place.
+// Stores the delays of one link.
 #[tactic(auto, unfolding(crate::specs::InputsAndDelays::with_link_delays))]
 fn add_delays(
     alloc: Global,
@@ -114,7 +115,7 @@ fn add_delays(
     Ok(())
 }
 
-/// The least delay of the network for each link.
+/// Returns, for each link, the minimum network delay. Errors: out of memory.
 pub fn least_delays(
     alloc: Global,
     names: &DesignNames<'_>,
@@ -130,7 +131,8 @@ pub fn least_delays(
     Ok(lists)
 }
 
-/// A list for each link, of the least delay of the network where it is not named.
+/// Returns a list for each link; only the minimum network delay if the field does not name the link. Errors:
+/// the first fault of the field.
 #[tactic(auto, unfolding(crate::specs::InputsAndDelays::delays_in))]
 pub fn read_delays(
     alloc: Global,

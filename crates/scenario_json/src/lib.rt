@@ -1,6 +1,9 @@
-//! Scenarios: what a user hands in beside a design, as one JSON object. Each number and each name in it is
-//! checked here, once and for every command, and the first mistake is named where it stands. What a
-//! scenario means, or what its first fault is, is `scen` of `specs/Scenarios.antt`.
+//! Scenarios: the second input of a command, next to the design, as one JSON object.
+//!
+//! [`read_scenario`] checks each number and each name once, for every command, and returns the scenario or its
+//! first fault with its location. The meaning of a scenario and its first fault are `scen` of
+//! `specs/Scenarios.antt`. The crate does not execute a scenario; whether an event may occur is checked by the
+//! world.
 #![tactic(auto)]
 
 mod clocks;

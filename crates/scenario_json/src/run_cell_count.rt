@@ -1,4 +1,4 @@
-//! How many values the rounds of a run leave, which is kept below a limit.
+//! The number of output values of a run, which has a limit.
 ghost use Rattle.std.specs.Prelude.{◌≡◌, ◌<◌, ◌≤◌, ◌^◌, length, sum_by};
 ghost use Rattle.pals_base.specs.declared.limits.TheConstants.{COMPONENTS};
 ghost use Rattle.pals_model.specs.declared.design.Link.{Link};
@@ -8,7 +8,7 @@ ghost use Rattle.scenario_json.specs.RunCellCount.{component_cells, cells_of};
 
 use pals_model::{Component, Design, DesignParts, Link, Tap};
 
-// What a component leaves in a round.
+// The output values of a component in a round.
 fn component_cells(component: &Component) -> u128
     ensures value { result ≡ component_cells component.now }
     ensures bound { result < 2 ^ 66 }
@@ -18,7 +18,7 @@ fn component_cells(component: &Component) -> u128
     1 + 2 * u128::from(rate) + variables as u128
 }
 
-// What components leave in a round.
+// The output values of components in a round.
 fn of_components(components: &[Component]) -> u128
     requires { length components.now ≤ COMPONENTS }
     ensures value { result ≡ sum_by component_cells components.now }
@@ -31,7 +31,7 @@ fn of_components(components: &[Component]) -> u128
     sum
 }
 
-// What links leave in a round.
+// The output values of links in a round.
 fn of_links(design: &DesignParts, links: &[Link]) -> u128
     ensures value { result ≡ sum_by (λ (link : Link). rate_of design.now link.source.0) links.now }
     ensures bound { result < 2 ^ 100 }
@@ -44,7 +44,7 @@ fn of_links(design: &DesignParts, links: &[Link]) -> u128
     sum
 }
 
-// What root out ports leave in a round.
+// The output values of root out ports in a round.
 fn of_taps(design: &DesignParts, taps: &[Tap]) -> u128
     ensures value { result ≡ sum_by (λ (tap : Tap). rate_of design.now tap.source.0) taps.now }
     ensures bound { result < 2 ^ 100 }
@@ -57,7 +57,7 @@ fn of_taps(design: &DesignParts, taps: &[Tap]) -> u128
     sum
 }
 
-/// How many values a run of `rounds` rounds leaves.
+/// Returns the number of output values of a run of `rounds` rounds.
 pub fn cells_of(design: &Design, rounds: u64) -> u128
     requires { rounds < 2 ^ 20 }
     ensures { result ≡ cells_of design.now rounds }

@@ -1,14 +1,13 @@
-//! Scenarios, as users of them see them.
+//! The type of scenarios.
 use analysis_fields::{Processor, Property, RoundFault};
 use pals_base::{ItemList, NodeNo, Text};
 use pals_clock::Clocks;
 use pals_model::{Delays, Env};
 use pals_runs::{Event, Pair};
 
-/// A scenario for a design: how many rounds a run has, the values of the root in ports, the events
-/// of a world, the clocks of the nodes, how long messages take, the lines of a trace, the properties
-/// of monitors, replicas and their faults, plants with their controllers, and processors. What is
-/// not handed in is empty, or its default.
+/// A scenario for a design: the number of rounds, the values of the root in ports, the events of a world, the
+/// clocks of the nodes, the delays of messages, the lines of a trace, the properties of monitors, replicas and
+/// their faults, plants with their controllers, and processors. An absent field is empty, or has its default.
 #[derive(Drop)]
 pub struct Scenario {
     pub rounds: u32,

@@ -1,4 +1,4 @@
-//! Reads a whole scenario from its bytes, field by field, or finds its first fault.
+//! Parses a whole scenario from its bytes, field by field, or finds its first fault.
 ghost use Rattle.std.specs.Prelude.{◌≡◌, find, map, not, option_map, IfOk};
 ghost use Rattle.serde_json.specs.View.{view};
 ghost use Rattle.pals_clock.specs.declared.clock.Clocks.TheVariants.{Meet};
@@ -39,7 +39,7 @@ use scenario_values::{DesignNames, ScenarioFault};
 use serde_json::{Category, Map, Value};
 use std::alloc::Global;
 
-// Whether a name is that of a field.
+// Whether a name is the name of a field.
 fn is_field(name: &str) -> bool
     ensures { result ≡ is_field name.now }
 {
@@ -56,7 +56,7 @@ fn is_field(name: &str) -> bool
         || name == "processors"
 }
 
-// The first name that is no field.
+// The first name of an unknown field.
 fn unknown_field(members: &Map<String, Value>) -> Option<&str>
     ensures { option_map (λ name. name.now) result
         ≡ option_map (λ e. e.0) (find (λ e. not (is_field e.0)) (map entry_of members.now.entries)) }
@@ -93,7 +93,7 @@ fn needs_processors(command: &Command) -> bool
     matches!(command, Command::Budget { .. })
 }
 
-// The number of rounds. A run of them must not leave too many values.
+// The number of rounds. The number of output values of the run is limited.
 #[tactic(auto, unfolding(crate::specs::Scenarios::rounds_in))]
 fn rounds_in(alloc: Global, design: &Design, value: &Value) -> Result<u32, ScenarioFault>
     ensures { Answers (rounds_in design.now (view value.now)) result }
@@ -253,7 +253,7 @@ fn processors_in(
     read_processors(alloc, names, processors)
 }
 
-// The scenario of an object that has no other fields.
+// The scenario of an object without unknown fields.
 #[tactic(auto, unfolding(crate::specs::Scenarios::fields_in))]
 fn fields_in(
     alloc: Global,
@@ -289,7 +289,7 @@ fn fields_in(
     })
 }
 
-// The scenario that a JSON value is.
+// The scenario of a JSON value.
 #[tactic(auto, unfolding(crate::specs::Scenarios::scen))]
 fn scenario_in(
     alloc: Global,
@@ -308,9 +308,8 @@ fn scenario_in(
     fields_in(alloc, &names, command, value)
 }
 
-/// Reads the scenario of a command for a design, from its bytes. The answer is the scenario, or its
-/// first fault: `NotJson` where the bytes are no JSON, else the first in the order of the fields. The
-/// time that it takes is in line with the bytes.
+/// Parses the scenario of a command for a design. Takes time linear in the number of bytes. Errors: the first
+/// fault; `NotJson` if the bytes are not JSON, else the first one in the order of the fields.
 pub fn read_scenario(
     alloc: Global,
     bytes: &[u8],
@@ -318,7 +317,7 @@ pub fn read_scenario(
     job: Command,
 ) -> Result<Scenario, ScenarioFault>
     ensures answer { IsAnswer bytes.now design.now job result }
-    // what users of a scenario need not look at again
+    // facts that users of a scenario need not check again
     ensures kept { IfOk result (IsScenarioOf design.now) }
 {
     match Value::from_slice(alloc, bytes) {

@@ -1,4 +1,4 @@
-//! Reads the field of a trace: its lines.
+//! Parses the field of a trace: its lines.
 ghost use Rattle.serde_json.specs.View.{view};
 ghost use Rattle.scenario_values.specs.ResultCombinators.{Answers};
 ghost use Rattle.scenario_json.specs.Traces.{trace_in};
@@ -11,7 +11,7 @@ use scenario_values::placed_faults::Place;
 use serde_json::Value;
 use std::alloc::Global;
 
-/// The lines of a trace.
+/// Returns the lines of a trace. Errors: the first fault of the field.
 #[tactic(auto, unfolding(crate::specs::Traces::trace_in))]
 pub fn read_trace(alloc: Global, value: &Value) -> Result<ItemList<Text>, ScenarioFault>
     ensures { Answers (trace_in (view value.now)) result }

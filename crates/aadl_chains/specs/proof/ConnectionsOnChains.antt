@@ -1,4 +1,4 @@
--- A connection that is on a chain, by what its ends lead to.
+-- A connection on a connection chain, characterised by its two ends.
 use Rattle.std.specs.Prelude.{◌≡◌, ℕ, Some}
 use Rattle.aadl_tree.specs.Declarations.{PackageTree}
 use Rattle.aadl_names.specs.declared.numbered_port.NumberedPort.{NumberedPort}
@@ -16,7 +16,8 @@ pub record IsOnChain (tree : PackageTree ℕ) (root n : ℕ) (wire : ConnectionP
   pub comes : LeadsFrom tree root directions.In n source
   pub goes : LeadsFrom tree root directions.Out n target
 
--- the sets are those of all ports that threads give to or take from, and that are fed or led outside
+-- the sets have all ports that carry values of threads or reach threads, and all ports that receive values from
+-- outside or provide them
 pub record AreChainPorts (tree : PackageTree ℕ) (ways : JoinedPorts) : Type 0 where
   pub gives_out : ways.gives.direction ≡ directions.Out
   pub gives : IsInside tree directions.Out ways.gives.ports

@@ -1,4 +1,4 @@
--- A step down: the port of a subcomponent that gives to an own out port.
+-- A step down: the port of a subcomponent that provides the value of an own out port.
 use Rattle.std.specs.Prelude.{◌≡◌, ℕ, false, Option, Some, None}
 use Rattle.aadl_tree.specs.Declarations.{PackageTree}
 use Rattle.aadl_names.specs.declared.numbered_port.NumberedPort.{NumberedPort}
@@ -17,7 +17,8 @@ pub record IsLower (tree : PackageTree ℕ) (n : ℕ) (source : NumberedPort) (l
   pub names : below tree n lower.sub ≡ Some lower.number
   pub goes_out : is_in_at tree lower.number lower.port ≡ false
 
--- the port of a subcomponent that gives to an own out port, or none where no connection goes into it
+-- the port of a subcomponent that provides the value of an own out port, or `None` if the port has no incoming
+-- connection
 abbrev pub LeadsDown : PackageTree ℕ → ℕ → ℕ → Option PortBelow → Type 0
 LeadsDown tree n out None = connection_into tree n (Own out) ≡ None
 LeadsDown tree n out (Some lower) =

@@ -1,4 +1,4 @@
--- From which connections a thread's port is entered.
+-- The connections through which a thread's port is entered.
 use Rattle.std.specs.Prelude.{◌≡◌, ℕ, ◌<◌, ◌+◌, List, [], ◌∷◌, ◌++◌, Option, Some, None, slice_get}
 use Rattle.aadl_tree.specs.Declarations.{PackageTree}
 use Rattle.aadl_names.specs.declared.numbered_port.NumberedPort.TheVariants.{Own, Inner}
@@ -46,13 +46,13 @@ pub record IsLinkBelow (tree : PackageTree ℕ) (n sub : ℕ) (port : Port) : Ty
 abbrev pub IsFromOwn : PackageTree ℕ → ℕ → ℕ → ℕ → Type 0
 IsFromOwn tree n k q = (wire : ConnectionPorts) × (slice_get (connection_ports_at tree n) k ≡ Some wire) × (wire.source ≡ Some (Own q))
 
--- it comes from a port of a subcomponent to which a thread gives
+-- it comes from a port of a subcomponent that carries a thread's value
 abbrev pub IsFromThread : PackageTree ℕ → ℕ → ℕ → Type 0
 IsFromThread tree n k =
     (wire : ConnectionPorts) × (t q : ℕ) × (slice_get (connection_ports_at tree n) k ≡ Some wire) × (wire.source ≡ Some (Inner t q))
     × ReachesIn tree directions.Out n t q
 
--- one of the first i has P
+-- one of the first i elements satisfies P
 abbrev pub AmongFirst : (ℕ → Port → Type 0) → ℕ → Port → Type 0
 AmongFirst P i port = (k : ℕ) × (k < i) × P k port
 

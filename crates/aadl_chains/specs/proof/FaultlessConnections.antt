@@ -1,4 +1,5 @@
--- Connections without faults: at most one goes into each port in use, each ends where it may, and threads have none.
+-- Connections without faults: at most one goes into each port in use, both ends of each are permitted, and threads
+-- have none.
 use Rattle.std.specs.Prelude.{◌≡◌, ℕ, true, Some, slice_get}
 use Rattle.aadl_tree.specs.Declarations.{Connection, Implementation, PackageTree}
 use Rattle.aadl_names.specs.declared.numbered_port.NumberedPort.{NumberedPort}

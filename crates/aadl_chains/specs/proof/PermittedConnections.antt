@@ -1,4 +1,4 @@
--- Connections whose ends are both declared and that may go from the one to the other.
+-- Permitted connections: both ends are declared, and their directions fit.
 use Rattle.std.specs.Prelude.{◌≡◌, ℕ, true, false, [], Some, Contains}
 use Rattle.aadl_tree.specs.Declarations.{PackageTree}
 use Rattle.aadl_names.specs.declared.numbered_port.NumberedPort.{NumberedPort}
@@ -8,12 +8,12 @@ use Rattle.aadl_uses.specs.declared.connections_by_target.ConnectionPorts.{Conne
 use Rattle.aadl_uses.specs.PortsOfConnections.{connection_ports_at}
 use Rattle.aadl_chains.specs.proof.PortsJoinedInside.{is_thread_at, is_in_at}
 
--- connections go out of own in ports and out ports of subcomponents
+-- connections may start at own in ports and out ports of subcomponents
 abbrev pub MayLeave : PackageTree ℕ → ℕ → NumberedPort → Type 0
 MayLeave tree n (Own p) = is_in_at tree n p ≡ true
 MayLeave tree n (Inner s p) = (m : ℕ) × (below tree n s ≡ Some m) × (is_in_at tree m p ≡ false)
 
--- and into own out ports and in ports of subcomponents
+-- and end at own out ports and in ports of subcomponents
 abbrev pub MayEnter : PackageTree ℕ → ℕ → NumberedPort → Type 0
 MayEnter tree n (Own p) = is_in_at tree n p ≡ false
 MayEnter tree n (Inner s p) = (m : ℕ) × (below tree n s ≡ Some m) × (is_in_at tree m p ≡ true)
@@ -24,7 +24,7 @@ NotBothOwn (Own p) (Inner s q) = Unit {0}
 NotBothOwn (Inner s p) (Own q) = Unit {0}
 NotBothOwn (Inner s p) (Inner t q) = Unit {0}
 
--- both ends of a connection are declared, and it may go from the one to the other
+-- both ends of a connection are declared, and their directions fit
 pub record IsPermitted (tree : PackageTree ℕ) (n : ℕ) (wire : ConnectionPorts) : Type 0 where
   pub source : NumberedPort
   pub target : NumberedPort

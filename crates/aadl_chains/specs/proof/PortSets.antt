@@ -1,4 +1,4 @@
--- Sets of ports: whether a port is in one, and the set with one more port.
+-- Sets of ports: membership, and the set with one more port.
 use Rattle.std.specs.Prelude.{Bool, ◌&&◌, nat_eq, List, [], ◌∷◌, ◌++◌, if◌then◌else◌}
 use Rattle.std.specs.List.{list_any}
 use Rattle.aadl_chains.specs.declared.port_set.PortAt.{PortAt}

@@ -1,4 +1,4 @@
--- Ports of implementations that connections join to threads below, wherever these stand.
+-- Ports of implementations that connections join to threads below, in any component of the implementation.
 use Rattle.std.specs.Prelude.{◌≡◌, ℕ, Bool, true, false, not, List, Option, Some, None, Contains, if◌then◌else◌}
 use Rattle.aadl_tree.specs.declared.declarations.Direction.{Direction}
 use Rattle.aadl_tree.specs.Declarations.{PackageTree}
@@ -17,7 +17,7 @@ use Rattle.aadl_tree.specs.declared.declarations.Direction.TheVariants as direct
 abbrev pub is_thread_at : PackageTree ℕ → ℕ → Bool
 is_thread_at tree n = is_thread_in (implementation_at tree n)
 
--- whether a port of an implementation goes in
+-- whether a port of an implementation is an in port
 abbrev pub is_in_at : PackageTree ℕ → ℕ → ℕ → Bool
 is_in_at tree n port = goes_in (direction_in (ports_at tree (implementation_at tree n)) port)
 
@@ -25,7 +25,7 @@ abbrev pub is_way : Direction → Bool → Bool
 is_way directions.In goes = goes
 is_way directions.Out goes = not goes
 
--- the end of a connection at the subcomponent that a port of this direction belongs to, and its other end
+-- the end of a connection at the subcomponent, for a port of this direction, and its other end
 abbrev pub inner_end : Direction → ConnectionPorts → Option NumberedPort
 inner_end directions.In wire = wire.target
 inner_end directions.Out wire = wire.source
@@ -34,8 +34,9 @@ abbrev pub outer_end : Direction → ConnectionPorts → Option NumberedPort
 outer_end directions.In wire = wire.source
 outer_end directions.Out wire = wire.target
 
--- Connections lead from an in port of an implementation to a thread's in port, or to its out port from a thread's out
--- port: the port is the thread's own, or is joined to such a port of a subcomponent.
+-- Connections lead from an in port of an implementation to a thread's in port, or to an out port of the
+-- implementation from a thread's out port: the port is the thread's own, or it is joined to such a port of a
+-- subcomponent.
 pub data Reaches (tree : PackageTree ℕ) (d : Direction) : ℕ → ℕ → Type 0 where
   of_thread : {n port : ℕ} → is_thread_at tree n ≡ true → is_way d (is_in_at tree n port) ≡ true → Reaches tree d n port
   of_inner : {n port : ℕ} (s p m : ℕ) (wire : ConnectionPorts) → is_thread_at tree n ≡ false → Contains (connection_ports_at tree n) wire
@@ -47,7 +48,7 @@ pub data Reaches (tree : PackageTree ℕ) (d : Direction) : ℕ → ℕ → Type
 abbrev pub ReachesIn : PackageTree ℕ → Direction → ℕ → ℕ → ℕ → Type 0
 ReachesIn tree d n s p = (m : ℕ) × (below tree n s ≡ Some m) × Reaches tree d m p
 
--- ---- as a set of ports has it
+-- ---- represented by a set of ports
 abbrev pub declaration_port : ℕ → ℕ → PortAt
 declaration_port n port = record { declaration = n; port = port }
 
@@ -59,7 +60,7 @@ abbrev pub reaches_in : List PortAt → PackageTree ℕ → Direction → Option
 reaches_in ports tree d None port = false
 reaches_in ports tree d (Some n) port = reaches_by ports tree d n port
 
--- the own port that a connection joins to one that reaches a thread
+-- the own port that a connection joins to a port that reaches a thread
 abbrev pub joined_inner : List PortAt → PackageTree ℕ → Direction → ℕ → ℕ → Option NumberedPort → Option ℕ
 joined_inner ports tree d n port None = None
 joined_inner ports tree d n port (Some (Own p)) = None
@@ -71,7 +72,7 @@ joined_by ports tree d n None inner = None
 joined_by ports tree d n (Some (Inner s p)) inner = None
 joined_by ports tree d n (Some (Own port)) inner = joined_inner ports tree d n port inner
 
--- ---- sets on the way to all of them
+-- ---- incomplete sets
 -- each port of the set reaches a thread
 abbrev pub AreReaching : PackageTree ℕ → Direction → List PortAt → Type 0
 AreReaching tree d ports = (n port : ℕ) → Contains ports (declaration_port n port) → Reaches tree d n port
@@ -84,7 +85,7 @@ HasAll tree d ports n =
 abbrev pub HasAllBelow : PackageTree ℕ → Direction → List PortAt → ℕ → Type 0
 HasAllBelow tree d ports n = (s m : ℕ) → below tree n s ≡ Some m → HasAll tree d ports m
 
--- a set with what one connection joins
+-- a set after the port that one connection joins
 pub record IsJoined (tree : PackageTree ℕ) (d : Direction) (n : ℕ) (wire : ConnectionPorts) (old new : List PortAt) : Type 0 where
   pub kept : (port : PortAt) → Contains old port → Contains new port
   pub sound : is_thread_at tree n ≡ false → Contains (connection_ports_at tree n) wire → AreReaching tree d old
@@ -93,7 +94,7 @@ pub record IsJoined (tree : PackageTree ℕ) (d : Direction) (n : ℕ) (wire : C
       → reaches_in old tree d (below tree n s) p ≡ true
       → Contains new (declaration_port n port)
 
--- a set with what the connections of one declaration join
+-- a set after the ports that the connections of one declaration join
 pub record AreJoined (tree : PackageTree ℕ) (d : Direction) (n : ℕ) (old new : List PortAt) : Type 0 where
   pub kept : (port : PortAt) → Contains old port → Contains new port
   pub sound : AreReaching tree d old → AreReaching tree d new

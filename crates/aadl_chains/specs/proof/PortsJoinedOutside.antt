@@ -1,5 +1,5 @@
--- Ports of implementations that connections join to threads or to the root's ports outside, at some place where they
--- stand.
+-- Ports of implementations that connections join to threads or to the root's ports outside, in at least one component
+-- of the implementation.
 use Rattle.std.specs.Prelude.{◌≡◌, ◌⊎◌, ℕ, Bool, false, ◌||◌, nat_eq, List, Option, Some, None, Contains, if◌then◌else◌}
 use Rattle.aadl_tree.specs.declared.declarations.Direction.{Direction}
 use Rattle.aadl_tree.specs.Declarations.{PackageTree}
@@ -17,9 +17,9 @@ abbrev pub opposite : Direction → Direction
 opposite directions.In = directions.Out
 opposite directions.Out = directions.In
 
--- Connections lead to an in port of an implementation from a thread's out port or a root in port, or lead on from its
--- out port to a thread's in port or a root out port: the port is the root's, or a connection around the
--- implementation joins it to such a port.
+-- Connections lead to an in port of an implementation from a thread's out port or a root in port, or from its out
+-- port to a thread's in port or a root out port: the port is the root's, or a connection around the implementation
+-- joins it to such a port.
 pub data LeadsOut (tree : PackageTree ℕ) (root : ℕ) (d : Direction) : ℕ → ℕ → Type 0 where
   of_root : {n port : ℕ} → n ≡ root → LeadsOut tree root d n port
   of_own : {n port : ℕ} (k s q : ℕ) (wire : ConnectionPorts) → Contains (connection_ports_at tree k) wire
@@ -35,14 +35,14 @@ abbrev pub LeadsFrom : PackageTree ℕ → ℕ → Direction → ℕ → Numbere
 LeadsFrom tree root d n (Own port) = LeadsOut tree root d n port
 LeadsFrom tree root d n (Inner s port) = ReachesIn tree (opposite d) n s port
 
--- ---- as sets of ports have it: those outside, and those inside
+-- ---- represented by sets of ports, outside and inside
 abbrev pub leads_from : List PortAt → List PortAt → PackageTree ℕ → ℕ → Direction → ℕ → Option NumberedPort → Bool
 leads_from outside inside tree root d n None = false
 leads_from outside inside tree root d n (Some (Own port)) = nat_eq n root || has outside (declaration_port n port)
 leads_from outside inside tree root d n (Some (Inner s port)) =
     reaches_in inside tree (opposite d) (below tree n s) port
 
--- the port of a subcomponent, by what it is
+-- the port of a subcomponent, by the number of its implementation
 abbrev pub port_below : Option ℕ → ℕ → Option PortAt
 port_below None port = None
 port_below (Some m) port = Some (declaration_port m port)
@@ -53,20 +53,20 @@ port_in tree n None = None
 port_in tree n (Some (Own port)) = None
 port_in tree n (Some (Inner s port)) = port_below (below tree n s) port
 
--- that port, where the other end leads to a thread or the root
+-- that port, if the other end leads to a thread or the root
 abbrev pub led_by : List PortAt → List PortAt → PackageTree ℕ → ℕ → Direction → ℕ → ConnectionPorts → Option PortAt
 led_by outside inside tree root d n wire =
     if leads_from outside inside tree root d n (outer_end d wire) then port_in tree n (inner_end d wire) else None
 
--- ---- sets on the way to all of them
+-- ---- incomplete sets
 abbrev pub AreLeading : PackageTree ℕ → ℕ → Direction → List PortAt → Type 0
 AreLeading tree root d ports = (n port : ℕ) → Contains ports (declaration_port n port) → LeadsOut tree root d n port
 
--- each port of the implementation that leads out is in the set, or it is the root
+-- each port of the implementation that leads out is in the set, or the implementation is the root
 abbrev pub HasLeading : PackageTree ℕ → ℕ → Direction → List PortAt → ℕ → Type 0
 HasLeading tree root d ports n = (port : ℕ) → LeadsOut tree root d n port → (n ≡ root) ⊎ Contains ports (declaration_port n port)
 
--- a set with what one connection leads
+-- a set after the port that one connection joins to the outside
 pub record IsLed (tree : PackageTree ℕ) (root : ℕ) (d : Direction) (inside : List PortAt) (n : ℕ) (wire : ConnectionPorts)
     (old new : List PortAt) : Type 0 where
   pub kept : (port : PortAt) → Contains old port → Contains new port
@@ -74,7 +74,7 @@ pub record IsLed (tree : PackageTree ℕ) (root : ℕ) (d : Direction) (inside :
       → AreLeading tree root d new
   pub here : (port : PortAt) → led_by old inside tree root d n wire ≡ Some port → Contains new port
 
--- a set with what the connections of an implementation in use lead
+-- a set after the ports that the connections of an implementation in use join to the outside
 pub record AreLed (tree : PackageTree ℕ) (root : ℕ) (d : Direction) (n : ℕ) (old new : List PortAt) : Type 0 where
   pub kept : (port : PortAt) → Contains old port → Contains new port
   pub sound : AreLeading tree root d old → AreLeading tree root d new
@@ -83,7 +83,7 @@ pub record AreLed (tree : PackageTree ℕ) (root : ℕ) (d : Direction) (n : ℕ
       → inner_end d wire ≡ Some (Inner s port) → outer_end d wire ≡ Some site
       → below tree n s ≡ Some m → LeadsFrom tree root d n site → Contains new (declaration_port m port)
 
--- the same set, where the declaration is not in use
+-- the same set if the declaration is not in use
 abbrev pub AreLedIfUsed : PackageTree ℕ → ℕ → Direction → ℕ → List PortAt → List PortAt → Type 0
 AreLedIfUsed tree root d n old new =
     (IsInUse tree root n × AreLed tree root d n old new) ⊎ ((IsInUse tree root n → ⊥) × (new ≡ old))

@@ -1,5 +1,5 @@
--- Chains as the walk back finds them: by where they begin, by the connection that carries them, and by those that
--- they pass.
+-- Connection chains as the backward trace finds them: by their first port, the connection whose properties apply, and
+-- the connections on the way.
 use Rattle.std.specs.Prelude.{◌≡◌, ◌⊎◌, ℕ, false, List, [], reverse, Option, Some, None}
 use Rattle.aadl_tree.specs.Declarations.{PackageTree}
 use Rattle.aadl_uses.specs.ThreadsBelow.{IsThreadAt}
@@ -13,7 +13,7 @@ abbrev pub begin_port : ChainStart → Port
 begin_port (begins.Root port) = record { path = []; port = port }
 begin_port (begins.Thread path port) = record { path = reverse path.items; port = port }
 
--- the chain to a port
+-- the connection chain to a port
 abbrev pub carried_chain : Port → ChainRoute → CarriedChain
 carried_chain to route =
     record { from = begin_port route.begin; to = to; declaration = route.declaration; connection = route.connection }
@@ -26,7 +26,7 @@ pub record IsGiver (tree : PackageTree ℕ) (root : ℕ) (end from : Port) : Typ
   pub leads : Leads tree root chain from end
   pub only : (cs : List ConnectionAt) (other : Port) → IsStart tree root other → Leads tree root cs other end → other ≡ from
 
--- the thread that gives to a port, or none where no chain leads there
+-- the thread that provides the value of a port, or `None` if no chain leads there
 abbrev pub Descends : PackageTree ℕ → ℕ → Port → Option ChainStart → Type 0
 Descends tree root end None = (cs : List ConnectionAt) (from : Port) → IsStart tree root from → Leads tree root cs from end → ⊥
 Descends tree root end (Some (begins.Root port)) = ⊥
@@ -36,17 +36,17 @@ abbrev pub IsOfKind : PackageTree ℕ → ℕ → ChainStart → CarriedChain �
 IsOfKind tree root (begins.Root port) ends = IsFeed tree root ends
 IsOfKind tree root (begins.Thread path port) ends = IsLink tree root ends
 
--- the one link or feed to a port
+-- the only link or feed to a port
 pub record IsRoute (tree : PackageTree ℕ) (root : ℕ) (to : Port) (route : ChainRoute) : Type 0 where
   pub kind : IsOfKind tree root route.begin (carried_chain to route)
   pub only : (ends : CarriedChain) → IsLink tree root ends ⊎ IsFeed tree root ends → ends.to ≡ to → ends ≡ carried_chain to route
 
--- that one, or none where there is none
+-- the only link or feed, or `None` if there is none
 abbrev pub Traces : PackageTree ℕ → ℕ → Port → Option ChainRoute → Type 0
 Traces tree root to None = (ends : CarriedChain) → IsLink tree root ends ⊎ IsFeed tree root ends → ends.to ≡ to → ⊥
 Traces tree root to (Some route) = IsRoute tree root to route
 
--- the one tap to a port
+-- the only tap to a port
 pub record IsTapRoute (tree : PackageTree ℕ) (root : ℕ) (to : Port) (route : ChainRoute) : Type 0 where
   pub is_tap : IsTap tree root (carried_chain to route)
   pub only : (ends : CarriedChain) → IsTap tree root ends → ends.to ≡ to → ends ≡ carried_chain to route
@@ -55,7 +55,7 @@ abbrev pub TracesTap : PackageTree ℕ → ℕ → Port → Option ChainRoute �
 TracesTap tree root to None = (ends : CarriedChain) → IsTap tree root ends → ends.to ≡ to → ⊥
 TracesTap tree root to (Some route) = IsTapRoute tree root to route
 
--- Connections lead from here to the end, and each chain to the end comes through here.
+-- Connections lead from here to the end, and each chain to the end passes here.
 pub record Passes (tree : PackageTree ℕ) (root : ℕ) (here end : Port) : Type 0 where
   pub chain : List ConnectionAt
   pub leads : Leads tree root chain here end

@@ -1,4 +1,4 @@
--- The walk back from an in port: from one component up to the next around it, until a connection between two
+-- The upward trace from an in port: from one component to the next around it, up to a connection between two
 -- subcomponents, or the root.
 use Rattle.std.specs.Prelude.{◌≡◌, ℕ, true, List, [], ◌∷◌, Option, Some, None}
 use Rattle.aadl_tree.specs.Declarations.{PackageTree}
@@ -11,7 +11,7 @@ use Rattle.aadl_uses.specs.PortsOfConnections.{connection_ports_at}
 use Rattle.aadl_uses.specs.proof.IncomingConnections.{connection_into}
 use Rattle.aadl_chains.specs.Chains.{Port, is_in}
 
--- a connection between two subcomponents of the component at a path, and the port from which it comes
+-- a connection between two subcomponents of the component at a path, and its source port
 pub record Crossing : Type 0 where
   pub path : List ℕ
   pub declaration : ℕ
@@ -19,8 +19,8 @@ pub record Crossing : Type 0 where
   pub sub : ℕ
   pub port : ℕ
 
--- where the walk ends: at a port into which no connection goes, at a port of the root, by the last connection that
--- was passed, or at a crossing
+-- the end of the trace: a port without an incoming connection; a port of the root, with the last connection; or a
+-- connection between two subcomponents
 pub data WalkEnd : Type 0 where
   nowhere : WalkEnd
   at_root : Option ℕ → ℕ → WalkEnd
@@ -38,13 +38,13 @@ abbrev pub walk_back_into : PackageTree ℕ → (ℕ → ℕ → WalkEnd) → Li
 walk_back_into tree up path s port None = nowhere
 walk_back_into tree up path s port (Some n) = walk_back_along up path n (connection_into tree n (Inner s port))
 
--- from a port of the component at a path, the innermost subcomponent first, behind the last connection
+-- from a port of the component at a path, the innermost subcomponent first, after the last connection
 abbrev pub walk_back : PackageTree ℕ → ℕ → Option ℕ → List ℕ → ℕ → WalkEnd
 walk_back tree root last [] port = at_root last port
 walk_back tree root last (s ∷ path) port =
     walk_back_into tree (λ k q. walk_back tree root (Some k) path q) path s port (number_at_path tree root path)
 
--- at most one connection of an implementation in use goes into a port
+-- each port has at most one incoming connection of an implementation in use
 abbrev pub OneEach : PackageTree ℕ → ℕ → Type 0
 OneEach tree root = (n i j : ℕ) (target : NumberedPort) → IsInUse tree root n → target_in (connection_ports_at tree n) i ≡ Some target
     → target_in (connection_ports_at tree n) j ≡ Some target → i ≡ j

@@ -1,4 +1,4 @@
--- The walk back from a port, on paths with the outermost subcomponent first, as the code makes it.
+-- The upward trace from a port, on paths with the outermost subcomponent first, as in the code.
 use Rattle.std.specs.Prelude.{ℕ, List, take, reverse, Option, Some, None, option_map}
 use Rattle.aadl_tree.specs.Declarations.{PackageTree}
 use Rattle.aadl_names.specs.declared.numbered_port.NumberedPort.TheVariants.{Inner}
@@ -28,13 +28,13 @@ crossing path c =
       port = c.port;
     }
 
--- where the walk ends
+-- the end of the trace
 abbrev pub climbed : List ℕ → WalkResult → WalkEnd
 climbed path ends.Nowhere = nowhere
 climbed path (ends.Root last port) = at_root last port
 climbed path (ends.Crossing c) = crosses (crossing path c)
 
--- the chain from a port of the root by a connection, if there is one
+-- the connection chain from a port of the root through a connection, if there is one
 abbrev pub route_from_root : ℕ → Option ℕ → ℕ → Option ChainRoute
 route_from_root root None port = None
 route_from_root root (Some connection) port =

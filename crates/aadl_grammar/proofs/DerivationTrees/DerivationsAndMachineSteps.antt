@@ -1,4 +1,5 @@
--- Which terminals a stack can be written as, whatever the machine does; and that the machine takes just these.
+-- The terminals that can be derived from a stack, defined without the machine; and a proof that the machine accepts
+-- these lists and no others.
 use Rattle.std.proofs.Common.{◌≡◌, ◌⊎◌, Bool, true, false, cond, not, ◌&&◌, ◌∙◌, sym, ap, subst, List, [], ◌∷◌, ◌++◌}
 use Rattle.std.proofs.Common.{Option, Some, refl, inl, inr}
 use Rattle.std.proofs.lemmas.Bool.{eqb-true, false_from_ne_true, or_left, or_right}
@@ -15,12 +16,12 @@ use Rattle.std.specs.Cmp.{first_so, second_so}
 use Rattle.std.proofs.lemmas.Option.{same_Some}
 use Rattle.aadl_grammar.proofs.KeywordListMembership.{not_both}
 
--- the row is one of these
+-- the row is in the list
 abbrev pub Member : Row → List Row → Type 0
 Member r [] = ⊥
 Member r (x ∷ rs) = (r ≡ x) ⊎ Member r rs
 
--- the terminals can be written for the stack
+-- the terminals can be derived from the stack
 pub data Derives : Stack → List PlainTerminal → Type 0 where
   nothing : Derives [] []
   take : (x : Symbol) (below : Stack) (r : Row) (kind : PlainTerminal) (ks : List PlainTerminal) → Member r (rows x)
@@ -54,7 +55,7 @@ pub clear_taken : (x : Symbol) (below : Stack) (r : Row) → Member r (rows x) �
 clear_taken x below r m (h, c) =
     clear_behind (forbidden_after x) r.wanted below (row_settled (forbidden_after x) r (rows x) m (settled_rows x)) h c
 
--- where two rows fit, they are of one class
+-- two rows that fit one terminal have one class
 move_else : (r : Row) (rs : List Row) (b c : Bool) (kind : PlainTerminal) → fits r.first kind ≡ c → c ≡ false
     → move_by (r ∷ rs) b kind ≡ move_by rs b kind
 move_else r rs b c kind e h = ap (λ z. cond z (takes r.wanted) (move_by rs b kind)) (e ∙ h)
@@ -100,7 +101,7 @@ pub move_refuses : (x : Symbol) (kind : PlainTerminal) → can_omit x ≡ false
 unfolding move
 move_refuses x kind o never = none_fits (rows x) (can_omit x) kind never ∙ ap (λ b. cond b omitted refuses) o
 
--- what the machine goes on with
+-- how the machine continues
 pub record Steps (wanted : Stack) (kind : PlainTerminal) (ks : List PlainTerminal) : Type 0 where
   pub next : Stack
   pub stepped : stack_after wanted kind ≡ Some next
@@ -141,7 +142,7 @@ unfolding ends
 ends_derived [] e = nothing
 ends_derived (x ∷ below) e = omit x below [] (first_so _ _ e) (ends_derived below (second_so (can_omit x) _ e))
 
--- And what it goes on with can be derived.
+-- And the rest can be derived from the next stack.
 abbrev pub Goes : List Row → Bool → PlainTerminal → Move → Type 0
 Goes rs b kind (takes f) = (r : Row) × Member r rs × (fits r.first kind ≡ true) × (r.wanted ≡ f)
 Goes rs b kind omitted = b ≡ true

@@ -1,4 +1,5 @@
--- What can be derived is what spells trees, and it spells one.
+-- A list of terminals can be derived from a symbol if and only if it spells a tree of the symbol, and it spells only
+-- one.
 use Rattle.std.proofs.Common.{◌≡◌, Bool, true, false, sym, subst, refl, List, [], ◌∷◌, ◌++◌, inl, inr}
 use Rattle.aadl_tree.specs.Terminals.{PlainTerminal}
 use Rattle.aadl_tree.specs.SpellingParts.{Spells}
@@ -64,7 +65,7 @@ stack_derives ks again (y ∷ below) ts sp =
 pub never_nil : (kind : PlainTerminal) (more : List PlainTerminal) → [] ≡ kind ∷ more → ⊥
 never_nil kind more e = cc
 
--- what spells trees can be derived
+-- terminals that spell trees can be derived
 pub derives : (ks : List PlainTerminal) (wanted : Stack) (ts : Trees wanted) → Spells (parts_all wanted ts) ks []
     → Derives wanted ks
 derives [] wanted ts sp = stack_derives [] (λ kind more e. absurd (never_nil kind more e)) wanted ts sp
@@ -74,7 +75,7 @@ derives (kind ∷ ks) wanted ts sp =
     (derives ks later us (subst (λ (l : List PlainTerminal). Spelled later us l) (sym (tails kind other ks more e)) h)))
     wanted ts sp
 
--- What is derived spells trees.
+-- Derived terminals spell trees.
 
 pub record Written (wanted : Stack) (ks : List PlainTerminal) : Type 0 where
   pub trees : Trees wanted
@@ -99,7 +100,7 @@ left_out : (b : Bool) (y : Symbol) (e : Empty b y) → Nothing b y e → b ≡ t
 left_out true y e h i = record { tree = e; spelled = h }
 left_out false y e h i = absurd cc
 
--- what can be derived spells trees
+-- terminals that can be derived spell trees
 pub written : (wanted : Stack) (ks : List PlainTerminal) → Derives wanted ks → Written wanted ks
 written [] ks nothing = record { trees = tt; spelled = refl }
 written (y ∷ below) ks (take _ _ r kind more m e d) =

@@ -1,4 +1,4 @@
--- The checks of the table of what may not follow a symbol, as statements on members of lists.
+-- The checks of the table of forbidden followers, as statements on members of lists.
 use Rattle.std.proofs.Common.{◌≡◌, ℕ, ◌⊎◌, Bool, true, false, cond, not, ◌&&◌, ◌||◌, ◌==◌, ◌∙◌, sym, ap, List, [], ◌∷◌}
 use Rattle.std.proofs.Common.{◌++◌, refl, inl, inr}
 use Rattle.std.proofs.lemmas.Bool.{eqb-true, or_cases, or_left, or_right}
@@ -27,7 +27,7 @@ among_either n (c ∷ cs) ds e = elim (or_cases (n == class_number c) (among n (
   | inr h ↦ elim (among_either n cs ds h) [ inl i ↦ inl (or_right (n == class_number c) _ i) | inr i ↦ inr i ]
 ]
 
--- no number is that of a class in both lists
+-- no class of the one list has the number of a class of the other
 abbrev pub Apart : List Class → List Class → Type 0
 Apart cs ds = (n : ℕ) → among n cs ≡ true → among n ds ≡ true → ⊥
 
@@ -49,7 +49,7 @@ covers_means (c ∷ cs) ds e n h = elim (or_cases (n == class_number c) (among n
   | inr i ↦ covers_means cs ds (second_so (among (class_number c) ds) _ e) n i
 ]
 
--- nothing that may stand behind a symbol of the stack belongs to it
+-- no terminal that may follow a symbol of the stack belongs to that symbol
 abbrev pub Clear : Stack → Type 0
 Clear [] = Unit {0}
 Clear (x ∷ below) = Apart (first_of below) (forbidden_after x) × Clear below
@@ -58,11 +58,11 @@ omits_by : (b : Bool) (x : Symbol) → b ≡ true → omits_settled b x ≡ true
 omits_by true x e h = h
 omits_by false x e h = cc
 
--- what a symbol that may be left out begins with does not stand behind it
+-- the first terminals of a symbol that may be omitted are forbidden after it
 pub firsts_in_tail : (x : Symbol) → can_omit x ≡ true → Covers (firsts (rows x)) (forbidden_after x)
 firsts_in_tail x e = covers_means (firsts (rows x)) (forbidden_after x) (omits_by (can_omit x) x e (settled_omits x))
 
--- the first symbols, where more stand behind them
+-- the first terminals of a list of symbols with more symbols after them
 first_by : (x : Symbol) (f : List Symbol) (below : Stack) (n : ℕ)
     → ((can_omit x ≡ true) → among n (first_of (f ++ below)) ≡ true → ⊥) → (b : Bool) → can_omit x ≡ b
     → among n (cond b (first_of (f ++ below)) []) ≡ true → ⊥

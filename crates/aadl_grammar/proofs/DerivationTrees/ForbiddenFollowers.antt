@@ -1,5 +1,5 @@
--- The terminals that may not follow a symbol since they would still belong to it, as a table, and checks of all rows
--- that none of them does.
+-- The table of forbidden followers: terminals that may not follow a symbol because they would still belong to it.
+-- Checks of all rows prove that none of them follows.
 use Rattle.std.proofs.Common.{◌≡◌, ℕ, Bool, true, false, cond, not, ◌&&◌, ◌||◌, ◌==◌, List, [], ◌∷◌, ◌++◌, refl}
 use Rattle.aadl_tree.specs.declared.mark.Mark.TheVariants as k
 use Rattle.aadl_grammar.specs.proof.GrammarSymbols.{Class, a_word, the, Symbol, Row}
@@ -15,7 +15,7 @@ abbrev pub firsts : List Row → List Class
 firsts [] = []
 firsts (r ∷ rs) = r.first ∷ firsts rs
 
--- the classes that the symbols begin with, as far as they are not left out
+-- the classes that the symbols begin with, past symbols that may be omitted
 abbrev pub first_of : List Symbol → List Class
 first_of [] = []
 first_of (x ∷ f) = firsts (rows x) ++ cond (can_omit x) (first_of f) []
@@ -46,7 +46,7 @@ after_expression = the k.And ∷ the k.Or ∷ the k.Xor ∷ after_relation
 abbrev after_actions : List Class
 after_actions = a_word ∷ the k.If ∷ the k.For ∷ the k.Semicolon ∷ after_expression
 
--- what may not stand behind a symbol, since it would still belong to it
+-- the classes that may not follow a symbol, since they would still belong to it
 unfoldable pub forbidden_after : Symbol → List Class
 forbidden_after s.name = the k.Scope ∷ []
 forbidden_after s.names = the k.Scope ∷ []
@@ -130,8 +130,8 @@ abbrev pub distinct : List Class → Bool
 distinct [] = true
 distinct (c ∷ cs) = not (among (class_number c) cs) && distinct cs
 
--- What may stand behind the symbols, one behind another, decides where each ends; the first list is what may not
--- stand behind all of them.
+-- The follower of each symbol of the list determines where the symbol ends; the first list has the classes that may
+-- not follow the last one.
 abbrev pub settled : List Class → List Symbol → Bool
 settled outer [] = true
 settled outer (x ∷ f) = apart (first_of f) (forbidden_after x) && ((not (nullable f) || covers (forbidden_after x) outer) && settled outer f)

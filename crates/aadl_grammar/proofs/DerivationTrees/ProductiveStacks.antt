@@ -1,4 +1,4 @@
--- For each stack of symbols there are terminals that it derives.
+-- Each stack of symbols derives some list of terminals.
 use Rattle.std.proofs.Common.{◌≡◌, ℕ, zero, suc, Bool, true, false, cond, subst, refl, List, [], ◌∷◌, ◌++◌, Option}
 use Rattle.std.proofs.Common.{Some, None, append_assoc, is_some, inl, pos}
 use Rattle.std.proofs.lemmas.Option.{same_Some}
@@ -28,7 +28,7 @@ abbrev by_first : List Row → (Stack → Option (List PlainTerminal)) → Stack
 by_first [] later below = None
 by_first (r ∷ rs) later below = with_first (kind_with r.first (sample r.first)) (later (r.wanted ++ below))
 
--- a text, by the first row of each symbol that cannot be left out, in n steps at most
+-- a text, by the first row of each symbol that cannot be omitted, in at most n steps
 abbrev text : ℕ → Stack → Option (List PlainTerminal)
 text zero wanted = None
 text (suc n) [] = Some []

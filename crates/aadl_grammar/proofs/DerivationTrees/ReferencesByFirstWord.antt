@@ -1,4 +1,4 @@
--- A reference, by its first word: its names as a chain, the last of which is the type.
+-- A reference by its first word: its names as a list, the last of which is the type.
 use Rattle.std.proofs.Common.{◌≡◌, ℕ, ◌∙◌, sym, ap, ap₂, refl, List, [], ◌∷◌, ◌++◌, flat_map, append_assoc, Option}
 use Rattle.aadl_tree.specs.declared.mark.Mark.TheVariants as k
 use Rattle.aadl_tree.specs.Terminals.{PlainTerminal, word}
@@ -16,7 +16,7 @@ abbrev last_of : {A : Type 0} → A → List A → A
 last_of x [] = x
 last_of x (y ∷ ys) = last_of y ys
 
--- the first of some and one more, and those behind it
+-- the first of a list with one more element, and the elements after it
 abbrev first_of : {A : Type 0} → List A → A → A
 first_of [] z = z
 first_of (x ∷ xs) z = x
@@ -63,7 +63,7 @@ reference_same x xs d =
     ∙ ap (λ l. l ++ dotted d) (chain_same x xs)
     ∙ append_assoc (flat_map n.qualifier_parts (before_last x xs)) (n.identifier_parts (last_of x xs)) (dotted d)
 
--- what the first word and the others spell
+-- the parts that the first word and the others spell
 pub reference_spells : (w : List ℕ) (xs : List (n.Identifier NoPlace)) (d : Option (n.Identifier NoPlace)) (ks rest : List PlainTerminal)
     → Spells (flat_map (behind k.Scope n.identifier_parts) xs ++ dotted d) ks rest
     → Spells (n.reference_parts (reference_of (identifier_of w) xs d)) (word w ∷ ks) rest

@@ -1,5 +1,5 @@
--- What a production, which is a row of the parse table, builds of its terminal and of the trees behind it. So a tree
--- that terminals spell is known by how it begins.
+-- The tree that a production, which is a row of the parse table, builds from its terminal and the following trees.
+-- The first terminal of a spelled tree therefore determines the row.
 use Rattle.std.proofs.Common.{◌≡◌, ◌⊎◌, ◌∙◌, sym, ap, ap₂, subst, refl, List, [], ◌∷◌, ◌++◌, inl, inr}
 use Rattle.aadl_tree.specs.Terminals.{PlainTerminal}
 use Rattle.aadl_tree.specs.SpellingParts.{SpellingPart, Spells}
@@ -72,7 +72,7 @@ follow_all (y ∷ f) more us ts ks mid rest b sp =
     follow_first y (f ++ more) (joined (y ∷ f) more us ts) ks r.mid rest r.before
     (follow_all f more us.1 ts r.mid mid rest r.behind sp)
 
--- what a row makes of its terminal and of the trees behind it
+-- the function that builds a row's tree from the terminal and the following trees
 abbrev pub Builder : Symbol → Row → Type 0
 Builder y r = Content r.first → Trees r.wanted → TreeOf y
 
@@ -80,7 +80,7 @@ abbrev pub Builders : Symbol → List Row → Type 0
 Builders y [] = NoPlace
 Builders y (r ∷ rs) = Builder y r × Builders y rs
 
--- it is spelled by the terminal and by what spells those trees
+-- the terminal and the parts of the following trees spell the built tree
 abbrev pub Gives : (y : Symbol) (r : Row) → Builder y r → Type 0
 Gives y r b =
     (w : Content r.first) (ts : Trees r.wanted) (ks rest : List PlainTerminal) → Spells (parts_all r.wanted ts) ks rest
@@ -90,7 +90,7 @@ abbrev pub AllGive : (y : Symbol) (rs : List Row) → Builders y rs → Type 0
 AllGive y [] bs = NoPlace
 AllGive y (r ∷ rs) bs = Gives y r bs.0 × AllGive y rs bs.1
 
--- a spelled tree is what a row makes
+-- a row builds this spelled tree
 pub record Uses (y : Symbol) (r : Row) (b : Builder y r) (t : TreeOf y) (ks rest : List PlainTerminal) : Type 0 where
   pub content : Content r.first
   pub trees : Trees r.wanted
@@ -110,17 +110,17 @@ abbrev pub InRows : (y : Symbol) (rs : List Row) → Builders y rs → TreeOf y 
 InRows y [] bs t ks rest = ⊥
 InRows y (r ∷ rs) bs t ks rest = Uses y r bs.0 t ks rest ⊎ InRows y rs bs.1 t ks rest
 
--- each spelled tree of the symbol is what a row makes
+-- rows build each spelled tree of the symbol
 abbrev pub Opens : (y : Symbol) → Builders y (rows y) → Type 0
 Opens y bs = (t : TreeOf y) (ks rest : List PlainTerminal) → Spells (parts y t) ks rest → InRows y (rows y) bs t ks rest
 
--- or it is this one, and nothing spells it
+-- or it is this tree, and no terminals spell it
 abbrev pub OpensOr : (y : Symbol) → Builders y (rows y) → TreeOf y → Type 0
 OpensOr y bs e =
     (t : TreeOf y) (ks rest : List PlainTerminal) → Spells (parts y t) ks rest
     → InRows y (rows y) bs t ks rest ⊎ ((t ≡ e) × (ks ≡ rest))
 
--- how a symbol that begins as another one does makes its tree, of that one's tree and the trees behind it
+-- the tree of a symbol that begins as another symbol does, from that symbol's tree and the following trees
 abbrev pub Joins : Symbol → Symbol → List Symbol → Type 0
 Joins y z more = TreeOf z → Trees more → TreeOf y
 

@@ -1,4 +1,4 @@
--- A list of terminals spells at most one tree of a symbol, and one package or behaviour. For the claim
+-- A list of terminals spells at most one tree of a symbol, and at most one package or behaviour. For the law
 -- `a_text_has_one_tree`.
 use Rattle.std.proofs.Common.{◌≡◌, Bool, true, false, ◌∙◌, sym, ap, ap₂, subst, refl, List, [], ◌∷◌, ◌++◌, inl, inr}
 use Rattle.std.proofs.Common.{not, ◌==◌, eq-eqb, ℕ}
@@ -33,7 +33,7 @@ use Rattle.aadl_grammar.proofs.Fates.GrammarLanguages.{package_trees}
 abbrev Spelled : (wanted : Stack) → Trees wanted → List PlainTerminal → Type 0
 Spelled wanted ts ks = Spells (parts_all wanted ts) ks []
 
--- the first of the terminals, with which one of the rows begins
+-- the first terminal begins one of the rows
 record Headed (rs : List Row) (ks : List PlainTerminal) : Type 0 where
   kind : PlainTerminal
   more : List PlainTerminal
@@ -59,7 +59,7 @@ headed y (r ∷ rs) bs t ks rest (inr i) =
       first = or_right (kind_number h.kind == class_number r.first) _ h.first;
     }
 
--- one row is used, where the rows are of distinct classes
+-- rows with distinct classes: only one row is used
 other_row : (y : Symbol) (r : Row) (rs : List Row) (bs : Builders y (r ∷ rs)) (t u : TreeOf y) (ks mid nid : List PlainTerminal)
     → distinct (firsts (r ∷ rs)) ≡ true → Uses y r bs.0 t ks mid → InRows y rs bs.1 u ks nid → ⊥
 other_row y r rs bs t u ks mid nid d i j =
@@ -111,7 +111,7 @@ one_row y below (r ∷ rs) bs t u v w ks mid nid again c m d (inr i) (inr j) sp 
     one_row y below rs bs.1 t u v w ks mid nid again c (λ q n. m q (inr n))
     (second_so (not (among (class_number r.first) (firsts rs))) _ d) i j sp sq
 
--- a symbol that is left out does not begin as what stands behind it
+-- an omitted symbol does not begin with a terminal that may follow it
 clash : (y : Symbol) (below : Stack) (t : TreeOf y) (w : Trees below) (ks mid nid : List PlainTerminal) → Clear (y ∷ below)
     → can_omit y ≡ true → InRows y (rows y) (builders y) t ks mid → ks ≡ nid → Spelled below w nid → ⊥
 clash y below t w ks mid nid (h, c) o i e sq =
@@ -170,7 +170,7 @@ one_stack ks again (y ∷ below) c ts us sp sq =
     (λ h g. one_stack ks again below c.1 ts.1 us.1 h g)
     (opens y ts.0 ks q.mid q.before) (opens y us.0 ks r.mid r.before) q.behind r.behind)
 
--- trees that are spelled alike are the same
+-- two trees with one spelling are the same
 pub one : (ks : List PlainTerminal) (wanted : Stack) → Clear wanted → (ts us : Trees wanted) → Spells (parts_all wanted ts) ks []
     → Spells (parts_all wanted us) ks [] → ts ≡ us
 one [] wanted c ts us sp sq = one_stack [] (λ kind more e. absurd (never_nil kind more e)) wanted c ts us sp sq

@@ -1,4 +1,4 @@
--- The machine answers what the grammar says, whichever it is.
+-- The machine's fate is correct for each of the two languages.
 use Rattle.std.proofs.Common.{◌≡◌, ◌↔◌, ℕ, ap, List}
 use Rattle.aadl_tree.specs.Terminals.{PlainTerminal, PlacedTerminal, kinds_of}
 use Rattle.aadl_tree.specs.PackagesBehavioursAndNesting.{IsShallow}

@@ -1,5 +1,5 @@
--- A list of terminals has only one of three fates, being a text, failing or nesting too deep, and at only one place.
--- For the claims on fates.
+-- A list of terminals has exactly one of three fates, which are a text, a syntax fault and a depth fault, and at only
+-- one place. For the laws of fates.
 use Rattle.std.proofs.Common.{◌≡◌, ℕ, ◌∙◌, sym, ap, subst, refl, List, [], ◌∷◌, ◌++◌, arith, append_assoc}
 use Rattle.std.proofs.lemmas.List.{append-nil, map-append}
 use Rattle.aadl_tree.specs.Terminals.{PlainTerminal, PlacedTerminal, kinds_of}
@@ -10,7 +10,7 @@ use Rattle.aadl_grammar.proofs.HeadsAndTails.{heads, tails}
 kinds_append : (a b : List PlacedTerminal) → kinds_of (a ++ b) ≡ kinds_of a ++ kinds_of b
 kinds_append a b = map-append (λ (x : PlacedTerminal). x.kind) a b
 
--- of two fronts of one list, the one goes on where the other ends
+-- of two fronts of one list, one continues after the end of the other
 pub data Fronts : List PlacedTerminal → List PlacedTerminal → List PlacedTerminal → List PlacedTerminal → Type 0 where
   same : (a x : List PlacedTerminal) → Fronts a x a x
   before : (a b y : List PlacedTerminal) (t : PlacedTerminal) → Fronts a (t ∷ b ++ y) (a ++ t ∷ b) y

@@ -1,5 +1,5 @@
--- Terminals are a text of a language, fail or nest too deep just where the machine says so. For the claims
--- `fate_of_package` and `fate_of_behaviour`.
+-- Terminals are a text of a language, fail, or exceed the nesting limit if and only if the machine reports this fate.
+-- For the laws `fate_of_package` and `fate_of_behaviour`.
 use Rattle.std.proofs.Common.{◌≡◌, ℕ, ◌+◌, ◌≤◌, Bool, true, false, ◌∙◌, sym, ap, subst, refl, List, [], ◌∷◌, ◌++◌, Some}
 use Rattle.std.proofs.Common.{None, arith, append_assoc}
 use Rattle.std.proofs.lemmas.List.{append-nil, map-append}
@@ -18,7 +18,7 @@ use Rattle.aadl_grammar.proofs.Fates.StackAfterTerminals.{stack_after_all, walk_
 use Rattle.aadl_grammar.proofs.Fates.StackAfterTerminals.{Within}
 use Rattle.aadl_grammar.proofs.Fates.FateRuns.{StopsBy, Stops, Deepens, Finishes, Tells, tells}
 
--- a language by the stack that its texts are derived from
+-- a language, given by the stack from which its texts are derived
 pub record Language (IsText : List PlainTerminal → Type 0) (outer : ℕ) : Type 0 where
   pub start : Stack
   pub derived : (ks : List PlainTerminal) → IsText ks → Derives start ks
@@ -135,7 +135,7 @@ finishes_text IsText outer l ts r =
       shallow IsText outer l (kinds_of ts) r.last r.walked r.within,
     )
 
--- The answers exclude one another.
+-- The fates exclude one another.
 
 text_from : (IsText : List PlainTerminal → Type 0) (ts seen : List PlacedTerminal) (t : PlacedTerminal) (left : List PlacedTerminal) → ts ≡ seen ++ t ∷ left
     → IsText (kinds_of ts) → Begins IsText (kinds_of seen ++ t.kind ∷ [])

@@ -1,5 +1,5 @@
--- What the machine has taken, and which stack is left, where it stops with a fault, stops for depth, or finishes;
--- and that each fate says so.
+-- The terminals that the machine has taken and the remaining stack, when it stops with a syntax fault, stops for
+-- depth, or finishes; each fate implies this description.
 use Rattle.std.proofs.Common.{◌≡◌, ℕ, ◌+◌, ◌<◌, ◌≤◌, Bool, true, false, cond, ◌∙◌, ap, refl, List, [], ◌∷◌, ◌++◌}
 use Rattle.std.proofs.Common.{Option, Some, None}
 use Rattle.std.specs.Prelude.{nat_lt}
@@ -50,7 +50,7 @@ same_place a b e = cc
 same_deep : (a b : ℕ) → deep_at a ≡ deep_at b → a ≡ b
 same_deep a b e = cc
 
--- what becomes of the terminals, with all that the fate says
+-- the fate of the terminals, with the fact that each fate implies
 abbrev pub Tells : ℕ → ℕ → Stack → List PlacedTerminal → Fate → Type 0
 Tells outer end wanted ts finished = Finishes outer wanted ts
 Tells outer end wanted ts (syntax_at at) = Stops outer end wanted ts at

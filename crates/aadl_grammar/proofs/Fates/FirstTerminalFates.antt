@@ -1,5 +1,4 @@
--- What the machine does with one terminal, by what the symbol on top of the stack does with it. For the proofs of
--- parsers.
+-- What the machine does with one terminal, by the move of the topmost symbol. For the proofs of parsers.
 use Rattle.std.proofs.Common.{◌≡◌, ℕ, ◌+◌, ◌<◌, ◌≤◌, Bool, true, false, cond, ◌∙◌, sym, ap, subst, refl, List, [], ◌∷◌}
 use Rattle.std.proofs.Common.{◌++◌, append_assoc, le-ltb, lt-ltb, ◌&&◌}
 use Rattle.std.specs.Prelude.{nat_lt}
@@ -16,12 +15,12 @@ use Rattle.aadl_grammar.proofs.DerivationTrees.ForbiddenFollowers.{among, firsts
 use Rattle.aadl_grammar.proofs.DerivationTrees.TerminalContents.{HasContent, said, fits_with}
 use Rattle.std.proofs.lemmas.Bool.{or_parts}
 
--- what the symbol does where these terminals are left
+-- the move of the symbol on these remaining terminals
 abbrev pub move_at : Symbol → List PlacedTerminal → Move
 move_at x [] = cond (can_omit x) omitted refuses
 move_at x (t ∷ ts) = move x t.kind
 
--- the fate as far as it hangs on the top alone
+-- the fate, as a function of the move of the topmost symbol
 abbrev pub fate_by : ℕ → ℕ → Move → Stack → List PlacedTerminal → Fate
 fate_by outer end (takes f) below [] = syntax_at end
 fate_by outer end (takes f) below (t ∷ ts) =
@@ -73,7 +72,7 @@ pub fate_refuses : (outer end : ℕ) (x : Symbol) (below : Stack) (ts : List Pla
     → fate outer end (x ∷ below) ts ≡ syntax_at (place end ts)
 fate_refuses outer end x below ts e = fate_is outer end x below ts ∙ ap (λ y. fate_by outer end y below ts) e
 
--- nothing is wanted any more
+-- no symbol is expected any more
 pub fate_end : (outer end : ℕ) → fate outer end [] [] ≡ finished
 unfolding fate ends
 fate_end outer end = refl
@@ -82,14 +81,14 @@ pub fate_left : (outer end : ℕ) (t : PlacedTerminal) (ts : List PlacedTerminal
 unfolding fate stack_after
 fate_left outer end t ts = refl
 
--- A symbol that begins as another one does, with more behind it.
+-- A symbol that begins as another one does, with more symbols after it.
 
 abbrev pub followed_by : List Symbol → Move → Move
 followed_by more (takes f) = takes (f ++ more)
 followed_by more omitted = omitted
 followed_by more refuses = refuses
 
--- none of the rows fits the first of the terminals
+-- no row fits the first terminal
 abbrev pub NoneFits : List Row → List PlacedTerminal → Type 0
 NoneFits own [] = Unit {0}
 NoneFits own (t ∷ ts) = among (kind_number t.kind) (firsts own) ≡ false
@@ -99,7 +98,7 @@ pub none_own : (ts : List PlacedTerminal) → NoneFits [] ts
 none_own [] = tt
 none_own (t ∷ ts) = refl
 
--- where no row fits, the symbol may be left out
+-- if no row fits, the symbol may be omitted
 abbrev pub or_by : Bool → Move → Move
 or_by b (takes f) = takes f
 or_by b omitted = omitted
@@ -171,7 +170,7 @@ or_false (takes f) = refl
 or_false omitted = refl
 or_false refuses = refl
 
--- a symbol that cannot be left out does as the other one
+-- a symbol that cannot be omitted moves as the other one does
 pub fate_expands : (outer end : ℕ) (x y : Symbol) (own : List Row) (more : List Symbol) (below : Stack) (ts : List PlacedTerminal)
     → rows x ≡ own ++ behind more (rows y) → can_omit x ≡ false → can_omit y ≡ false → NoneFits own ts
     → fate outer end (x ∷ below) ts ≡ fate outer end (y ∷ more ++ below) ts
@@ -183,7 +182,7 @@ fate_expands outer end x y own more below ts e o p n =
     ∙ by_followed outer end (move_at y ts) more below ts (never_at y ts p)
     ∙ sym (fate_is outer end y (more ++ below) ts)
 
--- so does one that can be left out, where the other one takes the terminal
+-- so does a symbol that can be omitted, if the other one takes the terminal
 pub fate_enters : (outer end : ℕ) (x y : Symbol) (own : List Row) (more : List Symbol) (below : Stack) (ts : List PlacedTerminal)
     (f : List Symbol) → rows x ≡ own ++ behind more (rows y) → can_omit y ≡ false → NoneFits own ts
     → move_at y ts ≡ takes f → fate outer end (x ∷ below) ts ≡ fate outer end (y ∷ more ++ below) ts
@@ -195,7 +194,7 @@ fate_enters outer end x y own more below ts f e p n h =
     ∙ by_followed outer end (move_at y ts) more below ts (never_at y ts p)
     ∙ sym (fate_is outer end y (more ++ below) ts)
 
--- and it is left out where the other one refuses the terminal
+-- it is omitted if the other one refuses the terminal
 pub fate_passes : (outer end : ℕ) (x y : Symbol) (own : List Row) (more : List Symbol) (below : Stack) (ts : List PlacedTerminal)
     → rows x ≡ own ++ behind more (rows y) → can_omit x ≡ true → can_omit y ≡ false → NoneFits own ts
     → move_at y ts ≡ refuses → fate outer end (x ∷ below) ts ≡ fate outer end below ts
@@ -204,7 +203,7 @@ fate_passes outer end x y own more below ts e o p n h =
     (expanded x y own more ts e p n ∙ ap (λ z. or_by (can_omit x) (followed_by more z)) h
     ∙ ap (λ b. cond b omitted refuses) o)
 
--- a keyword or a symbol is known by its number
+-- the number of a keyword or symbol determines it
 pub fits_mark : (m : Mark) (kind : PlainTerminal) → fits (the m) kind ≡ true → kind ≡ mark m
 fits_mark m kind e = HasContent.whole (said (the m) kind e)
 

@@ -1,5 +1,5 @@
--- The two languages of the grammar, packages and bodies of behaviour annexes, each with the stack that the machine
--- starts from.
+-- The two languages of the grammar, packages and bodies of behaviour annexes, each with the initial stack of the
+-- machine.
 use Rattle.std.proofs.Common.{ℕ, ◌≡◌, refl, ◌≤◌, List, [], ◌∷◌, arith}
 use Rattle.aadl_tree.specs.declared.nesting_limit.TheConstants.{GREATEST_NESTING}
 use Rattle.aadl_tree.specs.Terminals.{PlainTerminal}
@@ -32,7 +32,7 @@ body_clear = (
   ),
 )
 
--- places that do not count
+-- places that do not matter
 abbrev pub nowhere : ℕ → Unit {0}
 nowhere at = tt
 

@@ -1,5 +1,5 @@
--- What is checked of the parse table for nesting: each production opens or closes as its terminal does, and an `if`
--- that closes stands only behind its `end`.
+-- Checks of the parse table for nesting: each production opens or closes as its terminal does, and an `if` that
+-- closes occurs only after its `end`.
 use Rattle.std.proofs.Common.{◌≡◌, ℕ, ◌+◌, ◌-◌, Bool, true, false, cond, not, ◌&&◌, ◌||◌, ◌==◌, List, [], ◌∷◌, refl}
 use Rattle.aadl_tree.specs.declared.mark.Mark.{Mark}
 use Rattle.aadl_tree.specs.declared.mark.Mark.TheVariants as k
@@ -18,7 +18,7 @@ openers = the k.If ∷ the k.ParenOpen ∷ the k.BracketOpen ∷ the k.BraceOpen
 abbrev pub closers : List Class
 closers = the k.ParenClose ∷ the k.BracketClose ∷ the k.BraceClose ∷ the k.AnnexClose ∷ the k.GuardClose ∷ []
 
--- the nesting behind a terminal of this number, where `end` does not stand before it
+-- the nesting after a terminal of this number that does not follow `end`
 abbrev pub shift : ℕ → ℕ → ℕ
 shift n x = cond (among x openers) (n + 1) (cond (among x closers) (n - 1) n)
 
@@ -42,7 +42,7 @@ end_is (other w) = refl
 end_is (mark k.If) = refl
 end_is (mark _) = refl
 
--- behind `end` all terminals but `if` open and close as ever
+-- after `end`, all terminals except `if` open and close as usual
 pub opened_same : (n : ℕ) (ended : Bool) (kind : PlainTerminal) → (kind_number kind == class_number (the k.If)) ≡ false
     → opened n ended kind ≡ opened n false kind
 opened_same n false kind e = refl
@@ -55,12 +55,12 @@ opened_same n true (other w) e = refl
 opened_same n true (mark k.If) e = cc
 opened_same n true (mark _) e = refl
 
--- the symbol that takes the `if` behind `end`
+-- the symbol that takes the `if` after `end`
 abbrev pub closing : Symbol → Bool
 closing s.closing_if = true
 closing _ = false
 
--- symbols that stand in no stack but for that one: openers, `if` and `end` by themselves
+-- symbols that are never on the stack except by that symbol: openers, `if` and `end` by themselves
 abbrev pub is_never_stacked : Symbol → Bool
 is_never_stacked (s.only m) = among (mark_number m) (the k.End ∷ openers)
 is_never_stacked s.closing_if = true
@@ -70,11 +70,11 @@ abbrev pub plain : List Symbol → Bool
 plain [] = true
 plain (x ∷ f) = not (is_never_stacked x) && plain f
 
--- `if` does not begin the symbol, nor what stands behind it
+-- neither the symbol nor its followers begin with `if`
 abbrev pub begins_without_if : Symbol → Bool
 begins_without_if x = not (can_omit x) && (not (among (class_number (the k.If)) (firsts (rows x))) && not (is_never_stacked x))
 
--- what may be wanted behind `end`
+-- the symbols that may be expected after `end`
 abbrev pub closing_first : List Symbol → Bool
 closing_first [] = false
 closing_first (x ∷ f) = (closing x || begins_without_if x) && plain f
@@ -83,7 +83,7 @@ abbrev pub good : Bool → List Symbol → Bool
 good true f = closing_first f
 good false f = plain f
 
--- what is open before the terminal of this number, and behind it
+-- the numbers of openers open before and after the terminal of this number
 abbrev pub changes : ℕ → ℕ → ℕ → Bool
 changes x before behind =
     cond (among x openers) (behind == before + 1) (cond (among x closers) (behind + 1 == before) (behind == before))

@@ -1,4 +1,4 @@
--- Which stack is left when the machine has taken several terminals, one after the other, and how deep these nest.
+-- The stack after the machine has taken several terminals in turn, and how deep these nest.
 use Rattle.std.proofs.Common.{◌≡◌, ℕ, ◌+◌, ◌≤◌, Bool, ◌∙◌, sym, ap, subst, refl, List, [], ◌∷◌, ◌++◌, Option, Some}
 use Rattle.std.proofs.Common.{None, option_and_then, unwrap_or}
 use Rattle.std.proofs.lemmas.Option.{same_Some}
@@ -11,7 +11,7 @@ use Rattle.aadl_grammar.proofs.DerivationTrees.DerivationsAndMachineSteps.{Deriv
 use Rattle.aadl_grammar.proofs.Fates.StackNesting.{Good, step_depth}
 use Rattle.aadl_grammar.proofs.HeadsAndTails.{heads, tails}
 
--- the stack behind the terminals
+-- the stack after the terminals
 unfoldable pub stack_after_all : Stack → List PlainTerminal → Option Stack
 stack_after_all wanted [] = Some wanted
 stack_after_all wanted (kind ∷ ks) = option_and_then (λ next. stack_after_all next ks) (stack_after wanted kind)
@@ -46,7 +46,7 @@ pub record Left (last : Stack) (more : List PlainTerminal) : Type 0 where
   pub derived : Derives last more
   pub clear : Clear last
 
--- what is derived behind the terminals
+-- the derivation of the rest after the terminals
 pub derived_left : (ks : List PlainTerminal) (wanted last : Stack) (more : List PlainTerminal) → Clear wanted → stack_after_all wanted ks ≡ Some last
     → Derives wanted (ks ++ more) → Left last more
 derived_left [] wanted last more c e d =
@@ -83,7 +83,7 @@ walk_then (x ∷ ks) wanted last after kind e h =
     let got = walk_first wanted x ks last e in
     walk_more wanted got.0 x (ks ++ kind ∷ []) got.1 ∙ walk_then ks got.0 last after kind got.2 h
 
--- on the way no more openers are open than may be open
+-- at no terminal in between, more openers are open than the limit admits
 abbrev pub Within : ℕ → Stack → List PlainTerminal → Type 0
 Within outer wanted ks =
     (front back : List PlainTerminal) (mid : Stack) → ks ≡ front ++ back → stack_after_all wanted front ≡ Some mid

@@ -1,4 +1,4 @@
--- The stack knows how deep the terminals nest.
+-- The stack determines how deep the terminals nest.
 use Rattle.std.proofs.Common.{◌≡◌, ℕ, ◌+◌, ◌-◌, Bool, true, false, cond, not, ◌||◌, ◌==◌, ◌∙◌, sym, ap, subst, refl}
 use Rattle.std.proofs.Common.{List, [], ◌∷◌, ◌++◌, Option, Some, inl, inr, arith}
 use Rattle.std.proofs.lemmas.Bool.{eqb-true, and_from, false_from_ne_true, or_cases}
@@ -62,7 +62,7 @@ or_else : (a b : Bool) → (a || b) ≡ true → not a ≡ true → b ≡ true
 or_else true b e h = cc
 or_else false b e h = e
 
--- a row of a symbol that is in a stack, where `end` does not stand before
+-- a row of a symbol of a stack, not after `end`
 row_moved : (outer : ℕ) (x : Symbol) (below : Stack) (r : Row) (kind : PlainTerminal) → not (is_never_stacked x) ≡ true → plain below ≡ true
     → Member r (rows x) → fits r.first kind ≡ true → Moved outer (x ∷ below) (r.wanted ++ below) false kind
 unfolding depth
@@ -85,7 +85,7 @@ row_moved outer x below r kind n p m e =
           ∙ ap (λ z. outer + z) (sym (depth_append r.wanted below));
     }
 
--- where `end` does not stand before
+-- not after `end`
 by_move : (outer : ℕ) (x : Symbol) (below next : Stack) (kind : PlainTerminal) (y : Move) (later : Option Stack)
     → Goes (rows x) (can_omit x) kind y → not (is_never_stacked x) ≡ true → plain below ≡ true
     → (later ≡ Some next → Moved outer below next false kind) → chosen y below later ≡ Some next
@@ -110,7 +110,7 @@ step_moves outer (x ∷ below) next kind p e =
     by_move outer x below next kind (move x kind) (stack_after below kind) (goes (rows x) (can_omit x) kind) (first_so _ _ p)
     rest (λ h. step_moves outer below next kind rest h) e
 
--- Behind `end`.
+-- After `end`.
 
 closing_is : (x : Symbol) → closing x ≡ true → x ≡ s.closing_if
 closing_is s.closing_if e = refl

@@ -1,4 +1,4 @@
--- Actions that terminals spell can be given the places of these terminals. For the claim that a text has a tree or a
+-- Actions that terminals spell can be given the places of these terminals. For the law that a text has a tree or a
 -- fault.
 use Rattle.std.proofs.Common.{ℕ, sym, [], ◌∷◌, ◌++◌}
 use Rattle.aadl_tree.specs.declared.mark.Mark.TheVariants as k

@@ -1,5 +1,5 @@
--- Declarations and packages that terminals spell can be given the places of these terminals. For the claim that a
--- text has a tree or a fault.
+-- Declarations and packages that terminals spell can be given the places of these terminals. For the law that a text
+-- has a tree or a fault.
 use Rattle.std.proofs.Common.{ℕ, sym, List, [], ◌∷◌, ◌++◌, flat_map}
 use Rattle.aadl_tree.specs.declared.mark.Mark.TheVariants as k
 use Rattle.aadl_tree.specs.Terminals.{mark}

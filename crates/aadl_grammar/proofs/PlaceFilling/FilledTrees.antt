@@ -1,4 +1,4 @@
--- Trees whose places are given ones, part for part. For the claim that a text has a tree or a fault.
+-- Trees with given places, part by part. For the law that a text has a tree or a fault.
 use Rattle.std.proofs.Common.{◌≡◌, ℕ, ◌∙◌, sym, ap, ap₂, Bool, true, false, List, [], ◌∷◌, ◌++◌, flat_map, Option, Some}
 use Rattle.std.proofs.Common.{None, refl}
 use Rattle.aadl_tree.specs.declared.mark.Mark.{Mark}
@@ -10,7 +10,7 @@ use Rattle.aadl_tree.specs.Declarations.{section_parts}
 abbrev pub U : Type 0
 U = Unit {0}
 
--- as many places as are kept
+-- the two lists have the same length
 abbrev pub AreAsMany : List ℕ → List U → Type 0
 AreAsMany [] [] = Unit {0}
 AreAsMany (p ∷ ps) (u ∷ us) = AreAsMany ps us
@@ -56,7 +56,7 @@ split (may extra ∷ c) d (may its ∷ b) (e, l) =
       second = s.second;
     }
 
--- behind one part
+-- the list after one part
 pub record Behind (b : List (SpellingPart ℕ)) (p : SpellingPart ℕ) (d : List (SpellingPart U)) : Type 0 where
   pub back : List (SpellingPart ℕ)
   pub is : b ≡ p ∷ back

@@ -1,5 +1,5 @@
--- Names and references that terminals spell can be given the places of these terminals. For the claim that a text
--- has a tree or a fault.
+-- Names and references that terminals spell can be given the places of these terminals. For the law that a text has a
+-- tree or a fault.
 use Rattle.std.proofs.Common.{ℕ, sym, [], ◌∷◌, ◌++◌, flat_map}
 use Rattle.aadl_tree.specs.declared.mark.Mark.TheVariants as k
 use Rattle.aadl_tree.specs.Terminals.{word, mark}

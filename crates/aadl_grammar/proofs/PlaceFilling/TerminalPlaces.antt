@@ -1,4 +1,4 @@
--- Terminals that spell the parts of a tree give each part that keeps a place its place. For the claim that a text
+-- Terminals that spell the parts of a tree determine the place of each part that keeps one. For the law that a text
 -- has a tree or a fault.
 use Rattle.std.proofs.Common.{◌≡◌, ℕ, sym, subst, List, [], ◌∷◌, ◌++◌, refl, inl, inr}
 use Rattle.aadl_tree.specs.Terminals.{PlainTerminal, PlacedTerminal, kinds_of}
@@ -6,7 +6,7 @@ use Rattle.aadl_tree.specs.SpellingParts.{SpellingPart, token, may, extra_kinds,
 use Rattle.aadl_grammar.proofs.HeadsAndTails.{heads, tails}
 use Rattle.aadl_grammar.proofs.PlaceFilling.FilledTrees.{U, AreAsMany, Like}
 
--- the first terminal is of this kind
+-- the first terminal has this kind
 record Starts (kind : PlainTerminal) (more : List PlainTerminal) (ss : List PlacedTerminal) : Type 0 where
   spot : PlacedTerminal
   left : List PlacedTerminal
@@ -25,7 +25,7 @@ starts kind more (s ∷ ss) e =
       kinds = tails s.kind kind (kinds_of ss) more e;
     }
 
--- terminals of these kinds stand before the others
+-- terminals of these kinds come before the others
 record Fronts (ks more : List PlainTerminal) (ss : List PlacedTerminal) : Type 0 where
   left : List PlacedTerminal
   have : HaveKinds ks ss left

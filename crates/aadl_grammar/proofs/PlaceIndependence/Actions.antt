@@ -1,5 +1,4 @@
--- Actions that differ in their places alone are spelled by the same terminals. For the proof that a text has one
--- tree.
+-- Actions that differ only in their places have the same spelling. For the proof that a text has one tree.
 use Rattle.std.proofs.Common.{refl}
 use Rattle.aadl_tree.specs.declared.actions.Bound.{Bound}
 use Rattle.aadl_tree.specs.declared.mark.Mark.TheVariants as k

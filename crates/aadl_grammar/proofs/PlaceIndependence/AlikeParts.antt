@@ -18,7 +18,7 @@ both none e = e
 both (one h x) e = one h (both x e)
 both (extra x) e = extra (both x e)
 
--- they are spelled alike
+-- they have the same spelling
 pub alike_spells : {P Q : Type 0} {w : P → Q} {a : List (SpellingPart P)} {b : List (SpellingPart Q)} (ks rest : List PlainTerminal)
     → Alike w a b → Spells a ks rest → Spells b ks rest
 alike_spells ks rest none e = e
@@ -26,13 +26,13 @@ alike_spells ks rest (one h x) (more, e, sp) = (more, e, alike_spells more rest 
 alike_spells ks rest (extra x) (inl sp) = inl (alike_spells ks rest x sp)
 alike_spells ks rest (extra x) (inr (more, e, sp)) = inr (more, e, alike_spells more rest x sp)
 
--- and keep the same terminals
+-- they keep the same terminals
 pub alike_kept : {P Q : Type 0} {w : P → Q} {a : List (SpellingPart P)} {b : List (SpellingPart Q)} → Alike w a b → kept a ≡ kept b
 alike_kept none = refl
 alike_kept (one {kind = kind} h x) = ap (λ l. kind ∷ l) (alike_kept x)
 alike_kept (extra x) = alike_kept x
 
--- and keep as many places
+-- they keep equally many places
 none_mapped : {P Q : Type 0} (w : P → Q) (ps : List P) → none_of ps ≡ none_of (map w ps)
 none_mapped w [] = refl
 none_mapped w (p ∷ ps) = ap (λ l. tt ∷ l) (none_mapped w ps)

@@ -1,5 +1,5 @@
--- Annexes and behaviours that differ in their places alone are spelled by the same terminals. For the proof that a
--- text has one tree.
+-- Annexes and behaviours that differ only in their places have the same spelling. For the proof that a text has one
+-- tree.
 use Rattle.std.proofs.Common.{refl, map}
 use Rattle.aadl_tree.specs.declared.mark.Mark.TheVariants as k
 use Rattle.aadl_tree.specs.Actions as a

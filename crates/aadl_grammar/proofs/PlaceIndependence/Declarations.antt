@@ -1,5 +1,5 @@
--- Declarations and packages that differ in their places alone are spelled by the same terminals. For the proof that
--- a text has one tree.
+-- Declarations and packages that differ only in their places have the same spelling. For the proof that a text has
+-- one tree.
 use Rattle.std.proofs.Common.{refl, List}
 use Rattle.aadl_tree.specs.declared.mark.Mark.TheVariants as k
 use Rattle.aadl_tree.specs.SpellingParts.{SpellingPart, Section, feature_section, subcomponent_section, connection_section}

@@ -1,5 +1,4 @@
--- Expressions that differ in their places alone are spelled by the same terminals. For the proof that a text has one
--- tree.
+-- Expressions that differ only in their places have the same spelling. For the proof that a text has one tree.
 use Rattle.std.proofs.Common.{refl, Bool, true, false, Option, Some, None, option_map}
 use Rattle.aadl_tree.specs.declared.expressions.LogicOperator.{LogicOperator}
 use Rattle.aadl_tree.specs.declared.expressions.LogicOperator.TheVariants as logic

@@ -1,5 +1,5 @@
--- Names, values and properties that differ in their places alone are spelled by the same terminals. For the proof
--- that a text has one tree.
+-- Names, values and properties that differ only in their places have the same spelling. For the proof that a text has
+-- one tree.
 use Rattle.std.proofs.Common.{refl, List, [], ◌∷◌, map, Option, Some, None, option_map}
 use Rattle.aadl_tree.specs.declared.expressions.Sign.{Sign}
 use Rattle.aadl_tree.specs.declared.mark.Mark.TheVariants as k

@@ -1,4 +1,4 @@
--- Symbols of actions: each tree that terminals spell is built by a row of its symbol, or the symbol is left out. For
+-- Symbols of actions: a row of its symbol builds each tree that terminals spell, unless the symbol is omitted. For
 -- the proof that a text has one tree.
 use Rattle.std.proofs.Common.{ℤ, Bool, true, false, sym, refl, List, [], ◌∷◌, append_assoc, inl, inr}
 use Rattle.std.proofs.lemmas.List.{append-nil}

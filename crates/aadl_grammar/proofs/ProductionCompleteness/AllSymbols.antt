@@ -1,5 +1,5 @@
--- All symbols together: each tree of a symbol that terminals spell is built by one of its rows, or the symbol is
--- left out, and nothing spells its tree then.
+-- All symbols together: a row of its symbol builds each tree that terminals spell, unless the symbol is omitted; then
+-- no terminals spell its tree.
 use Rattle.std.proofs.Common.{◌≡◌, ◌⊎◌, Bool, true, false, refl, List, inl}
 use Rattle.aadl_tree.specs.Terminals.{PlainTerminal}
 use Rattle.aadl_tree.specs.SpellingParts.{Spells}
@@ -82,7 +82,7 @@ use Rattle.aadl_grammar.proofs.ProductionCompleteness.Declarations.{package_end_
 use Rattle.aadl_grammar.proofs.ProductionCompleteness.Declarations.{declarations_opens, more_names_opens, withs_opens}
 use Rattle.aadl_grammar.proofs.ProductionCompleteness.Declarations.{a_package_opens}
 
--- the symbol is left out
+-- the symbol is omitted
 abbrev pub Omitted : (b : Bool) (y : Symbol) → Empty b y → TreeOf y → List PlainTerminal → List PlainTerminal → Type 0
 Omitted true y e t ks rest = (t ≡ e) × (ks ≡ rest)
 Omitted false y e t ks rest = ⊥
@@ -290,7 +290,7 @@ all_give s.more_names = more_names_give
 all_give s.withs = withs_give
 all_give s.a_package = a_package_give
 
--- nothing spells the tree of a symbol that is left out
+-- no terminals spell the tree of an omitted symbol
 abbrev pub Nothing : (b : Bool) (y : Symbol) → Empty b y → Type 0
 Nothing true y e = (ks : List PlainTerminal) → Spells (parts y e) ks ks
 Nothing false y e = NoPlace

@@ -1,5 +1,5 @@
--- Symbols of annexes and behaviours: each tree that terminals spell is built by a row of its symbol, or the symbol
--- is left out. For the proof that a text has one tree.
+-- Symbols of annexes and behaviours: a row of its symbol builds each tree that terminals spell, unless the symbol is
+-- omitted. For the proof that a text has one tree.
 use Rattle.std.proofs.Common.{true, false, sym, refl, List, [], ◌∷◌, ◌++◌, Option, Some, None, append_assoc, inl, inr}
 use Rattle.std.proofs.lemmas.List.{append-nil}
 use Rattle.aadl_tree.specs.declared.mark.Mark.TheVariants as k

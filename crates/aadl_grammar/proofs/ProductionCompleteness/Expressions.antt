@@ -1,4 +1,4 @@
--- Symbols of expressions: each tree that terminals spell is built by a row of its symbol, or the symbol is left out.
+-- Symbols of expressions: a row of its symbol builds each tree that terminals spell, unless the symbol is omitted.
 -- For the proof that a text has one tree.
 use Rattle.std.proofs.Common.{true, false, sym, refl, List, [], ◌∷◌, Some, None, inl, inr}
 use Rattle.std.proofs.lemmas.List.{append-nil}

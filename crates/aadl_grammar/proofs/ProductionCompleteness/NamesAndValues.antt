@@ -1,5 +1,5 @@
--- Symbols of names, values and properties: each tree that terminals spell is built by a row of its symbol, or the
--- symbol is left out. For the proof that a text has one tree.
+-- Symbols of names, values and properties: a row of its symbol builds each tree that terminals spell, unless the
+-- symbol is omitted. For the proof that a text has one tree.
 use Rattle.std.proofs.Common.{true, false, ap, refl, List, [], ◌∷◌, Option, Some, None, append_assoc, inl, inr}
 use Rattle.aadl_tree.specs.declared.mark.Mark.TheVariants as k
 use Rattle.aadl_tree.specs.declared.expressions.Sign.{Sign}

@@ -1,5 +1,5 @@
--- Symbols of names, values and properties: the tree that a row builds is spelled by the row's terminals and by what
--- spells the trees behind them. For the proof that a text has one tree.
+-- Symbols of names, values and properties: the row's terminal and the parts of the following trees spell the tree
+-- that the row builds. For the proof that a text has one tree.
 use Rattle.std.proofs.Common.{◌≡◌, sym, refl, List, [], ◌∷◌, ◌++◌, append_assoc}
 use Rattle.aadl_tree.specs.declared.mark.Mark.{Mark}
 use Rattle.aadl_tree.specs.declared.mark.Mark.TheVariants as k

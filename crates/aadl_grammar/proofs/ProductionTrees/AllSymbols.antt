@@ -1,4 +1,4 @@
--- All symbols together: the tree that each row builds, and the tree of a symbol that is left out.
+-- All symbols together: the tree that each row builds, and the tree of an omitted symbol.
 use Rattle.std.proofs.Common.{Bool, true, false, [], None}
 use Rattle.aadl_tree.specs.Values as v
 use Rattle.aadl_tree.specs.Expressions as e
@@ -153,7 +153,7 @@ abbrev pub Empty : Bool → Symbol → Type 0
 Empty true y = TreeOf y
 Empty false y = NoPlace
 
--- the tree of a symbol that is left out
+-- the tree of an omitted symbol
 abbrev pub empty : (y : Symbol) → Empty (can_omit y) y
 empty (s.only m) = tt
 empty s.identifier = tt

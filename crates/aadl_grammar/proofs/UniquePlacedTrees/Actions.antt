@@ -1,4 +1,4 @@
--- Actions are fixed by what is left without places, and by their places.
+-- Actions are determined by their shape, which is the tree without places, and by their places.
 use Rattle.std.proofs.Common.{◌≡◌, ℕ, ℤ, ◌∙◌, sym, ap, Bool, true, false, List, [], ◌∷◌, ◌++◌, refl}
 use Rattle.aadl_tree.specs.declared.mark.Mark.TheVariants as k
 use Rattle.aadl_tree.specs.declared.actions.Bound.{Bound}

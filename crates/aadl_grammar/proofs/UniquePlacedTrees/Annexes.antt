@@ -1,4 +1,4 @@
--- Annexes and behaviours are fixed by what is left without places, and by their places.
+-- Annexes and behaviours are determined by their shape, which is the tree without places, and by their places.
 use Rattle.std.proofs.Common.{◌≡◌, ℕ, ◌∙◌, sym, ap, Bool, List, [], ◌∷◌, ◌++◌, map, Option, refl}
 use Rattle.aadl_tree.specs.declared.mark.Mark.TheVariants as k
 use Rattle.aadl_tree.specs.SpellingParts.{plain, parts_if, marked_if}

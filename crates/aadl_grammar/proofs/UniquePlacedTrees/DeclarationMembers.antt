@@ -1,4 +1,4 @@
--- What stands in a declaration is fixed by what is left without places, and by its places.
+-- The members of a declaration are determined by their shape, which is the tree without places, and by their places.
 use Rattle.std.proofs.Common.{◌≡◌, ℕ, ◌∙◌, sym, ap, ap₂, List, [], ◌∷◌, ◌++◌, flat_map, Option, refl}
 use Rattle.aadl_tree.specs.declared.mark.Mark.TheVariants as k
 use Rattle.aadl_tree.specs.declared.declarations.Category.{Category}

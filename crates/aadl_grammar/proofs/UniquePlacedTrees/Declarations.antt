@@ -1,4 +1,4 @@
--- Declarations and packages are fixed by what is left without places, and by their places.
+-- Declarations and packages are determined by their shape, which is the tree without places, and by their places.
 use Rattle.std.proofs.Common.{ℕ, ◌∙◌, sym, ap, List, [], ◌∷◌, ◌++◌, map, flat_map}
 use Rattle.aadl_tree.specs.declared.mark.Mark.TheVariants as k
 use Rattle.aadl_tree.specs.declared.declarations.Category.{Category}

@@ -1,4 +1,4 @@
--- Expressions are fixed by what is left without places, and by their places.
+-- Expressions are determined by their shape, which is the tree without places, and by their places.
 use Rattle.std.proofs.Common.{◌≡◌, ℕ, ◌∙◌, sym, ap, ap₂, Bool, true, false, List, [], ◌∷◌, ◌++◌, Option, Some, None}
 use Rattle.std.proofs.Common.{option_map, refl}
 use Rattle.aadl_tree.specs.declared.expressions.Sign.{Sign}
@@ -17,7 +17,7 @@ use Rattle.aadl_grammar.proofs.UniquePlacedTrees.Names.{Fixed, identifier_fixed}
 abbrev U : Type 0
 U = Unit {0}
 
--- nothing of these keeps a place
+-- none of these parts keeps a place
 fresh_none : (b : Bool) (xs : List ℕ) → placed (e.fresh_parts b) xs ≡ xs
 fresh_none true xs = refl
 fresh_none false xs = refl

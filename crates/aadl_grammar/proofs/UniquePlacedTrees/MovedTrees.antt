@@ -1,4 +1,4 @@
--- The same tree at other places: what is written of it where its terminals have moved.
+-- The same tree at other places: its terminals after they moved.
 use Rattle.std.proofs.Common.{◌≡◌, ℕ, ◌∙◌, sym, ap, refl, subst, List, [], ◌∷◌, ◌++◌, map, inl, inr}
 use Rattle.aadl_tree.specs.Terminals.{PlacedTerminal, kinds_of}
 use Rattle.aadl_tree.specs.SpellingParts.{SpellingPart, token, may, AreAt, Written, kept}
@@ -7,7 +7,7 @@ use Rattle.aadl_grammar.proofs.PlaceIndependence.AlikeParts.{Alike, none, one, e
 use Rattle.aadl_tree.specs.proof.PlaceMaps.{package_to}
 use Rattle.aadl_grammar.proofs.PlaceIndependence.Declarations.{package_alike}
 
--- the terminals that the tree keeps, of those that spell it
+-- the terminals that the tree keeps, among the terminals that spell it
 abbrev pub survivors : (a : List (SpellingPart ℕ)) (ss rest : List PlacedTerminal) → Written a ss rest → List PlacedTerminal
 survivors [] ss rest e = []
 survivors (token kind places ∷ a) ss rest (s, more, e, is, at, v) = s ∷ survivors a more rest v
@@ -29,7 +29,7 @@ are_moved : (f : ℕ → ℕ) (ps : List ℕ) (at : ℕ) → AreAt ps at → Are
 are_moved f [] at h = tt
 are_moved f (p ∷ ps) at (e, h) = (ap f e, are_moved f ps at h)
 
--- they spell the tree at the places that theirs have moved to
+-- they spell the tree at the places that its terminals have moved to
 pub replaced : (f : ℕ → ℕ) (a b : List (SpellingPart ℕ)) → Alike f a b
     → (ss rest : List PlacedTerminal) (v : Written a ss rest) (after : List PlacedTerminal)
     → Written b (map (moved f) (survivors a ss rest v) ++ after) after

@@ -1,4 +1,4 @@
--- Names are fixed by what is left without places, and by their places.
+-- Names are determined by their shape, which is the tree without places, and by their places.
 use Rattle.std.proofs.Common.{◌≡◌, ℕ, ap, ap₂, List, [], ◌∷◌, map, flat_map, refl}
 use Rattle.aadl_tree.specs.declared.mark.Mark.{Mark}
 use Rattle.aadl_tree.specs.declared.mark.Mark.TheVariants as k

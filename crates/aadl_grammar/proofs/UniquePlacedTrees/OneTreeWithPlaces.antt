@@ -1,4 +1,4 @@
--- A package or behaviour with its places is the only one that its tokens spell: the claim `one_tree_with_places`.
+-- A package or behaviour with its places is the only one that its tokens spell: the law `one_tree_with_places`.
 use Rattle.std.proofs.Common.{◌≡◌, ℕ, ◌∙◌, sym, ap, List, []}
 use Rattle.aadl_tree.specs.Terminals.{PlacedTerminal, kinds_of}
 use Rattle.aadl_tree.specs.SpellingParts.{SpellingPart, Written}

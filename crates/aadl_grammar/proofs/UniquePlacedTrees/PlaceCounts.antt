@@ -1,11 +1,11 @@
--- How many places a tree keeps of its terminals, part for part, and which terminals keep none.
+-- The number of places that a tree keeps of its terminals, part by part, and the terminals of which it keeps none.
 use Rattle.std.proofs.Common.{◌≡◌, Bool, true, false, cond, List, [], ◌∷◌, refl}
 use Rattle.aadl_tree.specs.declared.mark.Mark.TheVariants as k
 use Rattle.aadl_tree.specs.Terminals.{PlainTerminal, mark}
 use Rattle.aadl_tree.specs.SpellingParts.{SpellingPart, token, may, feature_section, subcomponent_section, connection_section}
 use Rattle.aadl_tree.specs.SpellingParts.{property_section, Extra, empty_section, last_semicolon, extra_kinds}
 
--- Terminals that stand in what a tree does not keep. None of them keeps a place.
+-- Terminals that occur in parts that a tree does not keep. Such a terminal never has a place in the tree.
 abbrev pub quiet : PlainTerminal → Bool
 quiet (mark k.Semicolon) = true
 quiet (mark k.Nothing) = true
@@ -25,7 +25,7 @@ shape [] = []
 shape (token kind places ∷ ps) = cond (quiet kind) (shape ps) (none_of places ∷ shape ps)
 shape (may extra ∷ ps) = shape ps
 
--- what a tree does not keep is quiet
+-- the parts that a tree does not keep have no places
 abbrev pub AreQuiet : List PlainTerminal → Type 0
 AreQuiet [] = Unit {0}
 AreQuiet (kind ∷ ks) = (quiet kind ≡ true) × AreQuiet ks

@@ -4,7 +4,7 @@ use Rattle.aadl_tree.specs.Terminals.{PlainTerminal, PlacedTerminal}
 use Rattle.aadl_tree.specs.SpellingParts.{SpellingPart, token, may, extra_kinds, AreAt, HaveKinds, Written}
 use Rattle.aadl_grammar.proofs.UniquePlacedTrees.PlaceCounts.{quiet, none_of, shape, AreQuiet, extra_quiet}
 
--- the places before those that follow
+-- the places before the following ones
 abbrev pub placed : {P : Type 0} → List (SpellingPart P) → List P → List P
 placed [] xs = xs
 placed (token kind [] ∷ ps) xs = placed ps xs
@@ -55,7 +55,7 @@ placed_token kind [] ps = same (quiet kind) (placed ps []) where
   same false xs = refl
 placed_token kind (p ∷ more) ps = refl
 
--- the places are those of the tokens that the shape tells
+-- the shape determines the tokens whose places these are
 placed_is : (ps : List (SpellingPart ℕ)) (ss : List PlacedTerminal) → Written ps ss [] → placed ps [] ≡ pick (shape ps) (strip ss)
 placed_is [] ss e = refl
 placed_is (token kind places ∷ ps) ss (s, more, e, is, at, w) =
@@ -72,12 +72,12 @@ pub same_places : (a b : List (SpellingPart ℕ)) (ss : List PlacedTerminal) →
     → placed a [] ≡ placed b []
 same_places a b ss e v w = placed_is a ss v ∙ ap (λ n. pick n (strip ss)) e ∙ sym (placed_is b ss w)
 
--- Two trees are the same, and so is what follows their places.
+-- The two trees are the same, and so are the places after their own.
 pub record Both (A : Type 0) (t u : A) (xs ys : List ℕ) : Type 0 where
   pub tree : t ≡ u
   pub rest : xs ≡ ys
 
--- one part behind another
+-- one part after another
 pub in_turn : (a b c d : List (SpellingPart ℕ)) (xs ys : List ℕ) → placed (a ++ b) xs ≡ placed (c ++ d) ys
     → placed a (placed b xs) ≡ placed c (placed d ys)
 in_turn a b c d xs ys e = sym (placed_append a b xs) ∙ e ∙ placed_append c d ys

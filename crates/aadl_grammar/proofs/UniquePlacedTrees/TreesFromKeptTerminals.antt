@@ -1,4 +1,5 @@
--- Terminals that are just those that a tree keeps have a tree of their own, which is the same except for its places.
+-- If a list consists of the terminals that a tree keeps, it has a tree of its own, which is the same except for its
+-- places.
 use Rattle.std.proofs.Common.{◌≡◌, ℕ, ◌<◌, cond, ◌==◌, ◌∙◌, sym, ap, ap₂, refl, subst, List, [], ◌∷◌, map, arith}
 use Rattle.std.proofs.Common.{eq-eqb, inl, inr}
 use Rattle.std.proofs.lemmas.Bool.{eqb-true, false_from_ne_true}

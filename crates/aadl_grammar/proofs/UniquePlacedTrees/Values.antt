@@ -1,4 +1,4 @@
--- Values and properties are fixed by what is left without places, and by their places.
+-- Values and properties are determined by their shape, which is the tree without places, and by their places.
 use Rattle.std.proofs.Common.{◌≡◌, ℕ, ◌∙◌, sym, ap, ap₂, Bool, true, false, List, [], ◌∷◌, ◌++◌, map, flat_map, Option}
 use Rattle.std.proofs.Common.{Some, None, option_map, refl}
 use Rattle.std.proofs.lemmas.Option.{same_Some}
@@ -14,7 +14,7 @@ use Rattle.aadl_tree.specs.proof.PlaceMaps.{value_to, values_to, association_to,
 use Rattle.aadl_grammar.proofs.UniquePlacedTrees.PlacesFromTokens.{placed, in_turn}
 use Rattle.aadl_grammar.proofs.UniquePlacedTrees.Names.{Fixed, identifier_fixed, chain_fixed, name_fixed}
 
--- lists, and what may be left out
+-- lists and optional parts
 pub list_fixed : {T U : Type 0} (to : T → U) (parts : T → List (SpellingPart ℕ)) → Fixed T U to parts
     → Fixed (List T) (List U) (map to) (flat_map parts)
 list_fixed to parts f [] [] xs ys s h = record { tree = refl; rest = h }
@@ -35,7 +35,7 @@ option_fixed to parts f (Some t) (Some u) xs ys s h = let a = f t u xs ys (same_
 option_fixed to parts f None (Some u) xs ys s h = absurd cc
 option_fixed to parts f (Some t) None xs ys s h = absurd cc
 
--- nothing of these keeps a place
+-- none of these parts keeps a place
 number_none : (x : v.Number) (ps : List (SpellingPart ℕ)) (xs : List ℕ) → placed (v.number_parts x ++ ps) xs ≡ placed ps xs
 number_none x ps xs = by_parts x.sign x.figure ps xs where
   by_parts : (o : Option Sign) (f : v.UnsignedNumber) (qs : List (SpellingPart ℕ)) (ys : List ℕ)

@@ -1,4 +1,4 @@
--- Example terminals for the machine, each with its number as its place.
+-- Example terminals for the machine; the place of each is its index.
 use Rattle.std.specs.Prelude.{ℕ, ◌+◌, List, [], ◌∷◌, ◌++◌, replicate, codes}
 use Rattle.aadl_tree.specs.Terminals.{PlainTerminal, word, mark, PlacedTerminal}
 use Rattle.aadl_tree.specs.declared.mark.Mark.TheVariants as k
@@ -11,7 +11,7 @@ numbered n (kind ∷ ks) = record { kind = kind; at = n } ∷ numbered (n + 1) k
 abbrev pub without_value : List PlainTerminal
 without_value = word (codes "x") ∷ mark k.Assign ∷ mark k.Semicolon ∷ []
 
--- n `(` before a word, and n `)` behind it
+-- n `(` before a word, and n `)` after it
 abbrev pub nested : ℕ → List PlainTerminal
 nested n = replicate n (mark k.ParenOpen) ++ word (codes "x") ∷ replicate n (mark k.ParenClose)
 

@@ -1,9 +1,9 @@
--- The symbols of the grammar, which say what may still be wanted of a text; the classes of terminals; and what a row
--- of the parse table is.
+-- The symbols of the grammar, which are the entries of the machine's stack; the classes of terminals; and the rows of
+-- the parse table.
 use Rattle.std.specs.Prelude.{List}
 use Rattle.aadl_tree.specs.declared.mark.Mark.{Mark}
 
--- a class of terminals; what a word or a number says makes no difference
+-- a class of terminals; the content of a word or a number makes no difference
 pub data Class : Type 0 where
   a_word : Class
   a_whole : Class
@@ -119,7 +119,7 @@ pub data Symbol : Type 0 where
   withs : Symbol
   a_package : Symbol
 
--- a symbol begins with a terminal of the class, and behind it these are wanted
+-- one way in which a symbol begins: a terminal of the class, and the symbols expected after it
 pub record Row : Type 0 where
   pub first : Class
   pub wanted : List Symbol

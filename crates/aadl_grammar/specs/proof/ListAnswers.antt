@@ -1,5 +1,4 @@
--- What a function of a parser answers that reads a list, with a function that is passed to it for each item. For the
--- contracts of parsers.
+-- Results of a parsing function that reads a list with a given function for each item. For the contracts of parsers.
 use Rattle.std.specs.Prelude.{ℕ, ◌+◌, ◌≡◌, ◌≤◌, ◌<◌, IfOk, List, [], ◌∷◌, ◌++◌, flat_map, length, Result, Option, Some}
 use Rattle.std.specs.Prelude.{None, true, false}
 use Rattle.std.specs.Global.{Vec}
@@ -16,12 +15,12 @@ use Rattle.aadl_grammar.specs.declared.parse_fault.ParseFault.{ParseFault}
 use Rattle.aadl_grammar.specs.proof.ParserAnswers.{here, AtMark, StartsWord, Misses, Reads, RunsTo, Parses, AnyRoom}
 use Rattle.aadl_grammar.specs.proof.ParserAnswers.{Room}
 
--- how many openers may be open before a part: what leaves this room, or any number
+-- a condition on the number of openers open before a part: within the room, or any number
 abbrev pub Allows : Option ℕ → ℕ → Type 0
 Allows None = AnyRoom
 Allows (Some room) = Room room
 
--- Another item follows: behind its mark, or, where items have no mark before them, with a word.
+-- Another item follows: after its mark or, if items have no mark, with a word.
 abbrev pub Follows : Option Mark → List PlacedTerminal → List PlacedTerminal → Type 0
 Follows (Some m) ss start = AtMark m ss start
 Follows None ss start = StartsWord ss × (start ≡ ss)
@@ -31,7 +30,7 @@ abbrev pub NoneFollows : Option Mark → List PlacedTerminal → Type 0
 NoneFollows (Some m) ss = Misses (the m) ss
 NoneFollows None ss = Misses a_word ss
 
--- an item's parts, behind its mark if it has one
+-- an item's parts, after its mark if it has one
 abbrev pub with_mark : {X : Type 0} → Option Mark → (X → List (SpellingPart ℕ)) → X → List (SpellingPart ℕ)
 with_mark (Some m) parts = behind m parts
 with_mark None parts = parts
@@ -55,17 +54,16 @@ pub record IsSection (keyword : Mark) (item list symbol : Symbol) : Type 0 where
   pub item_stays : can_omit item ≡ false
   pub no_closers : closes symbol + closes opened + closes list ≡ 0
 
--- which answers a function may give at each place
+-- the results that a function may return at each place
 abbrev pub Answers : Type 0 → Type 1
 Answers X = ℕ → Result (X × ℕ) ParseFault → Type 0
 
--- what the function reads has a terminal at least
+-- the function reads at least one terminal
 abbrev pub Advances : {X : Type 0} → Reader → Answers X → Type 0
 Advances {X} r answers = (at : ℕ) (result : Result (X × ℕ) ParseFault) → answers at result
     → IfOk result (λ y. length (here r y.1) < length (here r at))
 
--- The symbols of a list and of its items, the parts of an item, and that the function is the part of a parser for an
--- item.
+-- The symbols of a list and of its items, the parts of an item, and the contract of the item's parsing function.
 pub record ItemsOf {X : Type 0} (r : Reader) (before : Option Mark) (answers : Answers X) : Type 0 where
   pub item : Symbol
   pub list : Symbol
@@ -75,13 +73,14 @@ pub record ItemsOf {X : Type 0} (r : Reader) (before : Option Mark) (answers : A
   pub each : (at : ℕ) (result : Result (X × ℕ) ParseFault) → answers at result
       → Parses r (Allows allowed) (item ∷ []) parts at result
 
--- the new list is the old one, with what is read here behind it
+-- the new list is the old one followed by the items read here
 pub record Grows {X : Type 0} (parts : X → List (SpellingPart ℕ)) (old new : List X) (ss rest : List PlacedTerminal) : Type 0 where
   pub more : List X
   pub whole : new ≡ old ++ more
   pub reads : Reads (flat_map parts more) ss rest
 
--- The part of a parser for more of a list, behind what was found before, whatever symbols the list and its items have.
+-- The contract of a function that parses the rest of a list after the items already found, for any symbols of the
+-- list and its items.
 pub record ParsesMore {X : Type 0} (r : Reader) (before : Option Mark) (answers : Answers X) (found : List X) (at : ℕ)
     (result : Result (Vec X × ℕ) ParseFault) : Type 0 where
   pub runs : (of : ItemsOf r before answers) (outer : ℕ) (below : Stack)

@@ -1,4 +1,4 @@
--- How each symbol may begin, and which may be left out.
+-- How each symbol may begin, and whether it may be omitted.
 use Rattle.std.specs.Prelude.{◌≢◌, Bool, true, false, List, [], ◌∷◌, ◌++◌}
 use Rattle.aadl_tree.specs.declared.mark.Mark.{Mark}
 use Rattle.aadl_grammar.specs.proof.GrammarSymbols.{Class, a_word, a_whole, a_real, a_quoted, an_unread, the, Symbol}
@@ -14,7 +14,7 @@ by c f = record { first = c; wanted = f }
 abbrev pub on : Mark → List Symbol → Row
 on m f = by (the m) f
 
--- the beginnings of something with more behind it
+-- the same beginnings, with more symbols expected after them
 abbrev pub behind : List Symbol → List Row → List Row
 behind more [] = []
 behind more (r ∷ rs) = by r.first (r.wanted ++ more) ∷ behind more rs
@@ -98,7 +98,7 @@ connection_rows =
     by a_word (s.only k.Colon ∷ s.only k.Port ∷ s.connection_end ∷ s.only k.Arrow ∷ s.connection_end ∷ s.properties
     ∷ s.only k.Semicolon ∷ []) ∷ []
 
--- `none ;`, or what the section has
+-- `none ;`, or the content of the section
 abbrev pub section_rows : List Row → List Row
 section_rows rs = on k.Nothing (s.only k.Semicolon ∷ []) ∷ rs
 
@@ -226,7 +226,7 @@ rows s.more_names = on k.Comma (s.name ∷ s.more_names ∷ []) ∷ []
 rows s.withs = on k.With (s.name ∷ s.more_names ∷ s.only k.Semicolon ∷ s.withs ∷ []) ∷ []
 rows s.a_package = on k.Package (s.name ∷ s.only k.Public ∷ s.withs ∷ s.declarations ∷ s.package_end ∷ []) ∷ []
 
--- the symbol may be left out
+-- the symbol may be omitted
 abbrev pub can_omit : Symbol → Bool
 can_omit s.names = true
 can_omit s.paths = true
@@ -275,12 +275,12 @@ can_omit s.more_names = true
 can_omit s.withs = true
 can_omit _ = false
 
--- none of the rows is of the class
+-- no row has the class
 abbrev pub Differ : Class → List Row → Type 0
 Differ c [] = Unit {0}
 Differ c (r ∷ rs) = (r.first ≢ c) × Differ c rs
 
--- no two of the rows are of one class
+-- the rows have pairwise distinct classes
 abbrev pub Decides : List Row → Type 0
 Decides [] = Unit {0}
 Decides (r ∷ rs) = Differ r.first rs × Decides rs

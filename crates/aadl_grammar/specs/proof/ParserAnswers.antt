@@ -1,5 +1,5 @@
--- What a function of a parser answers: it takes what the machine takes, and gives the tree or the fault. For the
--- contracts of parsers.
+-- Results of a parsing function: it accepts the terminals that the machine accepts, and returns the tree or the
+-- fault. For the contracts of parsers.
 use Rattle.std.specs.Prelude.{ℕ, ◌+◌, ◌≡◌, ◌≤◌, true, false, IfOk, List, [], ◌∷◌, ◌++◌, drop, Bool, Result, Ok, Err}
 use Rattle.aadl_tree.specs.declared.mark.Mark.{Mark}
 use Rattle.aadl_tree.specs.Terminals.{PlainTerminal, word, mark, PlacedTerminal}
@@ -15,11 +15,11 @@ use Rattle.aadl_grammar.specs.declared.parse_fault.ParseFault.TheVariants.{Memor
 use Rattle.aadl_grammar.specs.proof.TerminalViews.{spot_of, spots_of, is_word_at}
 use Rattle.aadl_grammar.specs.declared.terminal.TerminalClass.TheVariants as t
 
--- the terminals from this number on
+-- the terminals from this index on
 unfoldable pub here : Reader → ℕ → List PlacedTerminal
 here r at = spots_of r.text.now (drop at r.terminals.now)
 
--- this terminal comes first
+-- the list begins with this terminal
 pub record IsFirst (r : Reader) (at : ℕ) (x : Terminal) (next : ℕ) : Type 0 where
   pub whole : here r at ≡ spot_of r.text.now x ∷ here r next
   pub word : x.kind ≡ t.Word → is_word_at r.text.now x ≡ true
@@ -27,7 +27,7 @@ pub record IsFirst (r : Reader) (at : ℕ) (x : Terminal) (next : ℕ) : Type 0 
 abbrev pub spot : PlainTerminal → ℕ → PlacedTerminal
 spot kind at = record { kind = kind; at = at }
 
--- a terminal of this kind comes first, and then these
+-- the list is a terminal of this kind and then these terminals
 pub record At (kind : PlainTerminal) (ss rest : List PlacedTerminal) : Type 0 where
   pub at : ℕ
   pub whole : ss ≡ spot kind at ∷ rest
@@ -35,28 +35,28 @@ pub record At (kind : PlainTerminal) (ss rest : List PlacedTerminal) : Type 0 wh
 abbrev pub AtMark : Mark → List PlacedTerminal → List PlacedTerminal → Type 0
 AtMark m ss rest = At (mark m) ss rest
 
--- this word comes first, in its place
+-- the list begins with this word, at its place
 pub record AtWord (x : Identifier ℕ) (ss rest : List PlacedTerminal) : Type 0 where
   pub whole : ss ≡ spot (word x.spelling) x.at ∷ rest
 
--- some word comes first
+-- the list begins with some word
 pub record StartsWord (ss : List PlacedTerminal) : Type 0 where
   pub spelling : List ℕ
   pub at : ℕ
   pub rest : List PlacedTerminal
   pub whole : ss ≡ spot (word spelling) at ∷ rest
 
--- no terminal of the class comes first
+-- the list does not begin with a terminal of the class
 abbrev pub Misses : Class → List PlacedTerminal → Type 0
 Misses c [] = Unit {0}
 Misses c (x ∷ ss) = fits c x.kind ≡ false
 
--- no row of the symbol is of the first terminal's class
+-- no row of the symbol has the class of the first terminal
 abbrev pub MissAll : List Row → List PlacedTerminal → Type 0
 MissAll [] ss = Unit {0}
 MissAll (r ∷ rs) ss = Misses r.first ss × MissAll rs ss
 
--- the symbol takes the terminal that comes first
+-- the symbol takes the first terminal
 pub record Begins (x : Symbol) (ss : List PlacedTerminal) : Type 0 where
   pub kind : PlainTerminal
   pub rest : List PlacedTerminal
@@ -64,46 +64,47 @@ pub record Begins (x : Symbol) (ss : List PlacedTerminal) : Type 0 where
   pub first : At kind ss rest
   pub moves : move x kind ≡ takes wanted
 
--- the fault that the machine meets; nothing is said if there is not enough memory
+-- the fault that the machine reports; nothing if memory ran out
 abbrev pub FailsAs : Fate → ParseFault → Type 0
 FailsAs was Memory = Unit {0}
 FailsAs was (Syntax at) = was ≡ syntax_at at
 FailsAs was (TooDeep at) = was ≡ deep_at at
 
--- What was to come of the terminals comes of those that are left, or is the fault.
+-- The fate of the stack on these terminals is its fate on the remaining ones after success, or else the fault.
 abbrev pub RunsTo : {X : Type 0} → (X → ℕ) → Reader → ℕ → Stack → Fate → Result X ParseFault → Type 0
 RunsTo next r outer below was (Ok x) = was ≡ fate outer r.end below (here r (next x))
 RunsTo next r outer below was (Err e) = FailsAs was e
 
--- how many openers may be open before a part that is read with this room, or that has no openers
+-- the number of openers open before a part that is read with this room, or that has no openers
 abbrev pub Room : ℕ → ℕ → Type 0
 Room room before = before + room ≡ GREATEST_NESTING
 
 abbrev pub AnyRoom : ℕ → Type 0
 AnyRoom before = before ≤ GREATEST_NESTING
 
--- one opener more goes into the room, or this one is too deep
+-- the room admits one more opener, or this opener exceeds the nesting limit
 abbrev pub Deepens : ℕ → ℕ → Result ℕ ParseFault → Type 0
 Deepens room at (Ok inner) = room ≡ inner + 1
 Deepens room at (Err e) = (room ≡ 0) × (e ≡ TooDeep at)
 
--- the keyword stands there or does not
+-- whether the list begins with the keyword
 abbrev pub IsMarked : Mark → Bool → List PlacedTerminal → List PlacedTerminal → Type 0
 IsMarked m true ss rest = AtMark m ss rest
 IsMarked m false ss rest = Misses (the m) ss × (rest ≡ ss)
 
--- the terminals up to these are those of the parts
+-- the terminals up to the remaining ones spell these parts
 pub record Reads (ps : List (SpellingPart ℕ)) (ss rest : List PlacedTerminal) : Type 0 where
   pub written : Written ps ss rest
 
--- The part of a parser for what is wanted: it follows the machine, and reads its tree.
+-- The contract of a function that parses the expected symbols: it follows the machine and returns the tree that it
+-- read.
 pub record Parses {X : Type 0} (r : Reader) (Allowed : ℕ → Type 0) (wanted : Stack) (parts : X → List (SpellingPart ℕ)) (at : ℕ)
     (result : Result (X × ℕ) ParseFault) : Type 0 where
   pub runs : (outer : ℕ) (below : Stack) → Allowed (outer + depth (wanted ++ below))
       → RunsTo (λ (y : X × ℕ). y.1) r outer below (fate outer r.end (wanted ++ below) (here r at)) result
   pub reads : IfOk result (λ y. Reads (parts y.0) (here r at) (here r y.1))
 
--- the part for one keyword or symbol
+-- the parsing contract of one keyword or symbol
 pub record Expects (r : Reader) (m : Mark) (at : ℕ) (result : Result ℕ ParseFault) : Type 0 where
   pub runs : (outer : ℕ) (below : Stack) → AnyRoom (outer + depth (only m ∷ below))
       → RunsTo (λ (y : ℕ). y) r outer below (fate outer r.end (only m ∷ below) (here r at)) result

@@ -1,4 +1,5 @@
--- What the machine does at a terminal, token by token: a stack of symbols that are wanted, the top first.
+-- The stack machine of the grammar. Its state is a stack of expected symbols, the topmost first; it consumes one
+-- terminal in each step.
 use Rattle.std.specs.Prelude.{ℕ, ◌+◌, ◌==◌, nat_lt, Bool, true, ◌&&◌, List, [], ◌∷◌, ◌++◌, Option, Some, None}
 use Rattle.std.specs.Prelude.{if◌then◌else◌}
 use Rattle.aadl_tree.specs.declared.mark.Mark.{Mark}
@@ -11,7 +12,7 @@ use Rattle.aadl_grammar.specs.proof.ParseTable.{rows, can_omit}
 use Rattle.aadl_tree.specs.declared.mark.Mark.TheVariants as k
 use Rattle.aadl_grammar.specs.proof.GrammarSymbols as s
 
--- each class has a number of its own, a keyword or a symbol that of its mark
+-- each class has its own number; the number of a keyword or symbol is that of its mark
 abbrev pub class_number : Class → ℕ
 class_number a_word = 100
 class_number a_whole = 101
@@ -29,14 +30,15 @@ kind_number (unread bytes) = 104
 kind_number (other bytes) = 105
 kind_number (mark m) = mark_number m
 
--- the terminal is of the class
+-- the terminal has this class
 abbrev pub fits : Class → PlainTerminal → Bool
 fits c kind = kind_number kind == class_number c
 
 abbrev pub Stack : Type 0
 Stack = List Symbol
 
--- What a symbol does at a terminal: it takes it and wants more, it is left out, or no text goes on so.
+-- What a symbol does at a terminal: it takes the terminal and expects more symbols, it is omitted, or it refuses the
+-- terminal since no text continues with it.
 pub data Move : Type 0 where
   takes : List Symbol → Move
   omitted : Move
@@ -54,17 +56,17 @@ chosen (takes f) below later = Some (f ++ below)
 chosen omitted below later = later
 chosen refuses below later = None
 
--- what is wanted behind the terminal, if a text may go on with it
+-- the stack after the terminal, if a text may continue with it
 unfoldable pub stack_after : Stack → PlainTerminal → Option Stack
 stack_after [] kind = None
 stack_after (x ∷ below) kind = chosen (move x kind) below (stack_after below kind)
 
--- all that is wanted may be left out
+-- every symbol of the stack may be omitted
 unfoldable pub ends : Stack → Bool
 ends [] = true
 ends (x ∷ below) = can_omit x && ends below
 
--- how many of the openers before a symbol it closes
+-- the number of openers that the mark closes
 abbrev pub closer : Mark → ℕ
 closer k.ParenClose = 1
 closer k.BracketClose = 1
@@ -79,7 +81,7 @@ closes s.end_if = 1
 closes s.closing_if = 1
 closes _ = 0
 
--- how many openers are open where the stack is wanted
+-- the number of openers that the symbols of the stack close
 unfoldable pub depth : Stack → ℕ
 depth [] = 0
 depth (x ∷ below) = closes x + depth below
@@ -94,13 +96,13 @@ fate_after outer None at more = syntax_at at
 fate_after outer (Some wanted) at more =
     if nat_lt GREATEST_NESTING (outer + depth wanted) then deep_at at else more wanted
 
--- What comes of the terminals where the stack is wanted. The first number is how many openers are open outside, and
--- the second is the end of the text.
+-- The fate of the terminals if this stack is expected. The first number is the number of openers open outside; the
+-- second is the end of the text.
 unfoldable pub fate : ℕ → ℕ → Stack → List PlacedTerminal → Fate
 fate outer end wanted [] = if ends wanted then finished else syntax_at end
 fate outer end wanted (x ∷ xs) = fate_after outer (stack_after wanted x.kind) x.at (λ next. fate outer end next xs)
 
--- a text, and the body of a behaviour annex by itself
+-- the stacks for a whole text and for the body of a behaviour annex
 abbrev pub whole_package : Stack
 whole_package = s.a_package ∷ []
 

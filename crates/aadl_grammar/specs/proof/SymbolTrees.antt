@@ -1,4 +1,4 @@
--- The tree that each symbol stands for, and the parts that spell it.
+-- The type of the tree of each symbol, and the parts that spell the tree.
 use Rattle.std.proofs.Common.{◌⊎◌, ℕ, ℤ, Bool, true, false, List, [], ◌∷◌, ◌++◌, Option, Some, None, flat_map, inl, inr}
 use Rattle.aadl_tree.specs.declared.mark.Mark.{Mark}
 use Rattle.aadl_tree.specs.declared.mark.Mark.TheVariants as k
@@ -23,7 +23,7 @@ use Rattle.aadl_grammar.specs.proof.GrammarSymbols as s
 abbrev pub NoPlace : Type 0
 NoPlace = Unit {0}
 
--- what a terminal of the class says
+-- the content of a terminal of the class
 abbrev pub Content : Class → Type 0
 Content a_word = List ℕ
 Content a_whole = ℤ
@@ -43,7 +43,7 @@ kind_with (the m) w = mark m
 abbrev pub identifier_of : List ℕ → n.Identifier NoPlace
 identifier_of w = record { at = tt; spelling = w }
 
--- between the parentheses of a loop
+-- the parts between the parentheses of a loop
 pub record LoopHead : Type 0 where
   pub counter : n.Identifier NoPlace
   pub data_type : n.Reference NoPlace
@@ -91,7 +91,7 @@ rest_parts (implementation_rest name subs links own annexes end_name) =
     ++ (d.section_parts p.property_section (v.associations_parts own)
     ++ (flat_map x.annex_parts annexes ++ d.ending_parts (d.implementation_name_parts end_name))))))
 
--- what a section has, behind its word
+-- the content of a section, after its keyword
 abbrev pub section_rest : List (SpellingPart NoPlace) → List (SpellingPart NoPlace)
 section_rest [] = plain k.Nothing ∷ (plain k.Semicolon ∷ [])
 section_rest (q ∷ qs) = q ∷ qs
@@ -104,7 +104,7 @@ abbrev pub relation_of : e.Sum NoPlace → Option (RelationOperator × e.Sum NoP
 relation_of y None = e.single y
 relation_of y (Some c) = e.compared y c.0 c.1
 
--- a relation behind `and` or `or`, and whether `then` or `else` stands before it
+-- a relation after `and` or `or`, and the mark `then` or `else` before it
 abbrev pub after_parts : Mark → Bool × e.Relation NoPlace → List (SpellingPart NoPlace)
 after_parts m (true, y) = plain m ∷ e.relation_parts y
 after_parts m (false, y) = e.relation_parts y
@@ -130,7 +130,7 @@ head_parts t =
     plain k.ParenOpen ∷ (n.identifier_parts t.counter ++ (plain k.Colon ∷ (n.reference_parts t.data_type ++ (plain k.In
     ∷ (a.bound_parts t.low ++ (plain k.Range ∷ (a.bound_parts t.high ++ plain k.ParenClose ∷ [])))))))
 
--- some actions, or none
+-- the actions of a body, possibly empty
 abbrev pub body_parts : a.Block NoPlace → List (SpellingPart NoPlace)
 body_parts a.no_block = []
 body_parts (a.block y) = a.actions_parts y
@@ -142,7 +142,7 @@ more_of (a.block (a.actions y z)) = a.more y z
 abbrev pub guarded_parts : Option (x.Guard NoPlace) → List (SpellingPart NoPlace)
 guarded_parts g = plain k.GuardOpen ∷ (parts_if x.guard_parts g ++ plain k.GuardClose ∷ [])
 
--- from the first word of a transition up to its target: the word is the source, or the label
+-- from the first word of a transition up to its target: the word is the source or the label
 abbrev pub after_word_parts : Option (n.Identifier NoPlace) × Option (x.Guard NoPlace) → List (SpellingPart NoPlace)
 after_word_parts (None, g) = guarded_parts g
 after_word_parts (Some y, g) = plain k.Colon ∷ (n.identifier_parts y ++ guarded_parts g)
@@ -354,7 +354,7 @@ parts s.more_names t = flat_map (p.behind k.Comma n.name_parts) t
 parts s.withs t = flat_map d.with_parts t
 parts s.a_package t = d.package_parts t
 
--- trees of symbols that stand one behind another, and what spells them
+-- the trees of a list of symbols, and the parts that spell them
 abbrev pub Trees : List Symbol → Type 0
 Trees [] = NoPlace
 Trees (y ∷ f) = TreeOf y × Trees f

@@ -1,5 +1,5 @@
--- How contracts see the terminals of a reader: each as its spot, with its kind and place; and that words among them
--- are spelled as words.
+-- The abstract value of a reader's terminals: each is a spot with its kind and place, and words among them are
+-- spelled as words.
 use Rattle.std.specs.Prelude.{ℕ, ◌≡◌, ◌-◌, Bool, true, List, All, map, take, drop}
 use Rattle.aadl_lex.specs.Rules.{is_word}
 use Rattle.aadl_tree.specs.Terminals.{PlainTerminal, word, whole, real, quoted, unread, mark, other, PlacedTerminal}
@@ -11,7 +11,7 @@ use Rattle.aadl_grammar.specs.declared.terminal.TerminalClass.TheVariants as t
 abbrev pub between : List ℕ → ℕ → ℕ → List ℕ
 between text start end = take (end - start) (drop start text)
 
--- what a terminal of these bytes is in the grammar
+-- the grammar's terminal for these bytes
 abbrev pub kind_with : TerminalClass → List ℕ → PlainTerminal
 kind_with t.Word bytes = word bytes
 kind_with (t.Whole n) bytes = whole n

@@ -1,4 +1,4 @@
--- What a text has: tokens and a tree, or what is wrong with it first.
+-- The result for a text: tokens and a tree, or the first fault.
 use Rattle.std.specs.Prelude.{ℕ, ◌≢◌, List}
 use Rattle.aadl_lex.specs.declared.token.Token.{Token}
 use Rattle.aadl_lex.specs.declared.fault.LexFault.{LexFault}
@@ -19,10 +19,10 @@ HasLexFault text = (fault : LexFault) × (fault ≢ Memory) × IsFaultOf text fa
 abbrev pub HasTree : List ℕ → Type 0
 HasTree text = (tree : PackageTree ℕ) × IsTreeOf text tree
 
--- it has tokens, and from one of its places on it is no text of the grammar
+-- it has tokens, and at one of their places no text of the grammar continues
 abbrev pub Stops : List ℕ → Type 0
 Stops text = (at : ℕ) × StopsAt text at
 
--- it has tokens, and at one of its places it is nested too deep
+-- it has tokens, and the opener at one of their places exceeds the nesting limit
 abbrev pub NestsTooDeep : List ℕ → Type 0
 NestsTooDeep text = (at : ℕ) × NestsAt text at

@@ -1,5 +1,4 @@
--- What is known of the threads and ports among which the code looks for chains, in the terms of the
--- contracts of `chain_search`.
+-- The facts about the threads and ports of a search for chains, for the contracts of `chain_search`.
 use Rattle.std.specs.Prelude.{◌≡◌, ℕ, List, Some, reverse, slice_get}
 use Rattle.aadl_tree.specs.Declarations.{PackageTree}
 use Rattle.aadl_tree.specs.proof.PackageViews.{placed}
@@ -19,17 +18,17 @@ tree_of network = placed network.wires.now.uses.names.tree.now
 abbrev pub paths_in : ChainSearchContext → List (List ℕ)
 paths_in network = paths_of network.threads.now
 
--- nothing is found in the package, and these are an order of its declarations and its threads,
--- and the table has the ports' numbers
+-- the package has no faults, these are an order of its declarations and its threads, and the table has the ports'
+-- numbers
 pub record IsReady (network : ChainSearchContext) : Type 0 where
   pub settled : IsSettled (tree_of network) network.order.now.keys network.root (paths_in network)
   pub numbers : AreNumbers (tree_of network) network.numbers.now
 
--- the thread of a number is the one at the path
+-- the thread with a number is the one at the path
 abbrev pub IsNumbered : ChainSearchContext → ℕ → List ℕ → Type 0
 IsNumbered network node path = slice_get (paths_in network) node ≡ Some path
 
--- it is the thread of its number, and its declaration stands at its path
+-- it is the thread with its number, and its path leads to its declaration
 pub record IsNode (network : ChainSearchContext) (node : NumberedThread) : Type 0 where
   pub numbered : IsNumbered network node.number.0 (reverse node.path.now)
   pub stands : number_at_path (tree_of network) network.root (reverse node.path.now) ≡ Some node.declaration
@@ -39,10 +38,10 @@ abbrev pub Shows : ChainSearchContext → (PackageTree ℕ → ℕ → CarriedCh
 Shows network Kind Before chains =
     AreShown (tree_of network) network.root (paths_in network) (Kind (tree_of network) network.root) Before chains
 
--- the links and feeds into the threads before one, and into its ports before one
+-- the links and feeds into all earlier threads, and into the earlier ports of this thread
 abbrev pub ShowsInto : ChainSearchContext → ℕ → ℕ → Incoming → Type 0
 ShowsInto network node port incoming = AreInto (tree_of network) network.root (paths_in network) node port incoming
 
--- the taps to the ports before one
+-- the taps to the earlier ports
 abbrev pub ShowsTaps : ChainSearchContext → ℕ → List Chain → Type 0
 ShowsTaps network port taps = AreTapsTo (tree_of network) network.root (paths_in network) port taps

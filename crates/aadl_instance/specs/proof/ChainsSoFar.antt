@@ -28,8 +28,8 @@ use Rattle.aadl_chains.specs.declared.chain_tracing.ChainStart.TheVariants as be
 abbrev pub paths_of : List (Vec ℕ Global) → List (List ℕ)
 paths_of threads = map (λ path. reverse path.items) threads
 
--- What is known of a package in which the lines before find nothing, of an order of its declarations, and of the
--- paths of its threads.
+-- The facts about a package in which the earlier lines have no findings, about an order of its declarations, and
+-- about the paths of its threads.
 pub record IsSettled (tree : PackageTree ℕ) (keys : List ℕ) (root : ℕ) (paths : List (List ℕ)) : Type 0 where
   pub sequence : IsOrder (containment tree) keys
   pub declared : ArePermitted tree
@@ -39,7 +39,7 @@ pub record IsSettled (tree : PackageTree ℕ) (keys : List ℕ) (root : ℕ) (pa
   pub few : length paths ≤ COMPONENTS
   pub few_ports : ThreadWith tree root (λ x path. PORTS < length (ports_of tree x)) → ⊥
 
--- chains that are shown, each of all that have P, in an order
+-- chains in the instance model's representation, for all chains that satisfy P, in an order
 pub record AreShown (tree : PackageTree ℕ) (root : ℕ) (paths : List (List ℕ)) (P : CarriedChain → Type 0)
     (Before : CarriedChain → CarriedChain → Type 0)
     (chains : List Chain) : Type 0 where
@@ -47,7 +47,7 @@ pub record AreShown (tree : PackageTree ℕ) (root : ℕ) (paths : List (List �
   pub listed : Lists P Before ends
   pub shown : chains ≡ map (chain_in tree root paths) ends
 
--- the component at the path has a port of this number
+-- the component at the path has a port with this number
 abbrev pub HasPort : PackageTree ℕ → ℕ → Port → Type 0
 HasPort tree root p = p.port < length (ports_at tree (component_at tree root p.path))
 
@@ -57,7 +57,7 @@ IsChainStart tree root (begins.Root port) = HasPort tree root (record { path = [
 IsChainStart tree root (begins.Thread path port) =
     IsThreadAt tree root (reverse path.items) × HasPort tree root (record { path = reverse path.items; port = port })
 
--- a port of one of the threads before one, or one of its ports before one
+-- a port of one of the earlier threads, or an earlier port of this thread
 abbrev pub IsPassed : List (List ℕ) → ℕ → ℕ → Port → Type 0
 IsPassed paths node port to =
     ((k : ℕ) × (k < node) × (slice_get paths k ≡ Some to.path))
@@ -81,7 +81,7 @@ abbrev pub with_chain : Incoming → ChainStart → Chain → Incoming
 with_chain incoming (begins.Root port) chain = record incoming { feeds = incoming.feeds ++ chain ∷ [] }
 with_chain incoming (begins.Thread path port) chain = record incoming { links = incoming.links ++ chain ∷ [] }
 
--- the chain that a route shows, with the end to which it leads
+-- the chain of a route, with its last port
 abbrev pub chain_by : PackageTree ℕ → ℕ → List (List ℕ) → ChainRoute → ChainEnd → Chain
 chain_by tree root paths route to =
     record {

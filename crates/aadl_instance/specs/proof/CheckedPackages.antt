@@ -1,4 +1,4 @@
--- What is known of a package in which the rules find nothing, and what `check_package` answers of it.
+-- The facts about a package without findings, and the results of `check_package`.
 use Rattle.std.specs.Prelude.{◌≡◌, ◌↔◌, ℕ, [], Contains, Option, Some, None}
 use Rattle.aadl_tree.specs.Declarations.{PackageTree}
 use Rattle.aadl_names.specs.declared.fault.PackageFault.{PackageFault}
@@ -11,7 +11,7 @@ use Rattle.aadl_uses.specs.proof.ContainmentOrders.{IsOrder}
 use Rattle.aadl_instance.specs.declared.checked_package.Checked.{Checked}
 use Rattle.aadl_instance.specs.Faults.{FoundIn, IsRoot}
 
--- nothing is wrong with its names and its containment
+-- its names and its containment have no faults
 pub record IsOrdered (tree : PackageTree ℕ) (checked : Checked) : Type 0 where
   pub is_root : IsRoot tree checked.root
   pub order : IsOrder (containment tree) checked.order.keys
@@ -19,12 +19,12 @@ pub record IsOrdered (tree : PackageTree ℕ) (checked : Checked) : Type 0 where
   pub names : package_faults tree checked.root ≡ []
   pub recursion : (fault : PackageFault) → IsRecursive tree fault → ⊥
 
--- and nothing at all is
+-- and nothing else has
 pub record IsChecked (tree : PackageTree ℕ) (checked : Checked) : Type 0 where
   pub ordered : IsOrdered tree checked
   pub silent : (line : ℕ) (fault : PackageFault) → FoundIn tree checked.root line fault → ⊥
 
--- the first fault, or that there is none
+-- the first fault, or a proof that there is none
 abbrev pub FindsFault : PackageTree ℕ → Checked → Option PackageFault → Type 0
 FindsFault tree checked None = IsChecked tree checked
 FindsFault tree checked (Some fault) = IsFirstByLine (FoundIn tree checked.root) fault

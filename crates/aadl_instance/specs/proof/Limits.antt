@@ -1,4 +1,4 @@
--- The limits of a design, and the first one that it passes.
+-- The limits of a design, and the first one that is exceeded.
 use Rattle.std.specs.Prelude.{ℕ, ◌<◌, List, length, codes, Option, Some, None}
 use Rattle.pals_base.specs.declared.limits.TheConstants.{COMPONENTS, LINKS, PORTS, VARIABLES, STATES, PATH_BYTES}
 use Rattle.aadl_tree.specs.Declarations.{PackageTree}
@@ -18,7 +18,7 @@ name_of Variables = codes "variables"
 name_of States = codes "states"
 name_of Path = codes "path"
 
--- the line of the faults at which it is looked for
+-- the line of the limit's faults
 abbrev pub line_of : Limit → ℕ
 line_of Components = 5
 line_of Links = 6
@@ -27,7 +27,7 @@ line_of Variables = 8
 line_of States = 9
 line_of Path = 10
 
--- there is more than that
+-- the quantity exceeds the limit
 abbrev pub IsExceeded : PackageTree ℕ → ℕ → Limit → Type 0
 IsExceeded tree root Components = MoreThan COMPONENTS (IsThreadAt tree root) PathBefore
 IsExceeded tree root Links = MoreThan LINKS (IsLink tree root) OtherTarget
@@ -36,7 +36,7 @@ IsExceeded tree root Variables = ThreadWith tree root (λ x path. VARIABLES < va
 IsExceeded tree root States = ThreadWith tree root (λ x path. STATES < state_count x)
 IsExceeded tree root Path = ThreadWith tree root (λ x path. PATH_BYTES < length (spelled_path tree root path))
 
--- the first limit that is passed, or none where none is
+-- the first exceeded limit, or `None` if no limit is exceeded
 abbrev pub IsFirstExceeded : PackageTree ℕ → ℕ → Option Limit → Type 0
 IsFirstExceeded tree root None = (limit : Limit) → IsExceeded tree root limit → ⊥
 IsFirstExceeded tree root (Some limit) =

@@ -1,4 +1,4 @@
--- A table of the numbers of ports among those that go as they do.
+-- A table of the numbers of ports among the ports of their direction.
 use Rattle.std.specs.Prelude.{◌≡◌, ℕ, ◌+◌, ◌<◌, List, [], Option, Some, None, length, slice_index_or}
 use Rattle.aadl_tree.specs.declared.declarations.Direction.{Direction}
 use Rattle.aadl_tree.specs.Declarations.{Feature, PackageTree}
@@ -7,7 +7,7 @@ use Rattle.aadl_instance.specs.InstancesByNumbers.{number_among}
 use Rattle.aadl_instance.specs.declared.port_numbers.SeenPorts.{SeenPorts}
 use Rattle.aadl_tree.specs.declared.declarations.Direction.TheVariants as directions
 
--- the row of the type of a number, and none without a type
+-- the row of the type with a number; no row without a type
 abbrev pub row_at : List (List ℕ) → Option ℕ → List ℕ
 row_at rows None = []
 row_at rows (Some number) = slice_index_or rows number []
@@ -23,8 +23,8 @@ AreAmong ports row = (port : ℕ) → port < length ports → slice_index_or row
 abbrev pub AreNumbers : PackageTree ℕ → List (List ℕ) → Type 0
 AreNumbers tree rows = (of_type : Option ℕ) → AreAmong (features_of (type_numbered tree of_type)) (row_at rows of_type)
 
--- ---- as they are counted
--- how many go so
+-- ---- the counts
+-- the number of ports with a direction
 abbrev pub seen : SeenPorts → Direction → ℕ
 seen s directions.In = s.inward
 seen s directions.Out = s.outward

@@ -1,4 +1,4 @@
--- How many ports, variables or states a thread in use has, and the most of them that it may have.
+-- The numbers of ports, variables and states of a thread in use, and their limits.
 use Rattle.std.specs.Prelude.{◌≡◌, ℕ, ◌<◌, true, List, length, Some, Contains}
 use Rattle.std.specs.Option.{option_map_or}
 use Rattle.pals_base.specs.declared.limits.TheConstants.{PORTS, VARIABLES, STATES}
@@ -21,13 +21,13 @@ most States = STATES
 abbrev pub count_at : PackageTree ℕ → ℕ → ThreadPart → ℕ
 count_at tree n part = option_map_or (λ x. count_of tree x part) (implementation_at tree n) 0
 
--- ---- threads that are in use
+-- ---- threads in use
 pub record IsUsedThread (tree : PackageTree ℕ) (used : List ℕ) (n : ℕ) (x : Implementation ℕ) : Type 0 where
   pub in_use : Contains used n
   pub is_implementation : implementation_at tree n ≡ Some x
   pub thread : is_thread x.category ≡ true
 
--- some of them has more of something than a thread may have
+-- some of them exceeds a limit
 pub record HasTooMany (tree : PackageTree ℕ) (used : List ℕ) (part : ThreadPart) : Type 0 where
   pub number : ℕ
   pub component : Implementation ℕ

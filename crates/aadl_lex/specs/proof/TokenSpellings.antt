@@ -1,4 +1,4 @@
--- What the bytes of a token are.
+-- The bytes of a token.
 use Rattle.std.specs.Prelude.{ℕ, ℤ, ◌≡◌, ◌≢◌, ◌<◌, ◌≤◌, IsTrue, List, [], ◌∷◌, ◌++◌, length, slice_index, map, pos}
 use Rattle.std.specs.Prelude.{codes, Some, None}
 use Rattle.std.specs.List.{list_all, list_any}
@@ -14,7 +14,7 @@ use Rattle.aadl_lex.specs.Rules.{is_word, is_in_string, whole_len, decimal, most
 use Rattle.aadl_lex.specs.Rules.{symbols_of_two, symbols_of_one, after}
 use Rattle.aadl_lex.specs.TokensAndFirstFaults.{bytes_of, AreTokensOf}
 
--- digits, with a `_` only before a digit, that say this number
+-- digits, with a `_` only before a digit, that denote this number
 pub record IsWhole (number : ℤ) (b : List ℕ) : Type 0 where
   pub digit : IsTrue (is_ascii_digit (slice_index b 0))
   pub spelled : whole_len b ≡ length b
@@ -31,7 +31,7 @@ pub record IsReal (b : List ℕ) : Type 0 where
   pub whole_digits : IsTrue (list_all is_ascii_digit whole)
   pub fraction_digits : IsTrue (list_all is_ascii_digit fraction)
 
--- a quote, bytes of one line that are no quote, and a quote
+-- a quote, bytes of one line other than quotes, and a quote
 pub record IsString (b : List ℕ) : Type 0 where
   pub inner : List ℕ
   pub spelled : b ≡ 34 ∷ inner ++ 34 ∷ []
@@ -50,13 +50,13 @@ pub record IsUnread (b : List ℕ) : Type 0 where
   pub spelled : b ≡ codes "{**" ++ inner ++ codes "**}"
   pub ends : body_len (inner ++ codes "**}") ≡ Some (length inner)
 
--- how the text is read behind a token: a body is read as tokens from its `{**` to its `**}`
+-- the mode after a token: a body is read as tokens from its `{**` to its `**}`
 abbrev pub behind : Reading → TokenKind → List ℕ → Reading
 behind reading AnnexOpen b = Inside
 behind reading AnnexClose b = Outside
 behind reading kind b = after reading kind b
 
--- The bytes are those of a token of this kind, read in this way. In a body that is read no token has a `**}` in it.
+-- The bytes match a token of this class in this mode. In a body that is read as tokens, no token contains `**}`.
 abbrev pub IsSpelled : Reading → TokenKind → List ℕ → Type 0
 IsSpelled reading Word b = IsTrue (is_word b)
 IsSpelled reading (Whole number) b = IsWhole number b
@@ -67,7 +67,7 @@ IsSpelled reading AnnexOpen b = (reading ≡ AfterName) × (b ≡ codes "{**")
 IsSpelled reading AnnexClose b = (reading ≡ Inside) × (b ≡ codes "**}")
 IsSpelled reading Unread b = (reading ≡ Outside) × IsUnread b
 
--- Each of the tokens is spelled so, one behind the other, and each body that is read is closed.
+-- Each of the consecutive tokens matches its class, and each body that is read as tokens is closed.
 abbrev pub AreSpelled : List ℕ → Reading → List Token → Type 0
 AreSpelled text reading [] = reading ≢ Inside
 AreSpelled text reading (t ∷ ts) =
@@ -77,7 +77,7 @@ AreSpelled text reading (t ∷ ts) =
 abbrev pub IsWordAt : List ℕ → Token → Type 0
 IsWordAt text t = t.kind ≡ Word → IsTrue (is_word (bytes_of text t))
 
--- These tokens stand one behind the other among those of the text.
+-- These tokens are consecutive tokens of the text.
 pub record AreAmongTokensOf (text : List ℕ) (tokens : List Token) : Type 0 where
   pub before : List Token
   pub behind : List Token

@@ -43,7 +43,7 @@ abbrev pub rest_parts : DeclarationRest → List (SpellingPart ℕ)
 rest_parts (rests.Type x) = type_rest_parts x
 rest_parts (rests.Implementation x) = implementation_rest_parts x
 
--- the tree that the parts of a package make
+-- the tree of the parts of a package
 abbrev pub package_of : PackageParts → PackageTree ℕ
 package_of x =
     record {

@@ -1,4 +1,4 @@
--- What has been written, and what one more terminal adds.
+-- The printed text, and the effect of one more terminal.
 use Rattle.std.specs.Prelude.{ℕ, codes, List, [], ◌∷◌, ◌++◌, if◌then◌else◌}
 use Rattle.aadl_tree.specs.Terminals.{PlainTerminal}
 use Rattle.aadl_tree.specs.declared.mark.Mark.{Mark}
@@ -7,7 +7,7 @@ use Rattle.aadl_tree.specs.CanonicalText.{kind_text, holds_left, holds_right, en
 use Rattle.aadl_print.specs.declared.spacing.Spacing.{Spacing}
 use Rattle.aadl_print.specs.declared.spacing.Spacing.TheVariants.{Nothing, Space, LineEnd}
 
--- The text of some terminals, and what stands behind the last of them where the next one lets it.
+-- The text of some terminals, and the spacing after the last one, unless the next one suppresses it.
 pub record Printed : Type 0 where
   pub text : List ℕ
   pub gap : Spacing
@@ -32,13 +32,13 @@ put before kind =
       gap = gap_behind kind;
     }
 
--- the terminals that parts keep, one behind the other
+-- the terminals that parts keep, in sequence
 abbrev pub printed : {P : Type 0} → Printed → List (SpellingPart P) → Printed
 printed before [] = before
 printed before (token kind places ∷ ps) = printed (put before kind) ps
 printed before (may extra ∷ ps) = printed before ps
 
--- what stands in a section, behind its word; nothing where there is nothing
+-- the content of a section, after its keyword; nothing if it is empty
 abbrev pub under : {P : Type 0} → Mark → List (SpellingPart P) → List (SpellingPart P)
 under word [] = []
 under word (p ∷ ps) = plain word ∷ (p ∷ ps)

@@ -1,5 +1,5 @@
--- Actions: the plain tree with its places mapped is the plain tree made with the mapped places. For the claim that
--- places can be dropped.
+-- Actions: mapping the places of the plain tree gives the plain tree with mapped places. For the law that places can
+-- be dropped.
 use Rattle.std.proofs.Common.{◌≡◌, ℕ, ◌∙◌, ap, ap₂, sym, subst, refl, List, [], ◌∷◌, map, Option, Some, None, Box}
 use Rattle.std.proofs.Common.{Global}
 use Rattle.aadl_tree.specs.declared.actions.Action.{Action}

@@ -1,5 +1,5 @@
--- What is declared in annexes: the plain tree with its places mapped is the plain tree made with the mapped places.
--- For the claim that places can be dropped.
+-- Declarations of annexes: mapping the places of the plain tree gives the plain tree with mapped places. For the law
+-- that places can be dropped.
 use Rattle.std.proofs.Common.{◌≡◌, ℕ, ◌∙◌, ap, ap₂, refl, List, map, Option, Some, None, option_map, Vec, Global}
 use Rattle.aadl_tree.specs.declared.annex.VariableDeclaration as source_variable
 use Rattle.aadl_tree.specs.declared.annex.StateDeclaration as source_state

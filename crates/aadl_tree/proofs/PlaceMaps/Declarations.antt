@@ -1,5 +1,5 @@
--- Declarations and packages: the plain tree with its places mapped is the plain tree made with the mapped places.
--- For the claim that places can be dropped.
+-- Declarations and packages: mapping the places of the plain tree gives the plain tree with mapped places. For the
+-- law that places can be dropped.
 use Rattle.std.proofs.Common.{◌≡◌, ℕ, ◌∙◌, ap, List, map, Option, option_map}
 use Rattle.aadl_tree.specs.declared.declarations.With as source_with
 use Rattle.aadl_tree.specs.declared.declarations.Feature as source_feature

@@ -1,5 +1,5 @@
--- Expressions: the plain tree with its places mapped is the plain tree made with the mapped places. For the claim
--- that places can be dropped.
+-- Expressions: mapping the places of the plain tree gives the plain tree with mapped places. For the law that places
+-- can be dropped.
 use Rattle.std.proofs.Common.{◌≡◌, ℕ, ◌∙◌, ap, ap₂, sym, subst, refl, List, [], ◌∷◌, map, Option, Some, None}
 use Rattle.std.proofs.Common.{option_map, Box, Global}
 use Rattle.aadl_tree.specs.declared.expressions.Sign.{Sign}

@@ -1,5 +1,5 @@
--- Names and optional parts: the plain tree with its places mapped is the plain tree made with the mapped places. For
--- the claim that places can be dropped.
+-- Names and optional parts: mapping the places of the plain tree gives the plain tree with mapped places. For the law
+-- that places can be dropped.
 use Rattle.std.proofs.Common.{◌≡◌, ℕ, ap, ap₂, refl, List, [], ◌∷◌, map, Option, Some, None, option_map}
 use Rattle.aadl_tree.specs.declared.names.Identifier as source
 use Rattle.aadl_tree.specs.declared.names.Name as source_name

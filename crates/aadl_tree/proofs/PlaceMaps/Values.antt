@@ -1,5 +1,5 @@
--- Properties and their values: the plain tree with its places mapped is the plain tree made with the mapped places.
--- For the claim that places can be dropped.
+-- Properties and their values: mapping the places of the plain tree gives the plain tree with mapped places. For the
+-- law that places can be dropped.
 use Rattle.std.proofs.Common.{◌≡◌, ℕ, ◌∙◌, ap, ap₂, sym, subst, refl, List, [], ◌∷◌, map, Option}
 use Rattle.aadl_tree.specs.declared.values.Value.{Value}
 use Rattle.aadl_tree.specs.declared.values.Value.TheOpen.{Value-F, Association-F}

@@ -1,4 +1,4 @@
--- The plain trees that actions stand for.
+-- The plain trees of actions, their models.
 use Rattle.std.specs.Prelude.{ℕ, List, [], ◌∷◌, map, Option, Some, None, option_map}
 use Rattle.aadl_tree.specs.declared.actions.Action.TheOpen.{Action-F, Actions-F, Block-F, Choice-F, Elsif-F, Loop-F}
 use Rattle.aadl_tree.specs.Actions.{Action, assign, send, choose, loop, Actions, actions, Mores, no_mores, more, Elsifs}
@@ -29,7 +29,7 @@ abbrev pub block_of : {P : Type 0} → Option (Actions P) → Block P
 block_of None = no_block
 block_of (Some x) = block x
 
--- one level of each, with the parts already seen as trees
+-- one level of each, whose parts are already plain trees
 abbrev pub action_step : {P : Type 0} → (ℕ → P)
     → Action-F (Action P) (Actions P) (Block P) (Action P) (Expression P × Actions P) (Action P) → Action P
 action_step place (Action-F.Assign x e) = assign (identifier_view place x) (expression_view place e)

@@ -1,4 +1,4 @@
--- The annexes of a tree as contracts see them.
+-- The models of the annexes of a tree.
 use Rattle.std.specs.Prelude.{ℕ, map, option_map}
 use Rattle.aadl_tree.specs.Annexes.{VariableDeclaration, StateDeclaration, Guard, dispatch, otherwise, when, Transition}
 use Rattle.aadl_tree.specs.Annexes.{AnnexTree, AnnexContent, foreign, behaviour, Annex}

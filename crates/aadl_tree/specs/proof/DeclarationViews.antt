@@ -1,4 +1,4 @@
--- The plain trees that declarations stand for: types, implementations, and what they declare.
+-- The plain trees of declarations: types, implementations, and their members.
 use Rattle.std.specs.Prelude.{ℕ, map, option_map}
 use Rattle.aadl_tree.specs.Declarations.{With, Feature, Subcomponent, ConnectionEnd, Connection, TypeDeclaration}
 use Rattle.aadl_tree.specs.Declarations.{ImplementationName, Implementation, Declaration, type, implementation}

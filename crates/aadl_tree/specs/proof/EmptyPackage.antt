@@ -1,4 +1,4 @@
--- A package of nothing: its text, its tokens, its tree, and its canonical text.
+-- An empty package: its text, its tokens, its tree, and its canonical text.
 use Rattle.std.specs.Prelude.{ℕ, codes, List, [], ◌∷◌, ◌++◌}
 use Rattle.aadl_lex.specs.declared.token.Token.{Token}
 use Rattle.aadl_lex.specs.declared.token.TokenKind.TheVariants.{Word, Symbol}

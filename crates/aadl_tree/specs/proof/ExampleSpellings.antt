@@ -1,4 +1,4 @@
--- A worked example for laws: a transition with its terminals and its canonical text.
+-- An example for laws: a transition with its terminals and its canonical text.
 use Rattle.std.specs.Prelude.{ℕ, ℤ, pos, false, codes, List, [], ◌∷◌, ◌++◌, Some, None}
 use Rattle.aadl_tree.specs.Terminals.{PlainTerminal, word, whole, mark}
 use Rattle.aadl_tree.specs.Names.{Identifier}
@@ -36,7 +36,7 @@ counting =
           (more (send (identifier (codes "o")) (sum (name_term (codes "x")) no_terms)) no_mores)));
     }
 
--- with a `;` behind the last action, or without one
+-- with a `;` after the last action, or without one
 abbrev pub counting_kinds : List PlainTerminal → List PlainTerminal
 counting_kinds last =
     word (codes "s") ∷ mark k.GuardOpen ∷ mark k.On ∷ mark k.Dispatch ∷ mark k.GuardClose ∷ word (codes "s")

@@ -1,4 +1,4 @@
--- Examples of terminals: those of an annex, and those of a choice.
+-- Example terminals of an annex and of a choice.
 use Rattle.std.specs.Prelude.{ℕ, pos, codes, List, [], ◌∷◌}
 use Rattle.aadl_lex.specs.declared.token.Token.{Token}
 use Rattle.aadl_lex.specs.TokensAndFirstFaults.{token}

@@ -1,4 +1,4 @@
--- The plain trees that expressions stand for.
+-- The plain trees of expressions, their models.
 use Rattle.std.specs.Prelude.{ℕ, List, [], ◌∷◌, map, Option, Some, None, option_map, Box}
 use Rattle.std.specs.declared.alloc.Global.{Global}
 use Rattle.aadl_tree.specs.declared.expressions.Sign.{Sign}
@@ -39,7 +39,7 @@ abbrev pub relation_of : {P : Type 0} → Sum P → Option (Box (RelationOperato
 relation_of left None = single left
 relation_of left (Some right) = compared left right.value.0 right.value.1
 
--- one level of each, with the parts already seen as trees
+-- one level of each, whose parts are already plain trees
 abbrev pub primary_step : {P : Type 0} → (ℕ → P)
     → Primary-F (Factor P) (Primary P) (Expression P) (Relation P) (Sum P) (Term P) → Primary P
 primary_step place (Primary-F.Whole at n) = number (place at) n

@@ -1,9 +1,9 @@
--- A number for each keyword and each symbol.
+-- A distinct number for each keyword and each symbol.
 use Rattle.std.specs.Prelude.{ℕ}
 use Rattle.aadl_tree.specs.declared.mark.Mark.{Mark}
 use Rattle.aadl_tree.specs.declared.mark.Mark.TheVariants as k
 
--- each keyword and each symbol has a number of its own
+-- distinct keywords and symbols have distinct numbers
 abbrev pub mark_number : Mark → ℕ
 mark_number k.Package = 0
 mark_number k.Public = 1

@@ -1,4 +1,4 @@
--- The plain trees that names stand for. `place` says what is kept of each place.
+-- The plain trees of names, their models. `place` maps each place.
 use Rattle.std.specs.Prelude.{ℕ, map, option_map}
 use Rattle.aadl_tree.specs.Names.{Identifier, Name, Path, Identifiers, Reference}
 use Rattle.aadl_tree.specs.declared.names.Identifier as source

@@ -1,4 +1,4 @@
--- The plain trees that whole packages stand for: with their places, and without them.
+-- The plain trees of whole packages, with their places and without them.
 use Rattle.std.specs.Prelude.{ℕ, map}
 use Rattle.aadl_tree.specs.Declarations.{PackageTree}
 use Rattle.aadl_tree.specs.proof.NameViews.{name_view}

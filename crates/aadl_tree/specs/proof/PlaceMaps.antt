@@ -1,4 +1,4 @@
--- Trees with other places: each place is what the map makes of it.
+-- Trees with other places: a map replaces each place.
 use Rattle.std.specs.Prelude.{ℕ, map, option_map}
 use Rattle.aadl_tree.specs.Names as n
 use Rattle.aadl_tree.specs.Values as v
@@ -234,7 +234,7 @@ package_to f t =
       end_name = name_to f t.end_name;
     }
 
--- what is kept of places: themselves, or nothing
+-- the two maps of places: the identity, and the map that drops places
 abbrev pub kept_place : ℕ → ℕ
 kept_place at = at
 

@@ -1,4 +1,4 @@
--- The bytes of a word, wherever they stand.
+-- The bytes of a word, independent of their storage.
 use Rattle.std.specs.Prelude.{ℕ, List, string_bytes}
 use Rattle.aadl_tree.specs.declared.spelling.SpellingBytes as source
 use Rattle.aadl_tree.specs.declared.spelling.SpellingBytes.TheVariants as variants

@@ -1,4 +1,4 @@
--- The plain trees that properties and their values stand for.
+-- The plain trees of properties and their values.
 use Rattle.std.specs.Prelude.{ℕ, List, [], ◌∷◌, map, Option, option_map, Box}
 use Rattle.std.specs.declared.alloc.Global.{Global}
 use Rattle.aadl_tree.specs.Names.{Identifier}
@@ -36,7 +36,7 @@ abbrev pub associations_of : {P : Type 0} → List (Association P) → Associati
 associations_of [] = no_associations
 associations_of (x ∷ xs) = associate x (associations_of xs)
 
--- one level of each, with the parts already seen as trees
+-- one level of each, whose parts are already plain trees
 abbrev pub value_step : {P : Type 0} → (ℕ → P) → Value-F (Value P) (Association P) → Value P
 value_step place (Value-F.List vs) = list (values_of vs.items)
 value_step place (Value-F.Record xs) = fields (associations_of xs.items)

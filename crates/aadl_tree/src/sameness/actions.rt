@@ -1,4 +1,4 @@
-//! Whether two actions mean the same.
+//! Whether two actions have the same meaning.
 ghost use Rattle.std.specs.Prelude.{◌≡◌, ◌↔◌, IsTrue, option_map};
 ghost use Rattle.aadl_tree.specs.proof.ActionViews.{action_view, actions_view, block_view, choice_view, loop_view};
 ghost use Rattle.aadl_tree.specs.proof.ActionViews.{mores_view, elsifs_view};
@@ -33,7 +33,7 @@ fn same_action(left: &Action, right: &Action) -> bool
     }
 }
 
-/// Whether two lists of actions mean the same. It recurs as deep as they are.
+/// Returns whether two lists of actions have the same meaning. The recursion is as deep as the trees.
 #[cycle(same_action)]
 pub fn same_actions(left: &Actions, right: &Actions) -> bool
     ensures { IsTrue result ↔ (actions_view no_place left.now ≡ actions_view no_place right.now) }
@@ -69,7 +69,7 @@ fn same_optional(left: &Option<Box<Actions>>, right: &Option<Box<Actions>>) -> b
     }
 }
 
-/// Whether two blocks mean the same. It recurs as deep as they are.
+/// Returns whether two blocks have the same meaning. The recursion is as deep as the trees.
 #[cycle(same_action)]
 pub fn same_block(left: &Block, right: &Block) -> bool
     ensures { IsTrue result ↔ (block_view no_place left.now ≡ block_view no_place right.now) }

@@ -1,4 +1,4 @@
-//! Whether two annexes mean the same.
+//! Whether two annexes have the same meaning.
 ghost use Rattle.std.specs.Prelude.{◌≡◌, ◌↔◌, IsTrue, map, option_map};
 
 use super::actions::same_block;
@@ -94,7 +94,7 @@ impl Same for Transition {
     }
 }
 
-// Whether two lists of declarations mean the same, where either may be missing.
+// Whether two optional lists of declarations have the same meaning.
 fn same_declared<T: Same>(left: &Option<Vec<T>>, right: &Option<Vec<T>>) -> bool
     ensures { IsTrue result
         ↔ (option_map (λ xs. map T.meaning xs.items) left.now

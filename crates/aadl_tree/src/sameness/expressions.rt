@@ -1,4 +1,4 @@
-//! Whether two expressions mean the same.
+//! Whether two expressions have the same meaning.
 ghost use Rattle.std.specs.Prelude.{◌≡◌, ◌↔◌, IsTrue};
 ghost use Rattle.aadl_tree.specs.proof.ExpressionViews.{primary_view, factor_view, factors_view, term_view, terms_view};
 ghost use Rattle.aadl_tree.specs.proof.ExpressionViews.{sum_view, relation_view, relations_view, expression_view};
@@ -25,7 +25,7 @@ impl Same for LeadingSign {
     }
 }
 
-/// Whether two expressions mean the same. It recurs as deep as they are.
+/// Returns whether two expressions have the same meaning. The recursion is as deep as the trees.
 #[cycle(same_expression)]
 pub fn same_expression(left: &Expression, right: &Expression) -> bool
     ensures { IsTrue result ↔ (expression_view no_place left.now ≡ expression_view no_place right.now) }

@@ -16,7 +16,7 @@ impl<T: Same> Same for Box<T> {
     }
 }
 
-/// Whether two lists have items of the same meaning in the same order.
+/// Returns whether two lists have items with the same meaning in the same order.
 pub fn same_items<T: Same>(left: &[T], right: &[T]) -> bool
     ensures { IsTrue result ↔ (map T.meaning left.now ≡ map T.meaning right.now) }
 {
@@ -31,7 +31,7 @@ pub fn same_items<T: Same>(left: &[T], right: &[T]) -> bool
     true
 }
 
-/// Whether two things mean the same, where either may be missing.
+/// Returns whether two optional values have the same meaning.
 pub fn same_option<T: Same>(left: &Option<T>, right: &Option<T>) -> bool
     ensures { IsTrue result ↔ (option_map T.meaning left.now ≡ option_map T.meaning right.now) }
 {

@@ -1,4 +1,4 @@
-//! Whether two names mean the same.
+//! Whether two names have the same meaning.
 
 use super::lists_and_options::{same_items, same_option};
 use super::same_meaning::Same;

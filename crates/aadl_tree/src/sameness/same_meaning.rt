@@ -1,13 +1,13 @@
-//! The trait of what can be told apart by its meaning.
+//! The trait of values that are compared by their meaning.
 ghost use Rattle.std.specs.Prelude.{◌≡◌, ◌↔◌, IsTrue};
 
-/// What can be told apart by its meaning.
+/// A value that is compared by its meaning.
 pub trait Same {
     ghost Meaning: { Type 0 };
 
     ghost meaning: { Self → Meaning };
 
-    /// Whether another one means the same.
+    /// Returns whether another value has the same meaning.
     fn same(&self, other: &Self) -> bool
         ensures { IsTrue result ↔ (meaning self.now ≡ meaning other.now) };
 }

@@ -1,4 +1,4 @@
-//! Whether two properties, or two values, mean the same.
+//! Whether two properties, or two values, have the same meaning.
 ghost use Rattle.std.specs.Prelude.{◌≡◌, ◌↔◌, IsTrue};
 ghost use Rattle.aadl_tree.specs.proof.ValueViews.{value_view, values_view, association_view, associations_view};
 ghost use Rattle.aadl_tree.specs.proof.PlaceMaps.{no_place};
@@ -52,7 +52,7 @@ impl Same for Quantity {
     }
 }
 
-/// Whether two values mean the same. It recurs as deep as they are.
+/// Returns whether two values have the same meaning. The recursion is as deep as the trees.
 #[cycle(same_value)]
 pub fn same_value(left: &Value, right: &Value) -> bool
     ensures { IsTrue result ↔ (value_view no_place left.now ≡ value_view no_place right.now) }
@@ -75,7 +75,7 @@ pub fn same_value(left: &Value, right: &Value) -> bool
     }
 }
 
-// Whether two lists of values mean the same.
+// Whether two lists of values have the same meaning.
 #[cycle(same_value)]
 fn same_values(left: &[Value], right: &[Value]) -> bool
     ensures { IsTrue result ↔ (values_view no_place left.now ≡ values_view no_place right.now) }
@@ -91,7 +91,7 @@ fn same_values(left: &[Value], right: &[Value]) -> bool
     true
 }
 
-// Whether two properties mean the same.
+// Whether two properties have the same meaning.
 #[cycle(same_value)]
 fn same_association(left: &Association, right: &Association) -> bool
     ensures { IsTrue result ↔ (association_view no_place left.now ≡ association_view no_place right.now) }
@@ -103,7 +103,7 @@ fn same_association(left: &Association, right: &Association) -> bool
         && same_items(left.applies_to.as_slice(), right.applies_to.as_slice())
 }
 
-/// Whether two lists of properties mean the same.
+/// Returns whether two lists of properties have the same meaning.
 #[cycle(same_value)]
 pub fn same_associations(left: &[Association], right: &[Association]) -> bool
     ensures { IsTrue result ↔ (associations_view no_place left.now ≡ associations_view no_place right.now) }

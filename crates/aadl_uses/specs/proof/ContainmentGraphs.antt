@@ -1,4 +1,5 @@
--- Which declarations contain which: of each, the numbers of those that its subcomponents name, in order.
+-- The containment relation as a graph: for each declaration, the numbers of the declarations that its subcomponents
+-- name, in order.
 use Rattle.std.specs.Prelude.{◌≡◌, ℕ, ◌<◌, List, [], ◌∷◌, ◌++◌, length, Option, Some, slice_get, slice_index_or}
 use Rattle.std.specs.Prelude.{Contains, nat_eq}
 use Rattle.std.specs.List.{IsDistinct}
@@ -10,11 +11,11 @@ Graph = List (List (Option ℕ))
 abbrev pub targets_in : Graph → ℕ → List (Option ℕ)
 targets_in g n = slice_index_or g n []
 
--- what a subcomponent names
+-- the target of a subcomponent
 abbrev pub below_in : Graph → ℕ → ℕ → Option ℕ
 below_in g n s = option_and_then (λ target. target) (slice_get (targets_in g n) s)
 
--- what stands at the end of a path of subcomponents, by their numbers, the innermost first
+-- the declaration at the end of a path of subcomponents, by their numbers, the innermost first
 abbrev pub reached_by : Graph → ℕ → List ℕ → Option ℕ
 reached_by g from [] = Some from
 reached_by g from (s ∷ path) = option_and_then (λ n. below_in g n s) (reached_by g from path)
@@ -22,15 +23,15 @@ reached_by g from (s ∷ path) = option_and_then (λ n. below_in g n s) (reached
 abbrev pub IsReached : Graph → ℕ → ℕ → Type 0
 IsReached g from n = (path : List ℕ) × (reached_by g from path ≡ Some n)
 
--- subcomponents name what is declared
+-- every target is the number of a declaration
 abbrev pub IsWithin : Graph → Type 0
 IsWithin g = (n s m : ℕ) → below_in g n s ≡ Some m → m < length g
 
--- a subcomponent leads back to where it stands
+-- a subcomponent leads back to the declaration that contains it
 abbrev pub LeadsBack : Graph → ℕ → ℕ → Type 0
 LeadsBack g n s = (m : ℕ) × (below_in g n s ≡ Some m) × IsReached g m n
 
--- a list with more numbers: all that targets name, and no others
+-- a list that grows by the declared targets and nothing else
 pub record AreAdded (targets : List (Option ℕ)) (old new : List ℕ) : Type 0 where
   pub more : List ℕ
   pub grown : new ≡ old ++ more

@@ -1,4 +1,4 @@
--- Which connection is the first into a port.
+-- The first connection into a port.
 use Rattle.std.specs.Prelude.{ℕ, Bool, false, nat_lt, List, Option, Some, None}
 use Rattle.aadl_names.specs.declared.numbered_port.NumberedPort.{NumberedPort}
 use Rattle.aadl_names.specs.NameResolution.{first_number}

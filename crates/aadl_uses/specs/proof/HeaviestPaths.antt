@@ -1,4 +1,4 @@
--- The weight of a path, and the greatest weight of the paths to marked declarations, up to a limit.
+-- The weight of a path, and the maximum weight of the paths to marked declarations, up to a limit.
 use Rattle.std.specs.Prelude.{◌≡◌, ℕ, ◌≤◌, ◌+◌, max, min, Bool, true, false, List, [], ◌∷◌, Option, Some, None}
 use Rattle.std.specs.Prelude.{slice_index_or}
 use Rattle.std.specs.Option.{option_map_or}
@@ -8,13 +8,13 @@ use Rattle.aadl_uses.specs.proof.MarkedPathCounts.{IsMarkedAt}
 abbrev pub weight_of : List (List ℕ) → ℕ → ℕ → ℕ
 weight_of weights n s = slice_index_or (slice_index_or weights n []) s 0
 
--- the sum along a path, the outermost subcomponent first
+-- the sum of the weights along a path, the outermost subcomponent first
 abbrev pub path_weight : Graph → List (List ℕ) → ℕ → List ℕ → ℕ
 path_weight g weights n [] = 0
 path_weight g weights n (s ∷ path) =
     weight_of weights n s + option_map_or (λ k. path_weight g weights k path) (below_in g n s) 0
 
--- the greatest weight of the paths that have P, which stops at a limit; none where there is none
+-- the maximum weight of the paths that satisfy P, up to a limit; `None` if no path does
 pub record IsGreatest (P : List ℕ → Type 0) (weight : List ℕ → ℕ) (limit found : ℕ) : Type 0 where
   pub path : List ℕ
   pub has : P path

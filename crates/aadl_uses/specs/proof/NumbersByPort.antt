@@ -1,4 +1,4 @@
--- Tables that give a number to each port, and when two ports that ends of connections name are the same.
+-- Tables that give a number to each port, and the equality of ports that ends of connections name.
 use Rattle.std.specs.Prelude.{ℕ, Bool, false, ◌&&◌, nat_eq, List, Option, Some, None}
 use Rattle.std.specs.Map.{lookup}
 use Rattle.aadl_names.specs.declared.numbered_port.NumberedPort.{NumberedPort}

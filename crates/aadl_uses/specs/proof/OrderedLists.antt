@@ -1,4 +1,4 @@
--- Lists of numbers in order, and what is among them.
+-- Sorted lists of numbers, and their members.
 use Rattle.std.specs.Prelude.{◌≡◌, ◌⊎◌, Bool, true, List, [], ◌∷◌}
 use Rattle.std.specs.List.{AllByRecursion}
 
@@ -10,7 +10,7 @@ abbrev pub Ordered : {X : Type 0} → (X → X → Bool) → List X → Type 0
 Ordered before [] = Unit {0}
 Ordered before (x ∷ xs) = AllByRecursion (λ y. before x y ≡ true) xs × Ordered before xs
 
--- a list of all that have P, each once, in order
+-- a list of all elements that satisfy P, each once, in order
 pub record AreListed {X : Type 0} (P : X → Type 0) (before : X → X → Bool) (xs : List X) : Type 0 where
   pub each : AllByRecursion P xs
   pub ordered : Ordered before xs

@@ -1,4 +1,4 @@
--- Which declarations are threads, and how many threads stand below an implementation.
+-- Which declarations are threads, and the number of threads below an implementation.
 use Rattle.std.specs.Prelude.{◌≡◌, ℕ, Bool, false, List, length, map, min, Option, Some, None}
 use Rattle.aadl_tree.specs.Declarations.{Implementation, Declaration, PackageTree}
 use Rattle.aadl_names.specs.NameResolution.{implementation_in, is_thread}
@@ -15,7 +15,7 @@ is_thread_declaration d = is_thread_in (implementation_in (Some d))
 abbrev pub thread_marks : PackageTree ℕ → List Bool
 thread_marks tree = map is_thread_declaration tree.declarations
 
--- the number of threads below an implementation, which stops at the limit
+-- the number of threads below an implementation, up to the limit
 pub record AreCounted (tree : PackageTree ℕ) (limit n count : ℕ) : Type 0 where
   pub paths : List (List ℕ)
   pub listed : Lists (IsThreadAt tree n) PathBefore paths

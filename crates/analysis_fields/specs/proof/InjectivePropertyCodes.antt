@@ -1,4 +1,4 @@
--- A code of properties as pairs of a name's bytes and a formula.
+-- An encoding of properties as pairs of a name's bytes and a formula.
 use Rattle.std.specs.Prelude.{ℕ, List, refl}
 use Rattle.std.specs.Coded.{Coded, code_by, coded×, coded_ℕ, coded_list}
 use Rattle.pals_runs.specs.Formula.{Formula}

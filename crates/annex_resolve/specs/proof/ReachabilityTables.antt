@@ -1,4 +1,4 @@
--- Tables of which state reaches which, by transitions from states that are not complete.
+-- Tables of the reachability of states by transitions from states that are not complete.
 use Rattle.std.specs.Prelude.{◌≡◌, ℕ, Bool, true, false, not, ◌&&◌, nat_eq, List, [], length, map, filter, Option, None}
 use Rattle.std.specs.Prelude.{Some, slice_get, slice_set, slice_index_or}
 use Rattle.std.specs.Option.{unwrap_or}
@@ -10,7 +10,7 @@ use Rattle.pals_base.specs.UpwardNumbers.{upwards}
 use Rattle.annex_resolve.specs.declared.cycles.Reachability.{Reachability}
 use Rattle.annex_resolve.specs.IncompleteStateCycles.{reaches}
 
--- what a state reaches, with none but states below k in between
+-- the states reachable from a state, with inner states below k
 abbrev pub row_of : ℕ → BehaviourParts → ℕ → List Bool
 row_of k b s = map (reaches k b s) (upwards 0 (length b.states))
 
@@ -33,7 +33,7 @@ cell rows s t = cell_in (slice_get rows s) t
 abbrev pub marked : List (List Bool) → ℕ → ℕ → List (List Bool)
 marked rows s t = slice_set rows s (slice_set (slice_index_or rows s []) t true)
 
--- one of these transitions leads from a state that is not complete to another
+-- one of these transitions leads from a state that is not complete to another state
 abbrev pub leads_by : BehaviourParts → List Edge → ℕ → ℕ → Bool
 leads_by b es s t = not (is_complete b s) && list_any (λ e. nat_eq e.target t) (filter (λ e. nat_eq e.source s) es)
 

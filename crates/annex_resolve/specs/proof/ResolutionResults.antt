@@ -1,4 +1,4 @@
--- What resolving a part of a text leaves: its tree with resolved names, its type, and what was found.
+-- The result of resolving a part of a text: its tree with resolved names, its type, and its violations.
 use Rattle.std.specs.Prelude.{◌≡◌, List, ◌++◌, Option}
 use Rattle.pals_base.specs.declared.behaviour.Kind.{Kind}
 use Rattle.pals_base.specs.declared.behaviour.Operand.{Operand}

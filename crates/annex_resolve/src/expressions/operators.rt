@@ -1,4 +1,4 @@
-//! The operators of behaviours that the operators of a text mean.
+//! The operators of behaviours for the operators of a text.
 ghost use Rattle.std.specs.Prelude.{◌≡◌};
 ghost use Rattle.annex_resolve.specs.ExpressionTypesAndFindings.{is_equality};
 ghost use Rattle.annex_resolve.specs.ResolvedTrees.{multiply_op, sign_op, relation_op, logic_op};
@@ -6,7 +6,7 @@ ghost use Rattle.annex_resolve.specs.ResolvedTrees.{multiply_op, sign_op, relati
 use aadl_tree::{LogicOperator, MultiplyOperator, RelationOperator, Sign};
 use pals_base::Op;
 
-/// Whether both sides may be of either type.
+/// Returns whether both operands may have either type.
 pub fn is_equality(operator: RelationOperator) -> bool
     ensures { result ≡ is_equality operator }
 {
@@ -16,7 +16,7 @@ pub fn is_equality(operator: RelationOperator) -> bool
     )
 }
 
-/// The operator between two factors.
+/// Returns the operator between two factors.
 pub fn multiply_op(operator: MultiplyOperator) -> Op
     ensures { result ≡ multiply_op operator }
 {
@@ -28,7 +28,7 @@ pub fn multiply_op(operator: MultiplyOperator) -> Op
     }
 }
 
-/// The operator between two terms.
+/// Returns the operator between two terms.
 pub fn sign_op(sign: Sign) -> Op
     ensures { result ≡ sign_op sign }
 {
@@ -38,7 +38,7 @@ pub fn sign_op(sign: Sign) -> Op
     }
 }
 
-/// The operator between two sums.
+/// Returns the operator between two sums.
 pub fn relation_op(operator: RelationOperator) -> Op
     ensures { result ≡ relation_op operator }
 {
@@ -52,7 +52,7 @@ pub fn relation_op(operator: RelationOperator) -> Op
     }
 }
 
-/// The operator between two relations.
+/// Returns the operator between two relations.
 pub fn logic_op(operator: LogicOperator) -> Op
     ensures { result ≡ logic_op operator }
 {

@@ -1,4 +1,4 @@
--- The logic operators between relations, as the tokens of a text: `and`, `or`, `xor`, `and then`, `or else`.
+-- The logical operators between relations, as the tokens of a text: `and`, `or`, `xor`, `and then`, `or else`.
 use Rattle.std.specs.Prelude.{List}
 use Rattle.aadl_tree.specs.declared.expressions.LogicOperator.{LogicOperator}
 use Rattle.aadl_tree.specs.Terminals.{PlacedTerminal}
@@ -7,7 +7,7 @@ use Rattle.aadl_grammar.specs.proof.ParserAnswers.{AtMark, Misses}
 use Rattle.aadl_tree.specs.declared.mark.Mark.TheVariants as k
 use Rattle.aadl_tree.specs.declared.expressions.LogicOperator.TheVariants as logic
 
--- the operator comes first: `and` and `or` are taken together with what may stand behind them
+-- the list begins with the operator; `and` and `or` include a following `then` or `else`
 abbrev pub Joins : LogicOperator → List PlacedTerminal → List PlacedTerminal → Type 0
 Joins logic.And ss rest = AtMark k.And ss rest × Misses (the k.Then) rest
 Joins logic.Or ss rest = AtMark k.Or ss rest × Misses (the k.Else) rest

@@ -18,7 +18,7 @@ head_parts x =
     ++ (plain k.Colon ∷ (reference_parts (reference_view kept_place x.data_type) ++ (plain k.In
     ∷ (bound_parts x.low ++ (plain k.Range ∷ (bound_parts x.high ++ plain k.ParenClose ∷ [])))))))
 
--- a choice behind its `if`
+-- a choice after its `if`
 abbrev pub choice_parts : Choice → List (SpellingPart ℕ)
 choice_parts x =
     test_parts (expression_view kept_place (out-Choice x).test)

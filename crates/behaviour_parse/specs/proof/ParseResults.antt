@@ -1,4 +1,4 @@
--- What the tokens of a behaviour come to: its one tree, or the place where they stop being one.
+-- The result of parsing the tokens of a behaviour: its only tree, or the position of its first fault.
 use Rattle.std.specs.Prelude.{ℕ, ◌≡◌, List}
 use Rattle.aadl_lex.specs.declared.token.Token.{Token}
 use Rattle.aadl_tree.specs.Annexes.{AnnexTree}
@@ -12,7 +12,7 @@ pub record IsOnlyBehaviourOf (text : List ℕ) (tokens : List Token) (tree : Ann
   pub given : IsBehaviourOf text tokens tree
   pub only : (other : AnnexTree ℕ) → IsBehaviourOf text tokens other → other ≡ tree
 
--- The tokens are no behaviour, and this is where. Nothing is said if there was not enough memory.
+-- The tokens are not a behaviour, and this is the first fault. On an allocation failure nothing is stated.
 abbrev pub IsFaultOfBehaviour : List ℕ → List Token → ParseFault → Type 0
 IsFaultOfBehaviour text tokens (Syntax at) = BehaviourStopsAt text tokens at
 IsFaultOfBehaviour text tokens (TooDeep at) = BehaviourNestsAt text tokens at

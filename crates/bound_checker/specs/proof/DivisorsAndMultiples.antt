@@ -2,8 +2,8 @@
 use Rattle.std.specs.Prelude.{ℕ, ◌*◌}
 use Rattle.std.specs.Int.{◌∣◌}
 
--- d divides a and b, and what divides the same multiple of both divides that multiple of d; with n = 1: each common
--- divisor divides d
+-- d divides a and b, and each common divisor of n times a and n times b divides n times d; with n = 1: each common
+-- divisor of a and b divides d
 pub record IsGreatestCommonDivisor (a b d : ℕ) : Type 0 where
   pub left : d ∣ a
   pub right : d ∣ b

@@ -2,7 +2,7 @@
 use Rattle.std.specs.Prelude.{◌≡◌, ℕ, ◌+◌, ◌%◌, ◌≤◌, List, All}
 use Rattle.pals_base.specs.declared.limits.TheConstants.{HOUR}
 
--- up to one hour, the multiples of m are those of all rates
+-- up to one hour, the multiples of m are the common multiples of all rates
 pub record HasMultiplesOf (rates : List ℕ) (m : ℕ) : Type 0 where
   pub some_time : 1 ≤ m
   pub at_most : m ≤ HOUR + 1

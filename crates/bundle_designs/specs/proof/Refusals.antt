@@ -1,4 +1,4 @@
--- What the code says of a bundle or a package that it refuses. Nothing is said if there is not enough memory.
+-- The output of the code for a rejected bundle or package. On an allocation failure there is no output.
 use Rattle.std.specs.Prelude.{ℕ, List}
 use Rattle.aadl_tree.specs.Declarations.{PackageTree}
 use Rattle.bundle_designs.specs.declared.refusal.Refusal.{Refusal}

@@ -1,4 +1,4 @@
--- What the list of a connection says of the chains that it carries: whether they are delayed, and their adaptor.
+-- The properties of a connection that apply to its connection chains: whether they are delayed, and their adaptor.
 use Rattle.std.specs.Prelude.{ℕ, List, [], map, codes, Option, Some, None, option_map, slice_get}
 use Rattle.std.specs.Option.{option_and_then}
 use Rattle.pals_base.specs.declared.allowed_adaptors.Adaptor.{Adaptor}
@@ -26,7 +26,7 @@ carried_by xs =
 abbrev pub connections_carried : Declaration ℕ → List ChainProperties
 connections_carried d = map (λ c. carried_by c.properties) (connections_of (implementation_in (Some d)))
 
--- what stands at a number in the list of a number
+-- the entry at a number, or no entries
 abbrev pub or_none : Option (List ChainProperties) → List ChainProperties
 or_none None = []
 or_none (Some carried) = carried

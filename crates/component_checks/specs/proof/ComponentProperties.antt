@@ -1,5 +1,4 @@
--- What lists of properties say of components: the period and the dispatch, by the numbers of declarations and
--- subcomponents.
+-- The properties of components: the period and the dispatch, by the numbers of declarations and subcomponents.
 use Rattle.std.specs.Prelude.{ℕ, Bool, List, [], map, codes, Option, Some, None, option_map, slice_get}
 use Rattle.std.specs.Option.{option_and_then, option_or}
 use Rattle.aadl_tree.specs.Values.{Association, Associations}
@@ -13,18 +12,18 @@ use Rattle.component_checks.specs.BoundsAndRates.{within_hour}
 use Rattle.component_checks.specs.ThreadRatesAndFindings.{is_word}
 use Rattle.component_checks.specs.PropertyLookup.{type_lists, own_lists, sub_lists, first_in}
 
--- the period that is given; none above an hour
+-- the given period; `None` above one hour
 abbrev pub period_at : Option (Association ℕ) → Option (Option ℕ)
 period_at x = option_map (λ a. option_and_then within_hour (time_of (association_value a))) x
 
--- whether the dispatch that is given is periodic
+-- whether the given dispatch is periodic
 abbrev pub dispatch_at : Option (Association ℕ) → Option Bool
 dispatch_at x = option_map (λ a. is_word (codes "Periodic") (reference_of (association_value a))) x
 
 abbrev pub timed_by : List (Associations ℕ) → ComponentProperties
 timed_by lists = record { period = period_at (first_in Period lists); periodic = dispatch_at (first_in Dispatch lists) }
 
--- where nothing is given, what is further out
+-- properties that are not given are taken from further out
 abbrev pub nearer : ComponentProperties → ComponentProperties → ComponentProperties
 nearer a b = record { period = option_or a.period b.period; periodic = option_or a.periodic b.periodic }
 
@@ -41,7 +40,7 @@ sub_timed tree sub = timed_by (sub_lists tree (Some sub))
 abbrev pub subs_timed : PackageTree ℕ → Declaration ℕ → List ComponentProperties
 subs_timed tree d = map (sub_timed tree) (subcomponents_of (implementation_in (Some d)))
 
--- ---- what stands at a number, or nothing
+-- ---- the entry at a number, or no properties
 abbrev pub or_nothing : Option ComponentProperties → ComponentProperties
 or_nothing None = timed_by []
 or_nothing (Some timed) = timed

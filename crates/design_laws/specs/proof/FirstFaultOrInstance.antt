@@ -1,5 +1,5 @@
--- That a package has a first fault below the root of a name, or an instance; and that an instance has a list of all
--- that is wrong with it.
+-- A package has a first fault below a named root or an instance model, and an instance model has a list of all its
+-- violations.
 use Rattle.std.specs.Prelude.{ℕ, List}
 use Rattle.aadl_tree.specs.Declarations.{PackageTree}
 use Rattle.aadl_names.specs.declared.fault.PackageFault.{PackageFault}
@@ -12,10 +12,10 @@ use Rattle.model_violations.specs.Violations.{shown_by, AreViolations}
 abbrev pub HasFirstFault : PackageTree ℕ → List ℕ → Type 0
 HasFirstFault tree root = (fault : PackageFault) × IsFault tree root fault
 
--- it has an instance: its threads, and its links, feeds and taps, each list in its order
+-- it has an instance model: its threads, links, feeds and taps, each list in its order
 abbrev pub HasInstance : PackageTree ℕ → List ℕ → Type 0
 HasInstance tree root = (parts : InstanceParts) × IsFlat tree root parts
 
--- there is a list of all that is wrong with the instance, in its order
+-- a list of all violations of the instance model exists, in its order
 abbrev pub HasList : PackageTree ℕ → InstanceParts → Type 0
 HasList tree parts = (list : List Violation) × AreViolations tree (shown_by tree parts) list

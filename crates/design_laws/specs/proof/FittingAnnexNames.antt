@@ -1,4 +1,4 @@
--- What is known of the names of an annex before its rules are checked: each stands for something of its type.
+-- Facts about the names of an annex before its rules are checked: each denotes an item of its type.
 use Rattle.std.specs.Prelude.{◌≡◌, ℕ, ◌+◌, ◌<◌, ◌≤◌, nat_lt, Bool, ◌&&◌, List, length, Option, Some, slice_get, IsTrue}
 use Rattle.std.specs.List.{list_all}
 use Rattle.pals_base.specs.declared.behaviour.Kind.{Kind}
@@ -17,7 +17,7 @@ use Rattle.annex_resolve.specs.declared.states.StateAt.{StateAt}
 use Rattle.annex_resolve.specs.NameMeanings.{entry_named}
 use Rattle.annex_resolve.specs.BehavioursAndFindings.{state_number, states_of, transitions_of, behaviour_of}
 
--- ---- what a name stands for is there, and has the name's type
+-- ---- the item that a name denotes exists, and has the name's type
 abbrev pub FitsPort : Option PortDecl → Option Kind → Type 0
 FitsPort port kind = (p : PortDecl) × (port ≡ Some p) × (kind ≡ Some p.kind)
 
@@ -30,7 +30,7 @@ FitsMeaning b loops (OutPort n) kind = FitsPort (slice_get b.outs n) kind
 FitsMeaning b loops (Variable n) kind = FitsVariable (slice_get b.vars n) kind
 FitsMeaning b loops (LoopVariable n) kind = (length b.vars ≤ n) × (n < length b.vars + loops) × (kind ≡ Some Integer)
 
--- so each name of a scope, within `loops` loops; the next loop's variable has the number behind all others
+-- so does each name of a scope, within `loops` loops; the variable of the next loop has the number after all others
 pub record FitsScope (b : BehaviourParts) (loops : ℕ) (scope : Scope) : Type 0 where
   pub entries : (name : List ℕ) (e : DeclaredName) → entry_named scope name ≡ Some e
       → FitsMeaning b loops e.meaning e.kind
@@ -44,9 +44,9 @@ is_declared states t =
 
 -- ---- the whole
 pub record IsReady (values : DeclaredValues) (scope : Scope) (annex : AnnexTree ℕ) : Type 0 where
-  -- names are words, and differ
+  -- names are distinct words
   pub names : HasNames (behaviour_of values scope annex)
-  -- first values are of their variables' types
+  -- initial values fit the types of their variables
   pub firsts : IsTrue (list_all has_first values.vars)
   pub fits : FitsScope (behaviour_of values scope annex) 0 scope
   pub states : IsTrue (list_all (is_declared (states_of annex)) (transitions_of annex))

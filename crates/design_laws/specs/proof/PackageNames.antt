@@ -1,4 +1,4 @@
--- What is known of the names of a package: they are words, and where nothing is declared twice, they differ.
+-- Facts about the names of a package: they are words, and if none is declared twice, they are distinct.
 use Rattle.std.specs.Prelude.{◌≡◌, ℕ, true, false, List, [], ◌++◌, slice_get, IsTrue, Some, All, AllPairs}
 use Rattle.pals_base.specs.Names.{is_word}
 use Rattle.aadl_tree.specs.Names.{Identifier, same_name}
@@ -28,12 +28,12 @@ pub record HasWords (tree : PackageTree ℕ) : Type 0 where
       → slice_get tree.declarations n ≡ Some (implementation x)
       → slice_get (behaviours x.annexes) 0 ≡ Some b → All IsNamed (states_of b.1)
 
--- ---- names that differ, whatever the case of their letters
+-- ---- names that are distinct even without regard to case
 abbrev pub Differ : List SpelledName → Type 0
 Differ xs = AllPairs (λ (x y : SpelledName). same_name x.name y.name ≡ false) xs
 
--- among the ports, subcomponents and connections of an implementation, and among the ports and variables, and the
--- states, of a thread's
+-- among the ports, subcomponents and connections of an implementation; among the ports and variables of a thread; and
+-- among its states
 pub record NamesDiffer (tree : PackageTree ℕ) (x : Implementation ℕ) : Type 0 where
   pub members : Differ (port_entries (ports_of tree x) ++ member_entries x)
   pub values : (b : ℕ × AnnexTree ℕ) → slice_get (behaviours x.annexes) 0 ≡ Some b → is_thread x.category ≡ true
@@ -41,7 +41,7 @@ pub record NamesDiffer (tree : PackageTree ℕ) (x : Implementation ℕ) : Type 
   pub states : (b : ℕ × AnnexTree ℕ) → slice_get (behaviours x.annexes) 0 ≡ Some b → is_thread x.category ≡ true
       → Differ (state_entries b.1)
 
--- what is known of all names of a package
+-- the facts about all names of a package
 pub record AreNamed (tree : PackageTree ℕ) : Type 0 where
   pub words : HasWords tree
   pub differ : (root n : ℕ) (x : Implementation ℕ) → package_faults tree root ≡ []

@@ -1,5 +1,5 @@
--- The claims that declarations which contain one another have lists: of all that one reaches, of all in an order,
--- and of the paths to marked ones.
+-- The existence of lists of declarations that contain one another: the declarations that one reaches, an order of
+-- all, and the paths to marked ones.
 use Rattle.std.specs.Prelude.{◌↔◌, ℕ, Bool, List, Contains}
 use Rattle.aadl_uses.specs.proof.ContainmentGraphs.{Graph, IsReached, LeadsBack}
 use Rattle.aadl_uses.specs.proof.ContainmentOrders.{IsOrder}
@@ -7,16 +7,16 @@ use Rattle.aadl_uses.specs.proof.MarkedPathCounts.{IsMarkedAt}
 use Rattle.aadl_uses.specs.proof.OrderedLists.{AreListed}
 use Rattle.aadl_uses.specs.ThreadsBelow.{path_before}
 
--- all that a declaration reaches
+-- all declarations that a declaration reaches
 pub record HasReach (g : Graph) (from : ℕ) : Type 0 where
   pub keys : List ℕ
   pub are : (n : ℕ) → Contains keys n ↔ IsReached g from n
 
--- no subcomponent leads back to where it stands
+-- no subcomponent leads back to the declaration that contains it
 abbrev pub IsAcyclic : Graph → Type 0
 IsAcyclic g = (n s : ℕ) → LeadsBack g n s → ⊥
 
--- all declarations, each behind those that it contains
+-- all declarations, each after the declarations that it contains
 abbrev pub HasOrder : Graph → Type 0
 HasOrder g = (keys : List ℕ) × IsOrder g keys
 

@@ -1,4 +1,4 @@
--- A package that the first four lines of checks find nothing in.
+-- A package that passes the first four checks.
 use Rattle.std.specs.Prelude.{◌≡◌, ℕ, List, [], Some}
 use Rattle.aadl_tree.specs.Declarations.{PackageTree}
 use Rattle.aadl_names.specs.declared.fault.PackageFault.{PackageFault}
@@ -7,8 +7,7 @@ use Rattle.aadl_names.specs.PackageNameFaults.{package_faults}
 use Rattle.aadl_uses.specs.Recursion.{IsRecursive}
 use Rattle.aadl_chains.specs.ChainFaults.{IsEndFault}
 
--- it has a root of the name, and nothing is wrong with its names, with what contains what, and with the ends of its
--- connections
+-- it has a root of the name, and its names, its containment relation and the ends of its connections have no faults
 pub record IsSound (tree : PackageTree ℕ) (name : List ℕ) : Type 0 where
   pub root : ℕ
   pub is_root : root_number tree name ≡ Some root

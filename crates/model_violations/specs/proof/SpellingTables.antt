@@ -1,4 +1,4 @@
--- A table of names that knows the names of a list, whatever the capitals, and no others.
+-- A table with the names of a list and no others, without regard to case.
 use Rattle.std.specs.Prelude.{◌≡◌, ℕ, List}
 use Rattle.aadl_tree.specs.Names.{same_name}
 use Rattle.std.specs.List.{list_any}

@@ -8,6 +8,6 @@ use Rattle.model_violations.specs.declared.chain_findings.RatedThreads.{RatedThr
 abbrev pub tree_of : RatedThreads → PackageTree ℕ
 tree_of rated = placed rated.properties.now.uses.now.names.tree.now
 
--- each rate that is there is 1 and more
+-- each rate that exists is at least 1
 abbrev pub ArePositive : List (Option ℕ) → Type 0
 ArePositive rates = (n k : ℕ) → slice_get rates n ≡ Some (Some k) → 0 < k

@@ -1,4 +1,4 @@
--- The findings of an instance, one part after the other.
+-- The violations of an instance model, one part after another.
 use Rattle.std.specs.Prelude.{◌≡◌, ℕ, Bool, List, ◌++◌}
 use Rattle.aadl_tree.specs.Declarations.{PackageTree}
 use Rattle.aadl_instance.specs.declared.instance.Instance.{Instance}
@@ -9,13 +9,13 @@ use Rattle.model_violations.specs.Violations.{ShownInstance, used_findings, find
 abbrev pub shown : Instance → ShownInstance
 shown x = record { root = x.root; threads = x.threads; links = x.links; feeds = x.feeds; taps = x.taps }
 
--- the list with the findings of the declarations in use behind it
+-- the list followed by the violations of the declarations in use
 pub record AddUsed (tree : PackageTree ℕ) (s : ShownInstance) (old new : List Violation) : Type 0 where
   pub used : ℕ → Bool
   pub is_use : IsUse tree s.root used
   pub added : new ≡ old ++ used_findings tree s used
 
--- all findings
+-- all violations
 pub record AreFindings (tree : PackageTree ℕ) (s : ShownInstance) (list : List Violation) : Type 0 where
   pub used : ℕ → Bool
   pub is_use : IsUse tree s.root used

@@ -1,5 +1,5 @@
--- What is found at annexes one by one: the faults of the first behaviour of a thread, and each other behaviour as
--- one too many.
+-- Findings at annexes, one by one: the faults of the first behaviour of a thread, and every other behaviour as one
+-- too many.
 use Rattle.std.specs.Prelude.{ℕ, Bool, false, List, [], ◌∷◌, ◌++◌, map, if◌then◌else◌}
 use Rattle.aadl_tree.specs.Annexes.{AnnexTree, foreign, behaviour, Annex}
 use Rattle.aadl_tree.specs.Declarations.{Implementation, PackageTree}
@@ -15,7 +15,7 @@ annex_uses tree x expected annex =
 abbrev pub still_expected : Bool → Annex ℕ → Bool
 still_expected expected annex = elim annex.content as (λ _. Bool) [ foreign bytes ↦ expected | behaviour b ↦ false ]
 
--- the behaviours that are left
+-- the remaining behaviours
 abbrev pub behaviours_left : PackageTree ℕ → Implementation ℕ → Bool → List (ℕ × AnnexTree ℕ) → List PackageFault
 behaviours_left tree x expected [] = []
 behaviours_left tree x expected (b ∷ bs) =

@@ -1,4 +1,4 @@
--- What names stand for by two tables and the variables of loops.
+-- The roles of names, from two tables and the variables of loops.
 use Rattle.std.specs.Prelude.{ℕ, Bool, List, Some, None, if◌then◌else◌}
 use Rattle.aadl_tree.specs.Names.{same_name}
 use Rattle.std.specs.List.{list_any}
@@ -8,7 +8,7 @@ use Rattle.aadl_names.specs.NameUseFaults.{NameRoles, either}
 use Rattle.aadl_names.specs.proof.NameTables.{value_of}
 use Rattle.name_faults.specs.proof.ConditionalValues.{is_marked}
 
--- ports and variables, in the order in which they count, and the variables of loops, the outermost first
+-- ports and variables, in the order of precedence, and the variables of loops, the outermost first
 pub record ScopeTables : Type 0 where
   pub first : List (List ℕ × Role)
   pub second : List (List ℕ × Role)
@@ -20,6 +20,6 @@ loop_roles loops = λ name. if list_any (λ variable. same_name name variable) l
 abbrev pub known_by : ScopeTables → NameRoles
 known_by scope = either (either (value_of scope.first) (value_of scope.second)) (loop_roles scope.loops)
 
--- what names a state, by a table of states
+-- the state with a name, by a table of states
 abbrev pub is_state_by : {V : Type 0} → List (List ℕ × V) → List ℕ → Bool
 is_state_by states = λ name. is_marked (value_of states name)

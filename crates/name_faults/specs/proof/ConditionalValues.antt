@@ -1,7 +1,7 @@
--- An optional value that is there where a test passes, and whether one is there.
+-- An optional value that is present if a test passes, and the test whether a value is present.
 use Rattle.std.specs.Prelude.{Bool, true, false, Option, Some, None, if◌then◌else◌}
 
--- a value for what is among others
+-- the value, if the test passes
 abbrev pub value_if : {V : Type 0} → V → Bool → Option V
 value_if value among = if among then Some value else None
 

@@ -1,4 +1,4 @@
--- The implementation of a number.
+-- The implementation with a number.
 use Rattle.std.specs.Prelude.{◌≡◌, ℕ, Some, slice_get}
 use Rattle.aadl_tree.specs.Declarations.{Implementation, implementation, PackageTree}
 

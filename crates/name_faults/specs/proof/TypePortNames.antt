@@ -1,4 +1,4 @@
--- Which tables have the names of the ports of a type, and of the ports of all types.
+-- The tables of the port names of one type, and of all types.
 use Rattle.std.specs.Prelude.{◌≡◌, ℕ, List, Option, Some, None, slice_index_or}
 use Rattle.aadl_tree.specs.Declarations.{Feature, PackageTree}
 use Rattle.aadl_names.specs.declared.name_roles.Role.{Role}
@@ -12,7 +12,7 @@ use Rattle.aadl_names.specs.PackageNameFaults.{port_roles}
 use Rattle.name_faults.specs.declared.port_name_tables.PortNames.{PortNames}
 use Rattle.name_faults.specs.declared.port_name_tables.AllPortNames.{AllPortNames}
 
--- a table in which each name stands for what it stands for among the ports
+-- a table with the role of each name among the ports
 abbrev pub HasRolesOf : List (Feature ℕ) → List (List ℕ × Role) → Type 0
 HasRolesOf ports roles = (name : List ℕ) → value_of roles name ≡ port_roles ports name
 
@@ -26,6 +26,6 @@ abbrev pub names_at : AllPortNames → Option ℕ → PortNames
 names_at all None = all.none
 names_at all (Some number) = slice_index_or all.of_declarations number all.none
 
--- the names of the ports of each type, by its number, and none without a type
+-- the port names of each type, by its number; no names without a type
 pub record AreAllNamesOf (tree : PackageTree ℕ) (all : AllPortNames) : Type 0 where
   pub each : (number : Option ℕ) → AreNamesOf (features_of (type_numbered tree number)) (names_at all number)

@@ -3,7 +3,7 @@ use Rattle.std.specs.Prelude.{◌↔◌}
 use Rattle.pals_base.specs.proof.TreeViews.{operands_along}
 use Rattle.pals_base.proofs.+same_expr.Given as goal
 
--- all are the same exactly where those that are left are
+-- all are the same if and only if the remaining ones are
 abbrev pub invariant-equality::expressions::same_operands-loop-at : goal.invariant-equality::expressions::same_operands-loop-at
 invariant-equality::expressions::same_operands-loop-at l =
     (length l.left ≡ length l.right)

@@ -1,19 +1,20 @@
--- How cycles outside the complete states are looked for: which states settle, marked a round at a time.
+-- The search for cycles outside the complete states: it marks the states from which a step ends, one iteration after
+-- another.
 use Rattle.std.specs.Prelude.{ℕ, zero, suc, Bool, true, ◌||◌, List, slice_get}
 use Rattle.std.specs.List.{list_all}
 use Rattle.std.specs.Option.{unwrap_or}
 use Rattle.pals_base.specs.declared.behaviour.BehaviourParts.{BehaviourParts}
 use Rattle.pals_base.specs.SingleStep.{is_complete, leaving}
 
--- whether each way on from a state comes to a complete one by at most n transitions
+-- whether every path from a state reaches a complete one by at most n transitions
 abbrev pub settles : ℕ → BehaviourParts → ℕ → Bool
 settles zero b s = is_complete b s
 settles (suc n) b s = is_complete b s || list_all (λ e. settles n b e.target) (leaving b s)
 
--- the mark of a state; a number of no state has one
+-- the mark of a state; an undeclared state is marked
 abbrev pub marked : List Bool → ℕ → Bool
 marked marks s = unwrap_or (slice_get marks s) true
 
--- whether a state is complete, or each way on leads to a marked one
+-- whether a state is complete, or each outgoing transition leads to a marked one
 abbrev pub settles_next : BehaviourParts → List Bool → ℕ → Bool
 settles_next b marks s = is_complete b s || list_all (λ e. marked marks e.target) (leaving b s)

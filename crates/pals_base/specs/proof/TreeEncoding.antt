@@ -1,4 +1,4 @@
--- How the logic stores trees, by which it tells them apart: each as numbers and pairs that give it back.
+-- The encoding of trees in the logic as numbers and pairs, from which each tree can be decoded.
 use Rattle.std.specs.Prelude.{◌≡◌, ℕ, zero, suc, ℤ, pos, negsuc, List, [], ◌∷◌, slice_index_or, refl}
 use Rattle.std.proofs.Common.{sym, ap, ◌∙◌}
 use Rattle.std.specs.Coded.{Coded, code_by, coded×, coded_ℕ}

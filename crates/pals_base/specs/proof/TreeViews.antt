@@ -1,4 +1,4 @@
--- The plain trees that contracts see of expressions, actions and guards.
+-- The abstract values of expressions, actions and guards: plain trees.
 use Rattle.std.specs.Prelude.{List, [], ◌∷◌}
 use Rattle.pals_base.specs.declared.behaviour.Expr.{Expr, Literal as source_literal, Variable as source_variable}
 use Rattle.pals_base.specs.declared.behaviour.Expr.{Port as source_port, Fresh as source_fresh, Neg', Abs', Not'}

@@ -1,4 +1,4 @@
-//! Whether actions are well typed, and their loops short.
+//! Checks the types of actions and the lengths of their loops.
 ghost use Rattle.std.specs.Prelude.{◌≡◌, ◌≤◌, ◌+◌, ◌*◌, IfOk, IsTrue, slice_get};
 ghost use Rattle.pals_base.specs.proof.TreeViews.{action_of, actions_along, branches_along};
 ghost use Rattle.pals_base.specs.TypingRules.{suits_variable, suits_port, turns, is_short, is_sound, are_sound};
@@ -10,7 +10,7 @@ use crate::expression_kinds::Kinds;
 use crate::limits::{NESTED_TURNS, TURNS};
 use std::alloc::AllocError;
 
-// Whether a value of these types may be put into a variable that is declared.
+// Whether a value with these types can be assigned to a variable, which must be declared.
 fn suits_variable(parts: &BehaviourParts, variable: u32, kinds: Kinds) -> bool
     ensures { result ≡ suits_variable (slice_get parts.now.vars variable) kinds }
 {
@@ -20,7 +20,7 @@ fn suits_variable(parts: &BehaviourParts, variable: u32, kinds: Kinds) -> bool
     }
 }
 
-// Whether a value of these types may be sent at an out port.
+// Whether a value with these types can be sent at an out port.
 fn suits_port(parts: &BehaviourParts, port: u32, kinds: Kinds) -> bool
     ensures { result ≡ suits_port (slice_get parts.now.outs port) kinds }
 {
@@ -30,7 +30,7 @@ fn suits_port(parts: &BehaviourParts, port: u32, kinds: Kinds) -> bool
     }
 }
 
-// How many turns a loop makes.
+// The number of iterations of a loop.
 fn turns(low: i64, high: i64) -> u128
     ensures { result ≡ turns low high }
 {
@@ -40,7 +40,7 @@ fn turns(low: i64, high: i64) -> u128
     (i128::from(high) - i128::from(low) + 1) as u128
 }
 
-// A loop makes at most 1,000 turns, and at most 10,000 with those of the loops round it.
+// Whether a loop has at most 1,000 iterations, and at most 10,000 multiplied with the enclosing loops.
 fn is_short(turns: u128, around: u64) -> bool
     requires { around ≤ NESTED_TURNS }
     ensures { result ≡ is_short turns around }
@@ -48,7 +48,7 @@ fn is_short(turns: u128, around: u64) -> bool
     turns <= u128::from(TURNS) && u128::from(around) * turns <= u128::from(NESTED_TURNS)
 }
 
-// The turns of a short loop, with those of the loops round it.
+// The iterations of a short loop, multiplied with those around it.
 fn together(turns: u128, around: u64) -> u64
     requires below { around ≤ NESTED_TURNS }
     requires short { IsTrue (is_short turns around) }
@@ -58,16 +58,16 @@ fn together(turns: u128, around: u64) -> u64
     around * turns as u64
 }
 
-// One more loop round a place, where a number can count them.
+// The nesting depth inside one more loop, if it fits the type.
 fn deeper(loops: usize) -> Result<usize, NoMemory>
     ensures { IfOk result (λ more. more ≡ loops + 1) }
 {
     loops.checked_add(1).ok_or(AllocError)
 }
 
-/// Whether actions are well typed in a behaviour of these parts and their loops are short, within
-/// `loops` loops that make `around` turns. It recurs as deep as the tree is; for a tree deeper than
-/// a number can count, the error is that there is not enough memory.
+/// Returns whether actions are well typed in a behaviour with these parts and their loops are short, within
+/// `loops` loops with `around` iterations in total. The recursion is as deep as the tree. Errors: out of memory
+/// for a tree whose depth does not fit `usize`.
 #[cycle(sound_act)]
 pub fn are_sound(
     acts: &[Act],

@@ -1,4 +1,4 @@
-//! Whether the right transitions leave each state, and each step comes to its end.
+//! Checks the transitions that leave each state, and that each step ends.
 ghost use Rattle.std.specs.Prelude.{◌≡◌, ◌||◌, ◌+◌, IfOk, length, map, filter, nat_eq, option_copied};
 ghost use Rattle.std.specs.List.{list_all};
 ghost use Rattle.pals_base.specs.SingleStep.{completes, is_complete};
@@ -10,7 +10,7 @@ use crate::basic_types::NoMemory;
 use crate::behaviour::{BehaviourParts, Guard, StateDecl, Transition};
 use std::alloc::Global;
 
-// Whether a step ends in a state. A number of no state is such an end.
+// Whether a step ends in a state. It also ends in an undeclared state.
 fn completes(state: Option<&StateDecl>) -> bool
     ensures { result ≡ completes (option_copied state.entry) }
 {
@@ -20,7 +20,7 @@ fn completes(state: Option<&StateDecl>) -> bool
     }
 }
 
-// How many transitions at the dispatch leave a state.
+// The number of transitions at the dispatch that leave a state.
 fn dispatch_count(transitions: &[Transition], state: usize) -> usize
     ensures { result ≡ dispatch_count (filter (λ e. nat_eq e.source state) transitions.now) }
 {
@@ -46,8 +46,8 @@ fn ends_unguarded(transitions: &[Transition], state: usize) -> bool
     unguarded
 }
 
-/// Whether one transition at the dispatch leaves a complete state, and none another state, from
-/// which a step can always go on.
+/// Returns whether exactly one transition leaves a complete state, at the dispatch; or whether no transition at
+/// the dispatch leaves another state, and a step can always proceed from there.
 pub fn has_ways(parts: &BehaviourParts, state: usize) -> bool
     ensures { result ≡ has_ways parts.now state }
 {
@@ -60,7 +60,7 @@ pub fn has_ways(parts: &BehaviourParts, state: usize) -> bool
     }
 }
 
-// The mark of a state. A number of no state has one.
+// The mark of a state. An undeclared state is marked.
 fn is_marked(marks: &[bool], state: u32) -> bool
     ensures { result ≡ marked marks.now state }
 {
@@ -70,7 +70,7 @@ fn is_marked(marks: &[bool], state: u32) -> bool
     }
 }
 
-// Whether all transitions that leave a state go to states with a mark.
+// Whether all transitions that leave a state go to marked states.
 fn leads_to_marked(transitions: &[Transition], state: usize, marks: &[bool]) -> bool
     ensures { result ≡ list_all (λ e. marked marks.now e.target) (filter (λ e. nat_eq e.source state) transitions.now) }
 {
@@ -94,7 +94,7 @@ fn complete_states(alloc: Global, parts: &BehaviourParts) -> Result<Vec<bool>, N
     Ok(marks)
 }
 
-// Whether a state is complete, or each way on leads to a marked one.
+// Whether a state is complete, or each outgoing transition leads to a marked state.
 fn settles_next(parts: &BehaviourParts, marks: &[bool], state: usize) -> bool
     ensures { result ≡ settles_next parts.now marks.now state }
 {
@@ -102,7 +102,7 @@ fn settles_next(parts: &BehaviourParts, marks: &[bool], state: usize) -> bool
         || leads_to_marked(parts.transitions.as_slice(), state, marks)
 }
 
-// For each state, whether it is complete, or each way on leads to a marked one.
+// For each state, whether it is complete or each outgoing transition leads to a marked state.
 #[tactic(auto, using(crate::proofs::UpwardNumbers::map_upwards_more))]
 fn settled_next(
     alloc: Global,
@@ -119,8 +119,8 @@ fn settled_next(
     Ok(next)
 }
 
-/// For each state, whether each way on from it comes to a complete one by at most as many
-/// transitions as there are states.
+/// Returns, for each state, whether every path from it reaches a complete state by at most as many transitions
+/// as there are states. Errors: out of memory.
 #[tactic(auto, using(crate::proofs::CycleSearchMarks::settles_more))]
 pub fn settled_states(alloc: Global, parts: &BehaviourParts) -> Result<Vec<bool>, NoMemory>
     ensures { IfOk result (λ marks. marks.items
@@ -133,7 +133,7 @@ pub fn settled_states(alloc: Global, parts: &BehaviourParts) -> Result<Vec<bool>
     Ok(marks)
 }
 
-/// Whether all have a mark.
+/// Returns whether all states are marked.
 pub fn are_marked(marks: &[bool]) -> bool
     ensures { result ≡ list_all (λ mark. mark) marks.now }
 {

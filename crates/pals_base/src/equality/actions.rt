@@ -1,11 +1,11 @@
-//! Whether two actions stand for the same tree.
+//! Whether two actions have the same abstract tree.
 ghost use Rattle.std.specs.Prelude.{◌≡◌, ◌↔◌, IsTrue};
 ghost use Rattle.pals_base.specs.proof.TreeViews.{action_of, actions_along, branches_along};
 
 use crate::behaviour::{Act, Branch};
 
 impl Act {
-    /// Whether another action stands for the same tree. It recurs as deep as the tree is.
+    /// Returns whether another action has the same tree. The recursion is as deep as the tree.
     #[cycle(same_act)]
     pub fn same(&self, other: &Act) -> bool
         ensures { IsTrue result ↔ (action_of self.now ≡ action_of other.now) }
@@ -48,7 +48,7 @@ impl Act {
     }
 }
 
-// Whether two lists of actions stand for the same trees.
+// Whether two lists of actions have the same trees.
 #[cycle(same_act)]
 pub(super) fn same_acts(left: &[Act], right: &[Act]) -> bool
     ensures { IsTrue result ↔ (actions_along left.now ≡ actions_along right.now) }
@@ -64,7 +64,7 @@ pub(super) fn same_acts(left: &[Act], right: &[Act]) -> bool
     true
 }
 
-// Whether two lists of branches stand for the same trees.
+// Whether two lists of branches have the same trees.
 #[cycle(same_act)]
 fn same_branches(left: &[Branch], right: &[Branch]) -> bool
     ensures { IsTrue result ↔ (branches_along left.now ≡ branches_along right.now) }

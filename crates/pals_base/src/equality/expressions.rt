@@ -1,11 +1,11 @@
-//! Whether two expressions stand for the same tree.
+//! Whether two expressions have the same abstract tree.
 ghost use Rattle.std.specs.Prelude.{◌≡◌, ◌↔◌, IsTrue};
 ghost use Rattle.pals_base.specs.proof.TreeViews.{tree_of, operands_along};
 
 use crate::behaviour::{Expr, Operand};
 
 impl Expr {
-    /// Whether another expression stands for the same tree. It recurs as deep as the tree is.
+    /// Returns whether another expression has the same tree. The recursion is as deep as the tree.
     #[cycle(same_expr)]
     pub fn same(&self, other: &Expr) -> bool
         ensures { IsTrue result ↔ (tree_of self.now ≡ tree_of other.now) }
@@ -30,7 +30,7 @@ impl Expr {
     }
 }
 
-// Whether two lists of later operands stand for the same trees.
+// Whether two lists of later operands have the same trees.
 #[cycle(same_expr)]
 fn same_operands(left: &[Operand], right: &[Operand]) -> bool
     ensures { IsTrue result ↔ (operands_along left.now ≡ operands_along right.now) }

@@ -1,4 +1,4 @@
-//! Whether two declarations are the same.
+//! Equality of declarations.
 
 use super::Same;
 use crate::behaviour::{PortDecl, StateDecl, VarDecl};

@@ -1,4 +1,4 @@
-//! Whether two guards, or two transitions, are the same.
+//! Equality of guards and transitions.
 ghost use Rattle.std.specs.Prelude.{◌≡◌, ◌↔◌, IsTrue};
 ghost use Rattle.pals_base.specs.proof.TreeViews.{trigger_of};
 
@@ -7,7 +7,7 @@ use super::actions::same_acts;
 use crate::behaviour::{Guard, Transition};
 
 impl Guard {
-    /// Whether another guard stands for the same trigger.
+    /// Returns whether another guard has the same abstract value.
     pub fn same(&self, other: &Guard) -> bool
         ensures { IsTrue result ↔ (trigger_of self.now ≡ trigger_of other.now) }
     {

@@ -9,19 +9,20 @@ ghost use Rattle.pals_base.specs.ExpressionValues.{eval};
 
 use crate::basic_types::Trap;
 
-/// By a divisor that is not 0 there is a remainder. With the quotient, cut towards zero, it gives
-/// the dividend; it is below the divisor in magnitude, and has the dividend's sign.
+/// Division by a divisor other than 0 has a remainder. The quotient, rounded towards zero, times the divisor
+/// plus the remainder is the dividend. The remainder's magnitude is below the divisor's, and it has the
+/// dividend's sign.
 pub fn remainder_has_sign_of_dividend()
     ensures { (a b : ℤ) → b ≢ pos 0 → IsOkAnd (remainder_of a b) (IsRemainder a b) }
 {}
 
-/// By a divisor that is not 0 there is a modulus. It differs from the dividend by a multiple of the
-/// divisor, is below the divisor in magnitude, and has the divisor's sign.
+/// Division by a divisor other than 0 has a modulus. It differs from the dividend by a multiple of the divisor,
+/// its magnitude is below the divisor's, and it has the divisor's sign.
 pub fn modulus_has_sign_of_divisor()
     ensures { (a b : ℤ) → b ≢ pos 0 → IsOkAnd (modulus_of a b) (IsModulus a b) }
 {}
 
-/// Quotients are cut towards zero, a remainder has the dividend's sign, and a modulus the
+/// Examples: quotients are rounded towards zero, a remainder has the dividend's sign, and a modulus the
 /// divisor's.
 pub fn worked_divisions()
     ensures quot_positive { quotient_of (pos 7) (pos 2) ≡ Ok (pos 3) }
@@ -34,7 +35,7 @@ pub fn worked_divisions()
     ensures mod_exact { modulus_of (negsuc 5) (pos 3) ≡ Ok (pos 0) }
 {}
 
-/// A divisor of 0 traps, and so does a result that does not fit 64 bits.
+/// Examples: a divisor of 0 traps, and so does a result that does not fit 64 bits.
 pub fn arithmetic_traps()
     ensures quot_by_0 { (a : ℤ) → quotient_of a (pos 0) ≡ Err Trap.ZeroDivisor }
     ensures rem_by_0 { (a : ℤ) → remainder_of a (pos 0) ≡ Err Trap.ZeroDivisor }
@@ -44,7 +45,7 @@ pub fn arithmetic_traps()
     ensures quot_of_least { quotient_of (negsuc (2 ^ 63 - 1)) (negsuc 0) ≡ Err Trap.Overflow }
 {}
 
-/// A chain goes from the left: 9 - 4 - 3 is 2.
+/// Chains are evaluated from left to right: 9 - 4 - 3 is 2.
 pub fn operators_associate_left()
     ensures { (frame : Frame) (fresh : List Bool)
         → eval (Chain (Literal (pos 9)) (Then Sub (Literal (pos 4)) (Then Sub (Literal (pos 3)) NoMore))) frame fresh

@@ -1,10 +1,10 @@
-//! The law of a clock that is a list of readings.
+//! The law of a scripted clock, which is a list of readings.
 ghost use Rattle.std.specs.Prelude.{◌≡◌, ◌<◌, ◌≤◌, ℕ, List, length, take, slice_index};
 ghost use Rattle.std.specs.List.Sorted.{IsNonDecreasing};
 ghost use Rattle.pals_base.specs.ClockPicks.{picks};
 
-/// The picks never fall where the readings do not, each pick is at least its target, and the
-/// first targets have the first picks.
+/// If the readings never decrease, the selected readings never decrease. Each is at least its target. The
+/// selected readings of the first targets do not depend on later targets.
 pub fn picks_follow_targets()
     ensures never_fall { (readings targets : List ℕ) → IsNonDecreasing readings
         → IsNonDecreasing (picks readings targets) }

@@ -1,9 +1,9 @@
-//! The law of the numbers of a loop.
+//! The law of the range of a loop.
 ghost use Rattle.std.specs.Prelude.{◌≡◌, ◌<◌, ◌+ℤ◌, ◌-ℤ◌, ◌≤ℤ◌, ◌<ℤ◌, ℕ, ℤ, pos, [], ◌∷◌, length, slice_index_or, All};
 ghost use Rattle.pals_base.specs.ForRanges.{numbers};
 
-/// A loop goes from its low end to its high end by one, both ends included, and has no number
-/// where the low end is above the high one.
+/// A loop iterates from its low end to its high end, both included, in steps of one. It has no iteration if the
+/// low end is above the high end.
 pub fn loop_goes_from_low_to_high()
     ensures row { numbers (pos 1) (pos 4) ≡ pos 1 ∷ pos 2 ∷ pos 3 ∷ pos 4 ∷ [] }
     ensures none { (low high : ℤ) → high <ℤ low → numbers low high ≡ [] }

@@ -1,5 +1,4 @@
-//! Laws of one step: it starts and ends in a frame of its behaviour's shape, and its ways are
-//! short.
+//! Laws of one step: it starts and ends in a frame that fits the behaviour, and its paths are short.
 ghost use Rattle.std.specs.Prelude.{◌≡◌, ◌<◌, ℕ, List, length};
 ghost use Rattle.pals_base.specs.declared.frames.Frame.{Frame};
 ghost use Rattle.pals_base.specs.declared.basic_types.PortValue.{PortValue};
@@ -7,8 +6,8 @@ ghost use Rattle.pals_base.specs.declared.behaviour.BehaviourParts.{BehaviourPar
 ghost use Rattle.pals_base.specs.SingleStep.{fire, initial, HasShape};
 ghost use Rattle.pals_base.specs.BehaviourRules.{IsBehaviour, IsWay};
 
-/// A component starts in its behaviour's shape, so in a complete state. Each step ends: it leaves a
-/// frame of that shape, so again in a complete state, and gives each out port a place.
+/// The initial frame fits the behaviour, so its state is complete. Each step ends: the next frame fits the
+/// behaviour, so its state is complete, and each out port has a value or is absent.
 pub fn each_step_ends()
     ensures start { (b : BehaviourParts) → IsBehaviour b → HasShape b (initial b) }
     ensures step { (b : BehaviourParts) (frame : Frame) (inputs : List PortValue) → IsBehaviour b → HasShape b frame
@@ -17,7 +16,7 @@ pub fn each_step_ends()
         → IsBehaviour b → HasShape b frame → length (fire b frame inputs).outs ≡ length b.outs }
 {}
 
-/// A way through states that are not complete has fewer transitions than there are states.
+/// A path through states that are not complete has fewer transitions than there are states.
 pub fn ways_are_short()
     ensures { (b : BehaviourParts) (s t n : ℕ) → IsBehaviour b → IsWay b n s t → n < length b.states }
 {}

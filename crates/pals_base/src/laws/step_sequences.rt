@@ -1,4 +1,4 @@
-//! Laws of several steps of a behaviour.
+//! Laws of sequences of steps.
 ghost use Rattle.std.specs.Prelude.{◌≡◌, ◌<◌, ℕ, List, [], ◌∷◌, ◌++◌, length, take, replicate, fold, Some};
 ghost use Rattle.pals_base.specs.declared.basic_types.Trap.{Trap};
 ghost use Rattle.pals_base.specs.declared.frames.Frame.{Frame};
@@ -9,8 +9,8 @@ ghost use Rattle.pals_base.specs.StepSequences.{frame_after, outputs};
 ghost use Rattle.pals_base.specs.Tuples.{columns, so_far, with_places};
 ghost use Rattle.pals_base.specs.declared.basic_types.PortValue.TheVariants.{Absent};
 
-/// Steps go one after another: no step looks ahead, and later steps go on from the frame that the
-/// earlier ones leave.
+/// Steps are sequential: no step depends on later inputs, and later steps start from the frame after the
+/// earlier ones.
 pub fn steps_one_after_another()
     ensures first { (b : BehaviourParts) (frame : Frame) (vectors : List (List PortValue)) (count : ℕ)
         → take count (outputs b frame vectors) ≡ outputs b frame (take count vectors) }
@@ -20,7 +20,7 @@ pub fn steps_one_after_another()
         → outputs b frame (xs ++ ys) ≡ outputs b frame xs ++ outputs b (frame_after b frame xs) ys }
 {}
 
-/// A halted frame stays: every further step only holds its inputs, and no out port has a value.
+/// A halted frame remains halted: every further step only holds its inputs, and no out port has a value.
 pub fn halted_frame_stays()
     ensures step { (b : BehaviourParts) (frame : Frame) (trap : Trap) (inputs : List PortValue) → frame.halt ≡ Some trap
         → fire b frame inputs ≡ record { frame = record frame { held = holding frame.held inputs }; outs = silence b } }
@@ -32,9 +32,9 @@ pub fn halted_frame_stays()
         → outputs b frame vectors ≡ replicate (length vectors) (silence b) }
 {}
 
-/// A round goes one step at a time. Before its first step all places are absent; each further step
-/// fills its own place on each port and leaves the others, also where it traps; after the last one
-/// nothing is absent but what the steps left so.
+/// A round proceeds one step at a time. Before its first step, all places are absent. Each step fills its own
+/// place on each out port and leaves the others unchanged, even if it traps. After the last step, the tuples
+/// have the outputs of all steps.
 pub fn round_fills_place_by_place()
     ensures none { (ports k : ℕ) → so_far ports k [] ≡ replicate ports (replicate k Absent) }
     ensures next { (k : ℕ) (outs : List (List PortValue)) (values : List PortValue) → length outs < k

@@ -3,14 +3,14 @@ ghost use Rattle.std.specs.Prelude.{◌≡◌, ◌<◌, ◌≤◌, ℕ, List, le
 ghost use Rattle.pals_base.specs.declared.basic_types.PortValue.{PortValue};
 ghost use Rattle.pals_base.specs.Tuples.{column, columns, cut};
 
-/// To cut a tuple keeps its length, does no more a second time, and does nothing past its end.
+/// Cutting a tuple preserves its length, is idempotent, and has no effect past the end of the tuple.
 pub fn cut_keeps_length()
     ensures length { (count : ℕ) (tuple : List PortValue) → length (cut count tuple) ≡ length tuple }
     ensures twice { (count : ℕ) (tuple : List PortValue) → cut count (cut count tuple) ≡ cut count tuple }
     ensures whole { (count : ℕ) (tuple : List PortValue) → length tuple ≤ count → cut count tuple ≡ tuple }
 {}
 
-/// There are as many columns as are asked for, in order, and each has a place for each list.
+/// The number of columns is the requested number; they are in order, and each has a place for each list.
 pub fn columns_follow_lists()
     ensures count { (count : ℕ) (lists : List (List PortValue)) → length (columns count lists) ≡ count }
     ensures place { (count : ℕ) (lists : List (List PortValue)) (at : ℕ) → at < count

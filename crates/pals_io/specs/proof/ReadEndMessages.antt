@@ -1,4 +1,4 @@
--- The messages of the errors of reading a source to its end.
+-- The messages of the errors of `read_all`.
 use Rattle.std.specs.Prelude.{ℕ, List, codes}
 use Rattle.pals_io.specs.declared.stream_errors.ReadEnd.{ReadEnd}
 use Rattle.pals_io.specs.declared.stream_errors.ReadEnd.TheVariants.{ReadFault, TooLong, Memory}

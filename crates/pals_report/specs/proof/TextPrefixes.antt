@@ -1,6 +1,6 @@
--- That a text begins with another one: what a call has left that could not write all of its text.
+-- Prefixes of texts: the state of the buffer after a call that could not append its whole text.
 use Rattle.std.specs.Prelude.{ℕ, ◌≡◌, List, ◌++◌, length, drop}
 
--- a text begins with another, with any text after it
+-- a text begins with another one, followed by any text
 abbrev pub BeginsWith : List ℕ → List ℕ → Type 0
 BeginsWith text start = text ≡ start ++ drop (length start) text

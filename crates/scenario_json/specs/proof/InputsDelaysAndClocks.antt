@@ -1,4 +1,4 @@
--- What the inputs, delays and clocks of a scenario that was read keep, for a design.
+-- The invariants of the inputs, delays and clocks of a parsed scenario, for a design.
 use Rattle.std.specs.Prelude.{ℕ, ◌≡◌, ◌<◌, ◌≤◌, List, length, All}
 use Rattle.std.specs.List.Sorted.{IsNonDecreasing}
 use Rattle.pals_base.specs.declared.limits.TheConstants.{HOUR, READING}
@@ -13,7 +13,7 @@ use Rattle.pals_model.specs.ComponentInputs.{root_inputs}
 abbrev pub AreInputsOf : DesignParts → List (List PortValue) → Type 0
 AreInputsOf design lists = length lists ≡ length (root_inputs design)
 
--- one or more delays of at most an hour
+-- one or more delays of at most one hour
 pub record IsDelayList (delays : List ℕ) : Type 0 where
   pub some : 0 < length delays
   pub within : All (λ n. n ≤ HOUR) delays
@@ -23,13 +23,13 @@ pub record AreDelaysOf (design : DesignParts) (lists : List (List ℕ)) : Type 0
   pub links : length lists ≡ length design.links
   pub each : All IsDelayList lists
 
--- a clock without a pick, whose readings are in their range and don't fall
+-- a clock before its first selection, whose readings are in range and never decrease
 pub record IsUnpickedClock (clock : ClockState) : Type 0 where
   pub unpicked_yet : clock ≡ unpicked clock.readings
   pub within : All (λ n. n ≤ READING) clock.readings
   pub order : IsNonDecreasing clock.readings
 
--- such a clock for each component, where nodes have clocks of their own
+-- such a clock for each component, if nodes have their own clocks
 pub record AreClocksOf (design : DesignParts) (clocks : List ClockState) : Type 0 where
   pub components : length clocks ≡ length design.components
   pub each : All IsUnpickedClock clocks

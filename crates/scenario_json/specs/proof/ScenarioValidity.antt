@@ -1,4 +1,4 @@
--- What every scenario keeps that was read for a design, whatever it says: what its users need not look at again.
+-- The invariants of each scenario that was parsed for a design, which its users need not check again.
 use Rattle.std.specs.Prelude.{◌≤◌, All}
 use Rattle.pals_base.specs.declared.limits.TheConstants.{ROUNDS, CELLS}
 use Rattle.pals_model.specs.declared.design.DesignParts.{DesignParts}

@@ -3,7 +3,7 @@ use Rattle.aadl_tree.specs.proof.PackageViews.{placed}
 use Rattle.aadl_chains.specs.proof.UpwardWalks as walks
 use Rattle.aadl_chains.proofs.chain_tracing.climb.Given as goal
 
--- the rest of the walk
+-- the rest of the trace
 abbrev pub invariant-up : goal.invariant-up
 invariant-up l =
     (walks.walk_back (placed l.wires.uses.names.tree.now) l.root l.last (reverse (take l.depth l.path)) l.here

@@ -5,7 +5,7 @@ use Rattle.aadl_instance.specs.InstancesByNumbers.{number_among}
 use Rattle.aadl_instance.proofs.PortNumberTables.{AreSeen}
 use Rattle.aadl_instance.proofs.port_numbers.row_of.Given as goal
 
--- the numbers of the ports so far, and how many of them go in and out
+-- the numbers of the ports so far, and the numbers of in and out ports among them
 abbrev pub invariant-loop-port : goal.invariant-loop-port
 invariant-loop-port l =
     (length l.row.items ≡ l.port-index)

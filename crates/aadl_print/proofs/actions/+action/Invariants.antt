@@ -5,7 +5,7 @@ use Rattle.aadl_tree.specs.proof.PlaceMaps.{no_place}
 use Rattle.aadl_print.specs.proof.PrintedText.{printed}
 use Rattle.aadl_print.proofs.actions.+action.Given as goal
 
--- what is left is still to be written
+-- the remaining items are still to be printed
 abbrev pub invariant-print_actions-loop-action : goal.invariant-print_actions-loop-action
 invariant-print_actions-loop-action l =
     printed l.initial.printer (mores_parts (mores_view no_place l.action-items))

@@ -5,7 +5,7 @@ use Rattle.aadl_tree.specs.proof.PlaceMaps.{no_place}
 use Rattle.aadl_print.specs.proof.PrintedText.{printed}
 use Rattle.aadl_print.proofs.expressions.+expression.Given as goal
 
--- what is left is still to be written
+-- the remaining items are still to be printed
 abbrev pub invariant-print_expression-loop-operator : goal.invariant-print_expression-loop-operator
 invariant-print_expression-loop-operator l =
     printed l.initial.printer (relations_parts (relations_view no_place l.operator-items))

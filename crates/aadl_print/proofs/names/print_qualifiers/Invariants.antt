@@ -6,7 +6,7 @@ use Rattle.aadl_tree.specs.proof.PlaceMaps.{no_place}
 use Rattle.aadl_print.specs.proof.PrintedText.{printed}
 use Rattle.aadl_print.proofs.names.print_qualifiers.Given as goal
 
--- what is left is still to be written
+-- the remaining items are still to be printed
 abbrev pub invariant-loop-name : goal.invariant-loop-name
 invariant-loop-name l =
     printed l.initial.printer (flat_map qualifier_parts (map (identifier_view no_place) l.names))

@@ -3,7 +3,7 @@ use Rattle.std.specs.List.{flat_map}
 use Rattle.aadl_print.specs.proof.PrintedText.{printed}
 use Rattle.aadl_print.proofs.print_item.print_all.Given as goal
 
--- what is left is still to be written
+-- the remaining items are still to be printed
 abbrev pub invariant-loop-item : goal.invariant-loop-item
 invariant-loop-item g l =
     printed l.initial.printer (flat_map g.T.PrintItem.parts (map g.T.PrintItem.tree l.items))

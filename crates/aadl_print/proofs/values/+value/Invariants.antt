@@ -5,7 +5,7 @@ use Rattle.aadl_tree.specs.proof.PlaceMaps.{no_place}
 use Rattle.aadl_print.specs.proof.PrintedText.{printed}
 use Rattle.aadl_print.proofs.values.+value.Given as goal
 
--- what is left is still to be written
+-- the remaining items are still to be printed
 abbrev pub invariant-print_associations-loop-association : goal.invariant-print_associations-loop-association
 invariant-print_associations-loop-association l =
     printed l.initial.printer (associations_parts (associations_view no_place l.associations))

@@ -4,7 +4,7 @@ use Rattle.scenario_values.specs.ResultCombinators.{through}
 use Rattle.scenario_values.specs.FieldValues.{entry_of}
 use Rattle.analysis_fields.proofs.plants.read_plants.Given as goal
 
--- what is made so far, and what is meant
+-- the result so far, and the result of the definition
 abbrev pub invariant-loop-name : goal.invariant-loop-name
 invariant-loop-name l =
     let step = with_pair l.names l.all.items in

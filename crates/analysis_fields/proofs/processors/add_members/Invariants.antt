@@ -5,7 +5,7 @@ use Rattle.scenario_values.specs.FaultPlaces.{place_text}
 use Rattle.analysis_fields.specs.Processors.{with_member}
 use Rattle.analysis_fields.proofs.processors.add_members.Given as goal
 
--- what is made so far, and what is meant
+-- the result so far, and the result of the definition
 abbrev pub invariant-loop-value : goal.invariant-loop-value
 invariant-loop-value l =
     let step = with_member l.names (place_text l.place) l.number in

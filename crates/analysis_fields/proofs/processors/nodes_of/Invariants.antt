@@ -3,7 +3,7 @@ use Rattle.std.specs.List.{enumerate_from}
 use Rattle.scenario_values.specs.NameLookup.{node_no}
 use Rattle.analysis_fields.proofs.processors.nodes_of.Given as goal
 
--- the components so far, and those among the owners that are left
+-- the components so far, and the components among the remaining owners
 abbrev pub invariant-loop-node : goal.invariant-loop-node
 invariant-loop-node l =
     l.nodes ++ map (λ numbered. node_no numbered.0)

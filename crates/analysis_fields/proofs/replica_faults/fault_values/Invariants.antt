@@ -5,7 +5,7 @@ use Rattle.serde_json.specs.View.{view}
 use Rattle.scenario_values.specs.ResultCombinators.{through}
 use Rattle.analysis_fields.proofs.replica_faults.fault_values.Given as goal
 
--- what is made so far, and what is meant
+-- the result so far, and the result of the definition
 abbrev pub invariant-loop-value : goal.invariant-loop-value
 invariant-loop-value l =
     let step = with_fault_value l.kind (place_text l.place) in

@@ -4,7 +4,7 @@ use Rattle.serde_json.specs.View.{view}
 use Rattle.scenario_values.specs.ResultCombinators.{through}
 use Rattle.analysis_fields.proofs.replica_faults.read_faults.Given as goal
 
--- what is made so far, and what is meant; and the places of what is made
+-- the result so far, and the result of the definition; and the keys of the result
 abbrev pub invariant-loop-item : goal.invariant-loop-item
 invariant-loop-item l =
     let step = with_fault l.names l.replicas in

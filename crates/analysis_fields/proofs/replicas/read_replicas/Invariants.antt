@@ -4,7 +4,7 @@ use Rattle.serde_json.specs.View.{view}
 use Rattle.scenario_values.specs.ResultCombinators.{through}
 use Rattle.analysis_fields.proofs.replicas.read_replicas.Given as goal
 
--- what is made so far, and what is meant
+-- the result so far, and the result of the definition
 abbrev pub invariant-loop-item : goal.invariant-loop-item
 invariant-loop-item l =
     let step = with_replica l.names in

@@ -51,7 +51,7 @@ resolve_action-returns-in-For t c =
     same_action c.args.scope.now c.args.around _ _ c.resolve_loop.result _ _
     (ap (action_view kept_place) c.in-For.is ∙ view-For kept_place c.in-For.turns) (rw same c.resolve_loop.ensures)
 
--- ---- actions behind each other
+-- ---- actions in sequence
 pub resolve_block-returns : goal.resolve_block-returns
 resolve_block-returns t c =
     same_block c.args.scope.now c.args.around _ _ c.resolve_some.result _ _ (view-out-block kept_place c.args.block.now)

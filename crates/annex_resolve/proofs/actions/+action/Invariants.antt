@@ -9,7 +9,7 @@ use Rattle.annex_resolve.specs.ActionFindings.{action_findings, mores_findings, 
 use Rattle.annex_resolve.specs.proof.ResolutionResults.{ResolvesActions, ResolvesBranches}
 use Rattle.annex_resolve.proofs.actions.+action.Given as goal
 
--- the first action and those behind it so far have been read
+-- the first action and the following ones so far have been read
 abbrev pub invariant-resolve_actions-loop-action : goal.invariant-resolve_actions-loop-action
 invariant-resolve_actions-loop-action l =
     let first = action_view kept_place (out-Actions l.actions).first in
@@ -17,7 +17,7 @@ invariant-resolve_actions-loop-action l =
     ResolvesActions (Do (action_of l.scope first) (mores_of l.scope xs))
     (action_findings l.scope l.around first ++ mores_findings l.scope l.around xs) l.acts.items l.fn.found l.found
 
--- and so of branches
+-- the same for branches
 abbrev pub invariant-resolve_choice-loop-elsif : goal.invariant-resolve_choice-loop-elsif
 invariant-resolve_choice-loop-elsif l =
     let e = expression_view kept_place (out-Choice l.choice).test in

@@ -3,7 +3,7 @@ use Rattle.std.specs.Prelude.{filter}
 use Rattle.pals_base.specs.BehaviourRules.{dispatch_count}
 use Rattle.annex_resolve.proofs.outgoing_transitions.dispatch_count.Given as goal
 
--- the count so far, and those among the transitions that are left
+-- the count so far, and the matching transitions among the remaining ones
 abbrev pub invariant-loop-transition : goal.invariant-loop-transition
 invariant-loop-transition l =
     (l.count ≤ l.transition-index)

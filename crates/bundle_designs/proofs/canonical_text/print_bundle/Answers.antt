@@ -6,7 +6,7 @@ use Rattle.aadl_tree.proofs.PlaceMaps.Declarations.{package_tied}
 use Rattle.aadl_grammar.proofs.CanonicalRoundTrip.{canon_of}
 use Rattle.bundle_designs.proofs.canonical_text.print_bundle.Goals as goal
 
--- the printer writes the tree without its places, whose canonical text is the tree's
+-- the printer prints the tree without its places, which has the same canonical text
 pub returns-clause-printed : goal.returns-clause-printed
 returns-clause-printed c =
     let parsed = c.in_ok-parsed.parsed in

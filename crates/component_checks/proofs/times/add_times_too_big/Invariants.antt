@@ -4,7 +4,7 @@ use Rattle.aadl_tree.specs.proof.PlaceMaps.{kept_place}
 use Rattle.component_checks.specs.Times.{list_big}
 use Rattle.component_checks.proofs.times.add_times_too_big.Given as goal
 
--- what is left is still to be added
+-- the remaining associations are still to be added
 abbrev pub invariant-loop-association : goal.invariant-loop-association
 invariant-loop-association l =
     l.fn.found ++ list_big l.holder (associations_view kept_place l.list)

@@ -4,7 +4,7 @@ use Rattle.design_laws.specs.InstanceDesigns.{all_of, component_in}
 use Rattle.model_checks.specs.proof.CachedBehaviours.{AreKept}
 use Rattle.model_checks.proofs.instance_design.components.Given as goal
 
--- the components so far, and the behaviours that are kept
+-- the components so far, and the cached behaviours
 abbrev pub invariant-loop-thread : goal.invariant-loop-thread
 invariant-loop-thread l =
     (Some l.components ≡ all_of

@@ -5,7 +5,7 @@ use Rattle.aadl_tree.specs.proof.PlaceMaps.{kept_place}
 use Rattle.component_checks.specs.TypeFindings.{is_in}
 use Rattle.model_violations.proofs.chain_ends.in_port.Given as goal
 
--- `left` in ports of what is left are still to be passed over
+-- `left` more in ports among the remaining ports are still to be passed
 abbrev pub invariant-loop-port : goal.invariant-loop-port
 invariant-loop-port l =
     slice_get (filter is_in (map (feature_view kept_place) (drop l.port-index l.ports))) l.left

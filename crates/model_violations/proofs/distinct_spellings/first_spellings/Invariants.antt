@@ -3,7 +3,7 @@ use Rattle.model_violations.specs.IgnoredProperties.{all_behind}
 use Rattle.model_violations.specs.proof.SpellingTables.{KnowsAll}
 use Rattle.model_violations.proofs.distinct_spellings.first_spellings.Given as goal
 
--- what is left is still to be added, and the table has the names that were added
+-- the remaining names are still to be added, and the table has the added names
 abbrev pub invariant-loop-name : goal.invariant-loop-name
 invariant-loop-name l =
     record {

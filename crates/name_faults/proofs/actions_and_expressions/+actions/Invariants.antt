@@ -6,7 +6,7 @@ use Rattle.aadl_names.specs.proof.FirstFaultSoFar.{found}
 use Rattle.name_faults.specs.proof.BehaviourScopes.{known_by}
 use Rattle.name_faults.proofs.actions_and_expressions.+actions.Given as goal
 
--- what is left is still to be looked at
+-- the remaining part is still to be checked
 abbrev pub invariant-check_actions-loop-action : goal.invariant-check_actions-loop-action
 invariant-check_actions-loop-action l =
     found l.initial.finder (mores_uses (known_by l.scope) (mores_view kept_place l.action-items))

@@ -6,7 +6,7 @@ use Rattle.aadl_names.specs.proof.FirstFaultSoFar.{found}
 use Rattle.name_faults.specs.proof.BehaviourScopes.{known_by}
 use Rattle.name_faults.proofs.actions_and_expressions.+uses.Given as goal
 
--- what is left is still to be looked at
+-- the remaining part is still to be checked
 abbrev pub invariant-check_expression-loop-operand : goal.invariant-check_expression-loop-operand
 invariant-check_expression-loop-operand l =
     found l.initial.finder (relations_uses (known_by l.scope) (relations_view kept_place l.operand-items))

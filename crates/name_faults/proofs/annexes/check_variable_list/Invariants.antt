@@ -6,7 +6,7 @@ use Rattle.aadl_names.specs.proof.FirstFaultSoFar.{found}
 use Rattle.aadl_names.specs.PackageNameFaults as spec
 use Rattle.name_faults.proofs.annexes.check_variable_list.Given as goal
 
--- what is left is still to be looked at
+-- the remaining part is still to be checked
 abbrev pub invariant-loop-variable : goal.invariant-loop-variable
 invariant-loop-variable l =
     found l.initial.finder (flat_map spec.variable_faults (map (variable_view kept_place) l.variables))

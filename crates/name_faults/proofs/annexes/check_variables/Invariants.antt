@@ -6,7 +6,7 @@ use Rattle.aadl_names.specs.proof.FirstFaultSoFar.{found}
 use Rattle.aadl_names.specs.PackageNameFaults as spec
 use Rattle.name_faults.proofs.annexes.check_variables.Given as goal
 
--- what is left is still to be looked at
+-- the remaining part is still to be checked
 abbrev pub invariant-loop-annex : goal.invariant-loop-annex
 invariant-loop-annex l =
     found l.initial.finder (flat_map spec.variables_faults (map (annex_view kept_place) l.annexes))

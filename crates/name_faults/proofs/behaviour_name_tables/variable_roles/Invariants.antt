@@ -10,7 +10,7 @@ use Rattle.aadl_names.specs.PackageNameFaults.{is_among}
 use Rattle.name_faults.specs.proof.ConditionalValues.{value_if}
 use Rattle.name_faults.proofs.behaviour_name_tables.variable_roles.Given as goal
 
--- what is left is still to be added
+-- the remaining part is still to be added
 abbrev pub invariant-loop-declaration : goal.invariant-loop-declaration
 invariant-loop-declaration l =
     (name : List ℕ)

@@ -9,7 +9,7 @@ use Rattle.aadl_names.specs.NameResolution.{is_thread}
 use Rattle.name_faults.specs.proof.AnnexFaults.{behaviours_left}
 use Rattle.name_faults.proofs.behaviours.check_behaviours.Given as goal
 
--- what is left is still to be looked at
+-- the remaining part is still to be checked
 abbrev pub invariant-loop-annex : goal.invariant-loop-annex
 invariant-loop-annex l =
     found l.initial.finder (behaviours_left (placed l.typed.tree.now)

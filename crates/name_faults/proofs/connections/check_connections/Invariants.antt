@@ -7,7 +7,7 @@ use Rattle.aadl_names.specs.proof.FirstFaultSoFar.{found}
 use Rattle.aadl_names.specs.PackageNameFaults.{connection_faults}
 use Rattle.name_faults.proofs.connections.check_connections.Given as goal
 
--- what is left is still to be looked at
+-- the remaining part is still to be checked
 abbrev pub invariant-loop-connection : goal.invariant-loop-connection
 invariant-loop-connection l =
     found l.initial.finder (flat_map

@@ -7,7 +7,7 @@ use Rattle.aadl_names.specs.proof.FirstFaultSoFar.{found}
 use Rattle.aadl_names.specs.PackageNameFaults.{declaration_faults}
 use Rattle.name_faults.proofs.declarations.check_declarations.Given as goal
 
--- what is left is still to be looked at
+-- the remaining part is still to be checked
 abbrev pub invariant-loop-number : goal.invariant-loop-number
 invariant-loop-number l =
     found l.initial.finder (flat_map (declaration_faults (placed l.wires.uses.names.tree.now) l.root)

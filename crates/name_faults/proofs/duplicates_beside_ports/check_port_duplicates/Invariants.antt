@@ -7,7 +7,7 @@ use Rattle.aadl_names.specs.DuplicatesByNamespace.{port_entries}
 use Rattle.aadl_names.specs.proof.DuplicatesBesidePorts.{beside_each}
 use Rattle.name_faults.proofs.duplicates_beside_ports.check_port_duplicates.Given as goal
 
--- what is left is still to be looked at
+-- the remaining part is still to be checked
 abbrev pub invariant-loop-entry : goal.invariant-loop-entry
 invariant-loop-entry l =
     found l.initial.finder (flat_map

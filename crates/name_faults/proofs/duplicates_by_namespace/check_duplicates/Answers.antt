@@ -13,7 +13,7 @@ use Rattle.aadl_names.proofs.FirstFaultSoFar.{next_found, last_found, found_appe
 use Rattle.name_faults.proofs.FaultsByDeclaration.{numbered}
 use Rattle.name_faults.proofs.duplicates_by_namespace.check_duplicates.Goals as goal
 
--- three lists of findings one behind the other
+-- three concatenated lists of findings
 three_found : (first one two last : (Option PackageFault)) (a b c : List PackageFault) → one ≡ found first a
     → two ≡ found one b → last ≡ found two c
     → last ≡ found first (a ++ b ++ c)

@@ -7,7 +7,7 @@ use Rattle.aadl_names.specs.proof.FirstFaultSoFar.{found}
 use Rattle.aadl_names.specs.proof.DuplicatesBesidePorts.{beside_in}
 use Rattle.name_faults.proofs.duplicates_by_namespace.check_duplicates.Given as goal
 
--- what is left is still to be looked at
+-- the remaining part is still to be checked
 abbrev pub invariant-loop-number : goal.invariant-loop-number
 invariant-loop-number l =
     found l.initial.finder (flat_map (beside_in (placed l.uses.names.tree.now))

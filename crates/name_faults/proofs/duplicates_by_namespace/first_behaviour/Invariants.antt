@@ -4,7 +4,7 @@ use Rattle.aadl_tree.specs.proof.PlaceMaps.{kept_place}
 use Rattle.aadl_names.specs.BehaviourAnnexes.{behaviours, first_behaviour}
 use Rattle.name_faults.proofs.duplicates_by_namespace.first_behaviour.Given as goal
 
--- no behaviour stands before what is left
+-- no behaviour precedes the remaining annexes
 abbrev pub invariant-loop-annex : goal.invariant-loop-annex
 invariant-loop-annex l =
     first_behaviour (behaviours (map (annex_view kept_place) l.annexes))

@@ -4,7 +4,7 @@ use Rattle.aadl_tree.specs.proof.PlaceMaps.{kept_place}
 use Rattle.aadl_names.specs.DuplicateNames.{entry_of}
 use Rattle.name_faults.proofs.namespace_entries.add_words.Given as goal
 
--- what is left is still to be added
+-- the remaining part is still to be added
 abbrev pub invariant-loop-word : goal.invariant-loop-word
 invariant-loop-word l =
     l.initial.entries ++ map entry_of (map (identifier_view kept_place) l.word-items) ≡ l.entries

@@ -5,7 +5,7 @@ use Rattle.std.specs.List.{filter_map}
 use Rattle.aadl_names.specs.DuplicatesByNamespace.{implementation_entry}
 use Rattle.name_faults.proofs.namespace_entries.implementation_entries.Given as goal
 
--- what is left is still to be added
+-- the remaining part is still to be added
 abbrev pub invariant-loop-declaration : goal.invariant-loop-declaration
 invariant-loop-declaration l =
     filter_map implementation_entry (map (declaration_view kept_place) l.declaration-items) ≡ l.entries

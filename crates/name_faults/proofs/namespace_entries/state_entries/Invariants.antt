@@ -6,7 +6,7 @@ use Rattle.std.specs.List.{flat_map}
 use Rattle.aadl_names.specs.DuplicateNames.{entry_of}
 use Rattle.name_faults.proofs.namespace_entries.state_entries.Given as goal
 
--- what is left is still to be added
+-- the remaining part is still to be added
 abbrev pub invariant-loop-declaration : goal.invariant-loop-declaration
 invariant-loop-declaration l =
     map entry_of (flat_map (λ d. identifiers d.names) (map (state_view kept_place) l.declaration-items)) ≡ l.entries

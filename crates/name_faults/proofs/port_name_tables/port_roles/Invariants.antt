@@ -6,7 +6,7 @@ use Rattle.aadl_names.specs.proof.NameTables.{value_of}
 use Rattle.aadl_names.specs.PackageNameFaults.{port_roles}
 use Rattle.name_faults.proofs.port_name_tables.port_roles.Given as goal
 
--- what is left is still to be added
+-- the remaining part is still to be added
 abbrev pub invariant-loop-port : goal.invariant-loop-port
 invariant-loop-port l =
     (name : List ℕ)

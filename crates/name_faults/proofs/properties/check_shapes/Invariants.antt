@@ -6,7 +6,7 @@ use Rattle.aadl_names.specs.proof.FirstFaultSoFar.{found}
 use Rattle.aadl_names.specs.RecognisedProperties.{listed, shape_fault}
 use Rattle.name_faults.proofs.properties.check_shapes.Given as goal
 
--- what is left is still to be looked at
+-- the remaining part is still to be checked
 abbrev pub invariant-loop-association : goal.invariant-loop-association
 invariant-loop-association l =
     found l.initial.finder (flat_map (shape_fault l.holder) (listed (associations_view kept_place l.list)))

@@ -4,7 +4,7 @@ use Rattle.aadl_tree.specs.proof.PlaceMaps.{kept_place}
 use Rattle.aadl_names.specs.RecognisedProperties.{property_entries}
 use Rattle.name_faults.proofs.properties.property_entries.Given as goal
 
--- what is left is still to be added
+-- the remaining part is still to be added
 abbrev pub invariant-loop-association : goal.invariant-loop-association
 invariant-loop-association l =
     property_entries (associations_view kept_place l.list)

@@ -7,7 +7,7 @@ use Rattle.aadl_names.specs.proof.FirstFaultSoFar.{found}
 use Rattle.aadl_names.specs.PackageNameFaults.{subcomponent_faults}
 use Rattle.name_faults.proofs.subcomponents.check_subcomponents.Given as goal
 
--- what is left is still to be looked at
+-- the remaining part is still to be checked
 abbrev pub invariant-loop-place : goal.invariant-loop-place
 invariant-loop-place l =
     found l.initial.finder (flat_map (subcomponent_faults (placed l.uses.names.tree.now) l.x.category)

@@ -7,7 +7,7 @@ use Rattle.aadl_names.specs.PackageNameFaults.{transition_uses}
 use Rattle.name_faults.specs.proof.BehaviourScopes.{known_by, is_state_by}
 use Rattle.name_faults.proofs.transitions.check_transitions.Given as goal
 
--- what is left is still to be looked at
+-- the remaining part is still to be checked
 abbrev pub invariant-loop-transition : goal.invariant-loop-transition
 invariant-loop-transition l =
     found l.initial.finder (flat_map (transition_uses (is_state_by l.states) (known_by l.scope))

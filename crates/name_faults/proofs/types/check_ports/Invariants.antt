@@ -6,7 +6,7 @@ use Rattle.aadl_names.specs.proof.FirstFaultSoFar.{found}
 use Rattle.aadl_names.specs.PackageNameFaults as spec
 use Rattle.name_faults.proofs.types.check_ports.Given as goal
 
--- what is left is still to be looked at
+-- the remaining part is still to be checked
 abbrev pub invariant-loop-port : goal.invariant-loop-port
 invariant-loop-port l =
     found l.initial.finder (flat_map spec.port_faults (map (feature_view kept_place) l.ports))

@@ -2,7 +2,7 @@ use Rattle.std.proofs.Common.{◌≤◌, ◌-◌, vec_len}
 use Rattle.pals_io.proofs.RepeatedTransfers.{GivesFirst}
 use Rattle.pals_io.proofs.transfers.read_all.Given as goal
 
--- what was read so far, within the limit
+-- the bytes read so far, within the limit
 abbrev pub invariant-loop-all : goal.invariant-loop-all
 invariant-loop-all g l = record {
   within : vec_len l.all ≤ l.most;

@@ -2,7 +2,7 @@ use Rattle.std.proofs.Common.{◌≡◌, ◌≤◌, ◌-◌, length, take}
 use Rattle.pals_io.specs.SourcesAndSinks.{after_taking}
 use Rattle.pals_io.proofs.transfers.write_all.Given as goal
 
--- the first `done` bytes were taken, and with no bytes nothing was called
+-- the first `done` bytes were accepted; without bytes no call was made
 abbrev pub invariant-loop-done : goal.invariant-loop-done
 invariant-loop-done g l = record {
   within : l.done ≤ length l.bytes;

@@ -4,7 +4,7 @@ use Rattle.pals_report.specs.proof.TextPrefixes.{BeginsWith}
 use Rattle.pals_report.specs.proof.RowLines.{component_lines_from}
 use Rattle.pals_report.proofs.row.add_component_lines.Given as goal
 
--- the lines so far, and those of the components that are left
+-- the lines so far, and the lines of the remaining components
 abbrev pub invariant-loop-node : goal.invariant-loop-node
 invariant-loop-node g l = record {
   begun : BeginsWith l.out.items l.fn.out.items;

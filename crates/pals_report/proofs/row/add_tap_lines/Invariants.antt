@@ -4,7 +4,7 @@ use Rattle.pals_report.specs.proof.TextPrefixes.{BeginsWith}
 use Rattle.pals_report.specs.proof.RowLines.{tap_lines_from}
 use Rattle.pals_report.proofs.row.add_tap_lines.Given as goal
 
--- the lines so far, and those of the taps that are left
+-- the lines so far, and the lines of the remaining taps
 abbrev pub invariant-loop-number : goal.invariant-loop-number
 invariant-loop-number g l = record {
   begun : BeginsWith l.out.items l.fn.out.items;

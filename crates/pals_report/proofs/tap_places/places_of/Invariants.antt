@@ -5,7 +5,7 @@ use Rattle.pals_report.specs.proof.TapPlaces.{tap_places}
 use Rattle.pals_report.proofs.TapPlacesAndCounts.{place_in}
 use Rattle.pals_report.proofs.tap_places.places_of.Given as goal
 
--- how many taps so far have each source; the places so far, and those of the taps that are left
+-- the number of taps so far of each source; the indices so far, and the indices of the remaining taps
 abbrev pub invariant-loop-tap : goal.invariant-loop-tap
 invariant-loop-tap l = record {
   long : length l.counts.items ≡ l.nodes;

@@ -3,7 +3,7 @@ use Rattle.pals_model.specs.RoundTexts.{text_of}
 use Rattle.pals_report.specs.ViolationLines.{violation_line}
 use Rattle.pals_report.proofs.violations.add_lines.Given as goal
 
--- the lines so far, of places in one text
+-- the lines so far, for positions in one text
 abbrev pub invariant-loop-violation : goal.invariant-loop-violation
 invariant-loop-violation l = record {
   text : l.cursor.text.now ≡ l.fn.text;

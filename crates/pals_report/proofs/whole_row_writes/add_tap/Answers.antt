@@ -8,7 +8,7 @@ use Rattle.pals_report.proofs.RowLines.{at_place}
 use Rattle.pals_report.proofs.TextPrefixes.{joined_on_ok}
 use Rattle.pals_report.proofs.whole_row_writes.add_tap.Goals as goal
 
--- the tap in the place of the number is the one that is shown
+-- the tap with the index of the number is the one that is shown
 pub returns-clause-ok : goal.returns-clause-ok
 returns-clause-ok c shown is =
     let design = c.args.design.now in

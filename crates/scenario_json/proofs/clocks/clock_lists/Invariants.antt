@@ -5,7 +5,7 @@ use Rattle.scenario_values.specs.ResultCombinators.{through}
 use Rattle.scenario_values.specs.FieldValues.{entry_of}
 use Rattle.scenario_json.proofs.clocks.clock_lists.Given as goal
 
--- what is made so far, and what is meant
+-- the result so far, and the result of the definition
 abbrev pub invariant-loop-name : goal.invariant-loop-name
 invariant-loop-name l =
     let step = with_clock l.names in

@@ -7,7 +7,7 @@ use Rattle.scenario_values.specs.FaultPlaces.{inside}
 use Rattle.scenario_json.specs.Clocks.{with_reading, last_of}
 use Rattle.scenario_json.proofs.clocks.reading_list.Given as goal
 
--- the readings so far, which don't fall and are in range, and what is meant
+-- the readings so far, which never decrease and are in range, and the result of the definition
 abbrev pub invariant-loop-at : goal.invariant-loop-at
 invariant-loop-at l =
     let step = with_reading (inside (codes "clocks") l.name) in

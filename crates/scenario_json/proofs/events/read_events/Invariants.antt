@@ -4,7 +4,7 @@ use Rattle.serde_json.specs.View.{view}
 use Rattle.scenario_values.specs.ResultCombinators.{through}
 use Rattle.scenario_json.proofs.events.read_events.Given as goal
 
--- what is made so far, and what is meant
+-- the result so far, and the result of the definition
 abbrev pub invariant-loop-at : goal.invariant-loop-at
 invariant-loop-at l =
     let step = with_event l.names l.command in

@@ -4,7 +4,7 @@ use Rattle.scenario_values.specs.FieldValues.{entry_of}
 use Rattle.scenario_json.specs.InputsAndDelays.{with_link_delays}
 use Rattle.scenario_json.proofs.inputs_and_delays.read_delays.Given as goal
 
--- the lists so far, and what is meant
+-- the lists so far, and the result of the definition
 abbrev pub invariant-loop-name : goal.invariant-loop-name
 invariant-loop-name l =
     let step = with_link_delays l.names in

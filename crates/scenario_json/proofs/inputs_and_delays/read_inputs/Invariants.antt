@@ -5,7 +5,7 @@ use Rattle.scenario_values.specs.FieldValues.{entry_of}
 use Rattle.scenario_json.specs.InputsAndDelays.{with_input}
 use Rattle.scenario_json.proofs.inputs_and_delays.read_inputs.Given as goal
 
--- the lists so far, and what is meant
+-- the lists so far, and the result of the definition
 abbrev pub invariant-loop-name : goal.invariant-loop-name
 invariant-loop-name l =
     let step = with_input l.names in

@@ -5,7 +5,7 @@ use Rattle.scenario_values.specs.FaultPlaces.{inside}
 use Rattle.scenario_json.specs.InputsAndDelays.{with_value}
 use Rattle.scenario_json.proofs.inputs_and_delays.value_list.Given as goal
 
--- the values so far, and what is meant
+-- the values so far, and the result of the definition
 abbrev pub invariant-loop-at : goal.invariant-loop-at
 invariant-loop-at l =
     let step = with_value l.kind (inside (codes "inputs") l.name) in

@@ -3,7 +3,7 @@ use Rattle.pals_model.specs.declared.design.Tap.{Tap}
 use Rattle.pals_model.specs.PortKindsAndRates.{rate_of}
 use Rattle.scenario_json.proofs.run_cell_count.of_taps.Given as goal
 
--- the sum so far, no part of which is large
+-- the sum so far, none of whose summands is large
 abbrev pub invariant-loop-tap : goal.invariant-loop-tap
 invariant-loop-tap l =
     (l.sum ≡ sum_by (λ (tap : Tap). rate_of l.design tap.source.0) (take l.tap-index l.taps))

@@ -4,14 +4,14 @@ use Rattle.aadl_tree.specs.proof.ActionViews.{mores_view, elsifs_view}
 use Rattle.aadl_tree.specs.proof.PlaceMaps.{no_place}
 use Rattle.aadl_tree.proofs.sameness.actions.+same_action.Given as goal
 
--- all mean the same exactly where those that are left do
+-- all have the same meaning if and only if the remaining ones do
 abbrev pub invariant-same_mores-loop-at : goal.invariant-same_mores-loop-at
 invariant-same_mores-loop-at l =
     (length l.left ≡ length l.right)
     × ((mores_view no_place l.left ≡ mores_view no_place l.right)
     ↔ (mores_view no_place (drop l.at l.left) ≡ mores_view no_place (drop l.at l.right)))
 
--- all mean the same exactly where those that are left do
+-- all have the same meaning if and only if the remaining ones do
 abbrev pub invariant-same_elsifs-loop-at : goal.invariant-same_elsifs-loop-at
 invariant-same_elsifs-loop-at l =
     (length l.left ≡ length l.right)

@@ -4,21 +4,21 @@ use Rattle.aadl_tree.specs.proof.ExpressionViews.{factors_view, terms_view, rela
 use Rattle.aadl_tree.specs.proof.PlaceMaps.{no_place}
 use Rattle.aadl_tree.proofs.sameness.expressions.+same_expression.Given as goal
 
--- all mean the same exactly where those that are left do
+-- all have the same meaning if and only if the remaining ones do
 abbrev pub invariant-same_factors-loop-at : goal.invariant-same_factors-loop-at
 invariant-same_factors-loop-at l =
     (length l.left ≡ length l.right)
     × ((factors_view no_place l.left ≡ factors_view no_place l.right)
     ↔ (factors_view no_place (drop l.at l.left) ≡ factors_view no_place (drop l.at l.right)))
 
--- all mean the same exactly where those that are left do
+-- all have the same meaning if and only if the remaining ones do
 abbrev pub invariant-same_terms-loop-at : goal.invariant-same_terms-loop-at
 invariant-same_terms-loop-at l =
     (length l.left ≡ length l.right)
     × ((terms_view no_place l.left ≡ terms_view no_place l.right)
     ↔ (terms_view no_place (drop l.at l.left) ≡ terms_view no_place (drop l.at l.right)))
 
--- all mean the same exactly where those that are left do
+-- all have the same meaning if and only if the remaining ones do
 abbrev pub invariant-same_relations-loop-at : goal.invariant-same_relations-loop-at
 invariant-same_relations-loop-at l =
     (length l.left ≡ length l.right)

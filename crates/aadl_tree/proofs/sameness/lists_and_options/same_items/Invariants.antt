@@ -2,7 +2,7 @@ use Rattle.std.proofs.Common.{◌≡◌, length, map, drop}
 use Rattle.std.specs.Prelude.{◌↔◌}
 use Rattle.aadl_tree.proofs.sameness.lists_and_options.same_items.Given as goal
 
--- all mean the same exactly where those that are left do
+-- all have the same meaning if and only if the remaining ones do
 abbrev pub invariant-loop-at : goal.invariant-loop-at
 invariant-loop-at g l =
     (length l.left ≡ length l.right)

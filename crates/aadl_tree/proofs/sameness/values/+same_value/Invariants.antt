@@ -4,14 +4,14 @@ use Rattle.aadl_tree.specs.proof.ValueViews.{values_view, associations_view}
 use Rattle.aadl_tree.specs.proof.PlaceMaps.{no_place}
 use Rattle.aadl_tree.proofs.sameness.values.+same_value.Given as goal
 
--- all mean the same exactly where those that are left do
+-- all have the same meaning if and only if the remaining ones do
 abbrev pub invariant-same_values-loop-at : goal.invariant-same_values-loop-at
 invariant-same_values-loop-at l =
     (length l.left ≡ length l.right)
     × ((values_view no_place l.left ≡ values_view no_place l.right)
     ↔ (values_view no_place (drop l.at l.left) ≡ values_view no_place (drop l.at l.right)))
 
--- all mean the same exactly where those that are left do
+-- all have the same meaning if and only if the remaining ones do
 abbrev pub invariant-same_associations-loop-at : goal.invariant-same_associations-loop-at
 invariant-same_associations-loop-at l =
     (length l.left ≡ length l.right)

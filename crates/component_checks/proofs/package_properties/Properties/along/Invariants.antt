@@ -4,7 +4,7 @@ use Rattle.component_checks.specs.PropertyLookup.{lists_along}
 use Rattle.component_checks.specs.proof.ComponentProperties.{timed_by}
 use Rattle.component_checks.proofs.package_properties.Properties.along.Given as goal
 
--- the nearest so far
+-- the nearest properties so far
 abbrev pub invariant-loop-sub : goal.invariant-loop-sub
 invariant-loop-sub l =
     l.nearest ≡ timed_by (lists_along (placed l.self.uses.now.names.tree.now) l.root (take l.sub-index l.subs))

@@ -3,7 +3,7 @@ use Rattle.pals_base.specs.proof.TreeViews.{actions_along, branches_along}
 use Rattle.pals_base.specs.TypingRules.{are_sound, branches_are_sound}
 use Rattle.pals_base.proofs.behaviour_rules.actions.+sound_act.Given as goal
 
--- all are sound exactly where those that are left are
+-- all are well formed if and only if the remaining ones are
 abbrev pub invariant-are_sound-loop-act : goal.invariant-are_sound-loop-act
 invariant-are_sound-loop-act l =
     are_sound (actions_along (drop l.act-index l.acts)) l.parts l.loops l.around

@@ -4,7 +4,7 @@ use Rattle.std.specs.List.{list_all}
 use Rattle.pals_base.specs.proof.CycleSearchMarks.{marked}
 use Rattle.pals_base.proofs.behaviour_rules.states.leads_to_marked.Given as goal
 
--- all lead to marked states exactly where those that are left do
+-- all lead to marked states if and only if the remaining ones do
 abbrev pub invariant-loop-transition : goal.invariant-loop-transition
 invariant-loop-transition l =
     list_all (λ e. marked l.marks e.target)

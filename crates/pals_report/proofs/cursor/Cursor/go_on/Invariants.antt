@@ -2,7 +2,7 @@ use Rattle.std.proofs.Common.{◌≡◌}
 use Rattle.pals_report.specs.LinesAndColumns.{line_of, column_of}
 use Rattle.pals_report.proofs.cursor.Cursor.go_on.Given as goal
 
--- the line and the column of the place that is reached
+-- the line and the column of the current position
 abbrev pub invariant-loop-place : goal.invariant-loop-place
 invariant-loop-place l = record {
   line_is : l.line ≡ line_of l.self.text.now l.place;
