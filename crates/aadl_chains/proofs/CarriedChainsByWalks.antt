@@ -57,7 +57,8 @@ module _ (tree : PackageTree ℕ) (root : ℕ) where
       let x = crossed tree root None ends.to.path ends.to.port c is in
       let g = x.goes in
       let here : ConnectionAt = record { path = c.path; connection = c.connection } in
-      let stands : number_at_path tree root c.path ≡ Some ends.declaration = g.stands ∙ ap Some (x.number_is ∙ sym d) in (
+      let stands : number_at_path tree root c.path ≡ Some ends.declaration =
+      g.stands ∙ ap Some (x.number_is ∙ sym d) in (
         x.chain ++ here ∷ chain,
         record {
           leads =
@@ -87,7 +88,8 @@ module _ (tree : PackageTree ℕ) (root : ℕ) where
       )
 
   pub feed_from : ArePermitted tree → (ends : CarriedChain) (k q : ℕ) → IsThreadPort tree root ends.to
-      → walk_back tree root None ends.to.path ends.to.port ≡ at_root (Some k) q → ends.from ≡ record { path = []; port = q }
+      → walk_back tree root None ends.to.path ends.to.port ≡ at_root (Some k) q
+      → ends.from ≡ record { path = []; port = q }
       → ends.declaration ≡ root
       → ends.connection ≡ k → IsFeed tree root ends
   feed_from sound ends k q to is from d e = by (rooted tree root None ends.to.path ends.to.port (Some k) q is)
@@ -140,7 +142,8 @@ module _ (tree : PackageTree ℕ) (root : ℕ) where
           )
 
   -- a connection into an own out port of the root
-  pub tap_from : (ends : CarriedChain) (port k t q : ℕ) (chain : List ConnectionAt) → ends.to ≡ record { path = []; port = port }
+  pub tap_from : (ends : CarriedChain) (port k t q : ℕ) (chain : List ConnectionAt)
+      → ends.to ≡ record { path = []; port = port }
       → is_in tree root ends.to ≡ false
       → Entered tree root (Own port) k (Inner t q) → IsThreadAt tree root ends.from.path
       → is_in tree root ends.from ≡ false
@@ -248,7 +251,8 @@ module _ (tree : PackageTree ℕ) (root : ℕ) where
         (met tree root sound one None l.0 ends.from ends.to n.0 l.1.leads l.1.start n.1
         (into_at ends.to n.0 n.1 port.1))
 
-    feed_met_by : (ends : CarriedChain) (chain : List ConnectionAt) → IsThreadPort tree root ends.to → ends.from.path ≡ []
+    feed_met_by : (ends : CarriedChain) (chain : List ConnectionAt) → IsThreadPort tree root ends.to
+        → ends.from.path ≡ []
         → (carried : Carries tree root false chain ends)
         → MetRoot tree root sound None chain ends.from ends.to
         ⊎ MetCrossing tree root sound None chain ends.from ends.to → FeedMet ends
@@ -295,7 +299,8 @@ module _ (tree : PackageTree ℕ) (root : ℕ) where
       pub start : IsStart tree root ends.from
       pub declaration_is : ends.declaration ≡ root
 
-    tap_step : (ends : CarriedChain) (c : ConnectionAt) (cs : List ConnectionAt) (mid : Port) (g : Goes tree root c mid ends.to)
+    tap_step : (ends : CarriedChain) (c : ConnectionAt) (cs : List ConnectionAt) (mid : Port)
+        (g : Goes tree root c mid ends.to)
         → (x : NumberedPort) → g.source ≡ x
         → Leads tree root cs ends.from mid → IsStart tree root ends.from → ends.to.path ≡ []
         → is_in tree root ends.to ≡ false
@@ -338,7 +343,8 @@ module _ (tree : PackageTree ℕ) (root : ℕ) where
           leads = subst (Leads tree root cs ends.from) mid_is leads;
           start = start;
           declaration_is =
-              same_Some ends.declaration root (sym carried.stands ∙ ap (number_at_path tree root) (outside_of carried.kind));
+              same_Some ends.declaration root (sym carried.stands
+              ∙ ap (number_at_path tree root) (outside_of carried.kind));
         }
       where
         outside_of : ((false ≡ true) × (is_crossing tree carried.component carried.link ≡ true))
@@ -354,7 +360,8 @@ module _ (tree : PackageTree ℕ) (root : ℕ) where
             let none : [] ≡ t ∷ [] = sym (never carried.place h (outside_of carried.kind)) ∙ is in
             absurd (cc none)
 
-    tap_by : (ends : CarriedChain) (chain : List ConnectionAt) → Leads tree root chain ends.from ends.to → IsStart tree root ends.from
+    tap_by : (ends : CarriedChain) (chain : List ConnectionAt) → Leads tree root chain ends.from ends.to
+        → IsStart tree root ends.from
         → IsThreadAt tree root ends.from.path
         → ends.to.path ≡ [] → is_in tree root ends.to ≡ false → Carries tree root false chain ends → TapMet ends
     tap_by ends [] leads start from outside out carried =

@@ -46,7 +46,8 @@ module _ (tree : PackageTree ℕ) (root : ℕ) where
       pub not_both : NotBothOwn source target
       pub no_thread : is_thread_at tree n ≡ false
 
-    step : (place : ConnectionAt) (from to : Port) → (g : Goes tree root place from to) → Step g.number g.source g.target
+    step : (place : ConnectionAt) (from to : Port) → (g : Goes tree root place from to)
+        → Step g.number g.source g.target
     step place from to g =
         let w : ConnectionPorts = record { source = Some g.source; target = Some g.target } in
         let h = among_goes tree root place from to g in
@@ -86,7 +87,8 @@ module _ (tree : PackageTree ℕ) (root : ℕ) where
         → IsStart tree root p
         → LeadsOut tree root directions.In n p.port
     starts_in p n stands into (inl s) = absurd (opposed (is_in tree root p) (is_in-at tree root p n stands ∙ into) s.1)
-    starts_in p n stands into (inr s) = of_root (sym (same_Some root n (sym (ap (number_at_path tree root) s.0) ∙ stands)))
+    starts_in p n stands into (inr s) = of_root
+        (sym (same_Some root n (sym (ap (number_at_path tree root) s.0) ∙ stands)))
 
     ends_in : (p : Port) (n : ℕ) → number_at_path tree root p.path ≡ Some n → is_in_at tree n p.port ≡ true
         → IsEnd tree root p → Reaches tree directions.In n p.port
@@ -97,7 +99,8 @@ module _ (tree : PackageTree ℕ) (root : ℕ) where
         → IsEnd tree root p
         → LeadsOut tree root directions.Out n p.port
     ends_out p n stands out (inl s) = absurd (opposed (is_in tree root p) s.1 (is_in-at tree root p n stands ∙ out))
-    ends_out p n stands out (inr s) = of_root (sym (same_Some root n (sym (ap (number_at_path tree root) s.0) ∙ stands)))
+    ends_out p n stands out (inr s) = of_root
+        (sym (same_Some root n (sym (ap (number_at_path tree root) s.0) ∙ stands)))
 
     -- the implementation at an end of a connection
     inner_of : (path : List ℕ) (n k s : ℕ) (p : Port) → p.path ≡ s ∷ path → number_at_path tree root path ≡ Some k
@@ -207,7 +210,8 @@ module _ (tree : PackageTree ℕ) (root : ℕ) where
           subst (λ i. Reaches tree directions.Out i p.port) (own_at p q n (to_at (Own q) e) stands)
           (subst (Reaches tree directions.Out g.number) (sym (port_is (to_at (Own q) e))) here)
 
-      takes_step : (n : ℕ) (x y : NumberedPort) → g.source ≡ x → g.target ≡ y → number_at_path tree root mid.path ≡ Some n
+      takes_step : (n : ℕ) (x y : NumberedPort) → g.source ≡ x → g.target ≡ y
+          → number_at_path tree root mid.path ≡ Some n
           → is_in_at tree n mid.port ≡ true
           → ((m : ℕ) → number_at_path tree root p.path ≡ Some m → is_in_at tree m p.port ≡ true
           → Reaches tree directions.In m p.port)
@@ -328,7 +332,8 @@ module _ (tree : PackageTree ℕ) (root : ℕ) where
       pub here : Goes tree root place before behind
       pub goes : Leads tree root later behind to
 
-    parted : (chain : List ConnectionAt) (place : ConnectionAt) (from to : Port) (k : ℕ) → slice_get chain k ≡ Some place
+    parted : (chain : List ConnectionAt) (place : ConnectionAt) (from to : Port) (k : ℕ)
+        → slice_get chain k ≡ Some place
         → Leads tree root chain from to
         → Parted chain place from to
     parted [] place from to k e l = absurd (Contains-nil place (Contains-from_slice_get [] k place e))
@@ -353,7 +358,8 @@ module _ (tree : PackageTree ℕ) (root : ℕ) where
           goes = (l.0, p.goes, l.2);
         }
 
-    comes_by : (place : ConnectionAt) (before behind : Port) (g : Goes tree root place before behind) (cs : List ConnectionAt)
+    comes_by : (place : ConnectionAt) (before behind : Port) (g : Goes tree root place before behind)
+        (cs : List ConnectionAt)
         (from : Port)
         → Leads tree root cs from before → IsStart tree root from → (x : NumberedPort) → g.source ≡ x
         → LeadsFrom tree root directions.In g.number x
@@ -374,7 +380,8 @@ module _ (tree : PackageTree ℕ) (root : ℕ) where
               (way_at before (s ∷ place.path) q m.0 false at m.2)),
         )
 
-    goes_on_by : (place : ConnectionAt) (before behind : Port) (g : Goes tree root place before behind) (cs : List ConnectionAt)
+    goes_on_by : (place : ConnectionAt) (before behind : Port) (g : Goes tree root place before behind)
+        (cs : List ConnectionAt)
         (to : Port) → Ahead cs behind to
         → IsEnd tree root to → (x : NumberedPort) → g.target ≡ x
         → LeadsFrom tree root directions.Out g.number x
@@ -399,7 +406,8 @@ module _ (tree : PackageTree ℕ) (root : ℕ) where
     unfolding Ahead
     ahead_none p = refl
 
-    pub on_way : (n k : ℕ) (wire : ConnectionPorts) → slice_get (connection_ports_at tree n) k ≡ Some wire → Chained tree root sound n k
+    pub on_way : (n k : ℕ) (wire : ConnectionPorts) → slice_get (connection_ports_at tree n) k ≡ Some wire
+        → Chained tree root sound n k
         → IsOnChain tree root n wire
     on_way n k wire is c =
         let at = slice_get-from_Contains c.chain c.place c.among in

@@ -9,7 +9,8 @@ use Rattle.aadl_names.specs.declared.numbered_port.NumberedPort.TheVariants.{Own
 use Rattle.aadl_uses.specs.ContainmentAndUse.{number_at_path}
 use Rattle.aadl_uses.specs.proof.IncomingConnections.{connection_into}
 use Rattle.aadl_chains.specs.Chains.{Port, ConnectionAt, Goes, Leads}
-use Rattle.aadl_chains.specs.proof.UpwardWalks.{Crossing, WalkEnd, nowhere, at_root, crosses, walk_back_along, walk_back_into, walk_back}
+use Rattle.aadl_chains.specs.proof.UpwardWalks.{Crossing, WalkEnd, nowhere, at_root, crosses, walk_back_along}
+use Rattle.aadl_chains.specs.proof.UpwardWalks.{walk_back_into, walk_back}
 use Rattle.aadl_chains.proofs.FirstIncomingConnections.{Entered, entered, goes_into}
 
 abbrev port : List ℕ → ℕ → Port
@@ -53,7 +54,8 @@ module _ (tree : PackageTree ℕ) (root : ℕ) where
 
   turn_at : (last : Option ℕ) (path : List ℕ) (s p n k : ℕ) (r : WalkEnd) (source : NumberedPort)
       → number_at_path tree root path ≡ Some n
-      → connection_into tree n (Inner s p) ≡ Some (k, source) → walk_back tree root last (s ∷ path) p ≡ r → Turn last path s p r
+      → connection_into tree n (Inner s p) ≡ Some (k, source) → walk_back tree root last (s ∷ path) p ≡ r
+      → Turn last path s p r
   turn_at last path s p n k r (Own q) e i is =
       up n k q e (entered tree n (Inner s p) (k, Own q) i) (sym (climb_own last path s p n k q e i) ∙ is)
   turn_at last path s p n k r (Inner t q) e i is = over n k t q e (entered tree n (Inner s p) (k, Inner t q) i)
@@ -162,7 +164,8 @@ module _ (tree : PackageTree ℕ) (root : ℕ) where
             target_is = g.3;
           }
 
-      by : ((k q : ℕ) → walk_back tree root (Some k) path q ≡ crosses c → Crossed path q c) → Turn last path s p (crosses c)
+      by : ((k q : ℕ) → walk_back tree root (Some k) path q ≡ crosses c → Crossed path q c)
+          → Turn last path s p (crosses c)
           → Crossed (s ∷ path) p c
       by rest (stops e) = absurd (cc e)
       by rest (up n k q e x f) =

@@ -36,11 +36,13 @@ module _ (tree : PackageTree ℕ) (root : ℕ) where
       → number_at_path tree root (s ∷ path) ≡ Some m
   next_at path n s m e b = ap (option_and_then (λ k. below tree k s)) e ∙ b
 
-  pub below_at : (path : List ℕ) (n s m : ℕ) → number_at_path tree root path ≡ Some n → number_at_path tree root (s ∷ path) ≡ Some m
+  pub below_at : (path : List ℕ) (n s m : ℕ) → number_at_path tree root path ≡ Some n
+      → number_at_path tree root (s ∷ path) ≡ Some m
       → below tree n s ≡ Some m
   below_at path n s m e b = sym (ap (option_and_then (λ k. below tree k s)) e) ∙ b
 
-  pub is_in-at : (p : Port) (n : ℕ) → number_at_path tree root p.path ≡ Some n → is_in tree root p ≡ is_in_at tree n p.port
+  pub is_in-at : (p : Port) (n : ℕ) → number_at_path tree root p.path ≡ Some n
+      → is_in tree root p ≡ is_in_at tree n p.port
   is_in-at p n e = ap (λ o. goes_in (option_map (λ (f : Feature ℕ). f.direction)
       (slice_get (ports_at tree (option_and_then (implementation_at tree) o)) p.port))) e
 
@@ -54,7 +56,8 @@ module _ (tree : PackageTree ℕ) (root : ℕ) where
   thread_from path n e t = ap is_thread_in (sym (ap (option_and_then (implementation_at tree)) e) ∙ t.1.0) ∙ t.1.1
 
   -- ---- connections
-  goes_if : (place : ConnectionAt) (n : ℕ) (wire : ConnectionPorts) (source target : NumberedPort) (o : Option (Implementation ℕ))
+  goes_if : (place : ConnectionAt) (n : ℕ) (wire : ConnectionPorts) (source target : NumberedPort)
+      (o : Option (Implementation ℕ))
       → implementation_at tree n ≡ o
       → number_at_path tree root place.path ≡ Some n
       → slice_get (wires_of tree o) place.connection ≡ Some wire → wire.source ≡ Some source → wire.target ≡ Some target
@@ -78,7 +81,8 @@ module _ (tree : PackageTree ℕ) (root : ℕ) where
         enters = refl;
       }
 
-  goes_by : (path : List ℕ) (n : ℕ) (wire : ConnectionPorts) (source target : NumberedPort) → number_at_path tree root path ≡ Some n
+  goes_by : (path : List ℕ) (n : ℕ) (wire : ConnectionPorts) (source target : NumberedPort)
+      → number_at_path tree root path ≡ Some n
       → (h : Contains (connection_ports_at tree n) wire)
       → wire.source ≡ Some source → wire.target ≡ Some target
       → Goes tree root (record { path = path; connection = h.0 }) (port_at path source) (port_at path target)
@@ -172,13 +176,15 @@ module _ (tree : PackageTree ℕ) (root : ℕ) where
 
   module _ (sound : ArePermitted tree) where
     -- the facts about an end of a connection
-    leaves_own : (k q : ℕ) (wire : ConnectionPorts) → Contains (connection_ports_at tree k) wire → wire.source ≡ Some (Own q)
+    leaves_own : (k q : ℕ) (wire : ConnectionPorts) → Contains (connection_ports_at tree k) wire
+        → wire.source ≡ Some (Own q)
         → is_in_at tree k q ≡ true
     leaves_own k q wire among e =
         let d = sound.each k wire among in
         subst (MayLeave tree k) (same_Some d.source (Own q) (sym d.source_is ∙ e)) d.leaves
 
-    enters_own : (k q : ℕ) (wire : ConnectionPorts) → Contains (connection_ports_at tree k) wire → wire.target ≡ Some (Own q)
+    enters_own : (k q : ℕ) (wire : ConnectionPorts) → Contains (connection_ports_at tree k) wire
+        → wire.target ≡ Some (Own q)
         → is_in_at tree k q ≡ false
     enters_own k q wire among e =
         let d = sound.each k wire among in
@@ -284,10 +290,12 @@ module _ (tree : PackageTree ℕ) (root : ℕ) where
       pub is_connection : place.connection ≡ connection
 
     -- a chain to it and a chain from it form one chain
-    through_it : (path : List ℕ) (n : ℕ) (wire : ConnectionPorts) (source target : NumberedPort) (h : Contains (connection_ports_at tree n) wire)
+    through_it : (path : List ℕ) (n : ℕ) (wire : ConnectionPorts) (source target : NumberedPort)
+        (h : Contains (connection_ports_at tree n) wire)
         → number_at_path tree root path ≡ Some n
         → wire.source ≡ Some source → wire.target ≡ Some target
-        → (cs ds : List ConnectionAt) (from to : Port) → Leads tree root cs from (port_at path source) → IsStart tree root from
+        → (cs ds : List ConnectionAt) (from to : Port) → Leads tree root cs from (port_at path source)
+        → IsStart tree root from
         → Leads tree root ds (port_at path target) to → IsEnd tree root to → Chained n h.0
     through_it path n wire source target h stands s t cs ds from to l start m ends =
         let here : ConnectionAt = record { path = path; connection = h.0 } in
@@ -331,7 +339,8 @@ module _ (tree : PackageTree ℕ) (root : ℕ) where
         through_it used.0 n wire (Inner u p) (Inner v q) h used.1 s t f.chain g.chain f.from g.to f.leads f.start
         g.leads g.ends
 
-    pub chained : (n : ℕ) (wire : ConnectionPorts) → IsInUse tree root n → (h : Contains (connection_ports_at tree n) wire)
+    pub chained : (n : ℕ) (wire : ConnectionPorts) → IsInUse tree root n
+        → (h : Contains (connection_ports_at tree n) wire)
         → IsOnChain tree root n wire → Chained n h.0
     chained n wire used h w =
         let d = sound.each n wire h in

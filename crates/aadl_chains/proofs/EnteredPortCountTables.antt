@@ -28,7 +28,8 @@ use Rattle.aadl_chains.specs.Chains.{Port}
 use Rattle.aadl_chains.specs.proof.PermittedConnections.{MayEnter, ArePermitted}
 use Rattle.aadl_chains.proofs.ConnectionsOnChains.{is_in-at}
 use Rattle.aadl_chains.specs.proof.LimitedCounts.{IsNumber}
-use Rattle.aadl_chains.specs.proof.EnteredPortCountTables.{entered_count, entered_count_by, AreCounted, AreTakenBelow, IsCounted, IsNew}
+use Rattle.aadl_chains.specs.proof.EnteredPortCountTables.{entered_count, entered_count_by, AreCounted, AreTakenBelow}
+use Rattle.aadl_chains.specs.proof.EnteredPortCountTables.{IsCounted, IsNew}
 use Rattle.aadl_chains.specs.proof.EnteredPortCountTables.{AreAdded}
 use Rattle.aadl_chains.specs.proof.EnteredThreadPorts.{ComesFrom, IsEnteredThrough, AmongFirst, FromOwn}
 use Rattle.aadl_chains.proofs.LimitedCounts.{no_number, same_number}
@@ -59,14 +60,17 @@ module _ (tree : PackageTree ℕ) (limit n k : ℕ) (wire : ConnectionPorts) (ol
   pub own_taken : (port c : ℕ) → wire.source ≡ Some (Own port)
       → (AreTakenBelow tree limit old n → IsNumber limit (IsEnteredThrough tree n k) c)
       → ((other : PortAt) → entered_count new other
-      ≡ cond (same_port (declaration_port n port) other) (min limit (entered_count old (declaration_port n port) + c)) (entered_count old other))
+      ≡ cond (same_port (declaration_port n port) other) (min limit (entered_count old (declaration_port n port) + c))
+      (entered_count old other))
       → IsCounted tree limit n k wire old new
   own_taken port c source number grown = record {
     others = λ m q apart. grown (declaration_port m q)
-        ∙ ap (λ b. cond b (min limit (entered_count old (declaration_port n port) + c)) (entered_count old (declaration_port m q)))
+        ∙ ap (λ b. cond b (min limit (entered_count old (declaration_port n port) + c))
+        (entered_count old (declaration_port m q)))
         (same_port-apart n m port q (λ e. apart (sym e)));
     same = λ q apart. grown (declaration_port n q)
-        ∙ ap (λ b. cond b (min limit (entered_count old (declaration_port n port) + c)) (entered_count old (declaration_port n q)))
+        ∙ ap (λ b. cond b (min limit (entered_count old (declaration_port n port) + c))
+        (entered_count old (declaration_port n q)))
         (same_port-other n port q (λ e. apart (source ∙ ap (λ r. Some (Own r)) e)));
     more = λ q is known. (c, number known, at q (own_same port q (sym source ∙ is)));
   }
@@ -74,10 +78,13 @@ module _ (tree : PackageTree ℕ) (limit n k : ℕ) (wire : ConnectionPorts) (ol
       own_same : (p q : ℕ) → Some (Own p) ≡ Some (Own q) → p ≡ q
       own_same p q e = cc e
 
-      at : (q : ℕ) → port ≡ q → entered_count new (declaration_port n q) ≡ min limit (entered_count old (declaration_port n q) + c)
-      at q e = subst (λ r. entered_count new (declaration_port n r) ≡ min limit (entered_count old (declaration_port n r) + c)) e
+      at : (q : ℕ) → port ≡ q → entered_count new (declaration_port n q)
+          ≡ min limit (entered_count old (declaration_port n q) + c)
+      at q e = subst (λ r. entered_count new (declaration_port n r)
+          ≡ min limit (entered_count old (declaration_port n r) + c)) e
           (grown (declaration_port n port) ∙ ap
-          (λ b. cond b (min limit (entered_count old (declaration_port n port) + c)) (entered_count old (declaration_port n port)))
+          (λ b. cond b (min limit (entered_count old (declaration_port n port) + c))
+          (entered_count old (declaration_port n port)))
           (same_port-itself n port))
 
 updated_by : (b : Bool) (n x : ℕ) (o : Option ℕ) → n ≡ x
@@ -105,7 +112,8 @@ none_taken tree limit n k wire table never = record {
 -- ---- the connections of one implementation
 -- the counts that the first i connections add
 pub record FrontCounted (tree : PackageTree ℕ) (limit n i : ℕ) (old new : List (PortAt × ℕ)) : Type 0 where
-  pub others : (m q : ℕ) → (m ≡ n → ⊥) → entered_count new (declaration_port m q) ≡ entered_count old (declaration_port m q)
+  pub others : (m q : ℕ) → (m ≡ n → ⊥) → entered_count new (declaration_port m q)
+      ≡ entered_count old (declaration_port m q)
   pub sum : IsNew tree n old → AreTakenBelow tree limit old n → (q : ℕ)
       → IsNumber limit (AmongFirst (FromOwn tree n q) i) (entered_count new (declaration_port n q))
 
@@ -127,7 +135,8 @@ module _ (tree : PackageTree ℕ) (limit n : ℕ) where
   still_below old new fresh same known s m b q none =
       subst (IsNumber limit (ComesFrom tree m q)) (sym (same m q (fresh.apart s m b))) (known s m b q none)
 
-  one_more : (i : ℕ) (wire : ConnectionPorts) (old mid new : List (PortAt × ℕ)) → slice_get (connection_ports_at tree n) i ≡ Some wire
+  one_more : (i : ℕ) (wire : ConnectionPorts) (old mid new : List (PortAt × ℕ))
+      → slice_get (connection_ports_at tree n) i ≡ Some wire
       → IsCounted tree limit n i wire mid new
       → FrontCounted tree limit n i old mid → IsNew tree n old → AreTakenBelow tree limit old n
       → (q : ℕ) (o : Option NumberedPort) → wire.source ≡ o
@@ -151,7 +160,8 @@ module _ (tree : PackageTree ℕ) (limit n : ℕ) where
           → IsNumber limit (AmongFirst (FromOwn tree n q) (i + 1)) (entered_count new (declaration_port n q))
       grown own =
           let m = step.more q own (still_below old mid fresh front.others known) in
-          more_first limit (FromOwn tree n q) (one_own q) i (entered_count mid (declaration_port n q)) m.0 (entered_count new (declaration_port n q))
+          more_first limit (FromOwn tree n q) (one_own q) i (entered_count mid (declaration_port n q)) m.0
+          (entered_count new (declaration_port n q))
           (front.sum fresh known q)
           (same_number limit (IsEnteredThrough tree n i) (FromOwn tree n q i) m.0 (λ x t. ((wire, is, own), t))
           (λ x f. f.1) m.1) m.2
@@ -171,7 +181,8 @@ module _ (tree : PackageTree ℕ) (limit n : ℕ) where
       by (Some (Inner t p)) f = kept (λ g. let none : Some (Inner t p) ≡ Some (Own q) = sym f ∙ g in cc none)
       by (Some (Own p)) f = own p f (cases_order p q)
 
-  pub front_more : (i : ℕ) (wire : ConnectionPorts) (old mid new : List (PortAt × ℕ)) → slice_get (connection_ports_at tree n) i ≡ Some wire
+  pub front_more : (i : ℕ) (wire : ConnectionPorts) (old mid new : List (PortAt × ℕ))
+      → slice_get (connection_ports_at tree n) i ≡ Some wire
       → IsCounted tree limit n i wire mid new
       → FrontCounted tree limit n i old mid → FrontCounted tree limit n (i + 1) old new
   front_more i wire old mid new is step front = record {
@@ -190,7 +201,8 @@ module _ (tree : PackageTree ℕ) (limit n : ℕ) where
   }
     where
       within : (x : Port) (q : ℕ) → (k : ℕ) × FromOwn tree n q k x → AmongFirst (FromOwn tree n q) i x
-      within x q h = let lt = slice_get_within (connection_ports_at tree n) h.0 h.1.0.0 h.1.0.1 in (h.0, omega arith, h.1)
+      within x q h = let lt = slice_get_within (connection_ports_at tree n) h.0 h.1.0.0 h.1.0.1 in
+          (h.0, omega arith, h.1)
 
 -- ---- ports of threads and of others
 pub taken-number : (tree : PackageTree ℕ) (limit : ℕ) (table : List (PortAt × ℕ)) (m p : ℕ) → ArePermitted tree
@@ -199,7 +211,8 @@ pub taken-number : (tree : PackageTree ℕ) (limit : ℕ) (table : List (PortAt 
 taken-number tree limit table m p sound known = by (is_thread_at tree m) (is_in_at tree m p) refl refl
   where
     by : (a b : Bool) → is_thread_at tree m ≡ a → is_in_at tree m p ≡ b
-        → IsNumber limit (ComesFrom tree m p) (cond a (cond b (min limit 1) 0) (entered_count table (declaration_port m p)))
+        → IsNumber limit (ComesFrom tree m p) (cond a (cond b (min limit 1) 0)
+        (entered_count table (declaration_port m p)))
     by true true e f =
         let t = thread_by (implementation_at tree m) e in
         thread_number tree m limit p sound e f
@@ -211,7 +224,8 @@ taken-number tree limit table m p sound known = by (is_thread_at tree m) (is_in_
 module _ (tree : PackageTree ℕ) (limit n k : ℕ) where
   pub through-number : (wire : ConnectionPorts) (s p : ℕ) (table : List (PortAt × ℕ)) → ArePermitted tree
       → slice_get (connection_ports_at tree n) k ≡ Some wire
-      → wire.target ≡ Some (Inner s p) → (IsDuplicate (connection_ports_at tree n) k → ⊥) → AreTakenBelow tree limit table n
+      → wire.target ≡ Some (Inner s p) → (IsDuplicate (connection_ports_at tree n) k → ⊥)
+      → AreTakenBelow tree limit table n
       → IsNumber limit (IsEnteredThrough tree n k) (entered_count_by limit table tree (below tree n s) p)
   through-number wire s p table sound is target only known =
       let d = sound.each n wire (Contains-from_slice_get (connection_ports_at tree n) k wire is) in
@@ -223,7 +237,8 @@ module _ (tree : PackageTree ℕ) (limit n k : ℕ) where
 
   pub through-second : IsDuplicate (connection_ports_at tree n) k → IsNumber limit (IsEnteredThrough tree n k) 0
   through-second second =
-      no_number limit (IsEnteredThrough tree n k) (λ x t. second_never tree n k (Inner t.sub t.inner_port) second t.first)
+      no_number limit (IsEnteredThrough tree n k)
+      (λ x t. second_never tree n k (Inner t.sub t.inner_port) second t.first)
 
   -- its target is not a port of a subcomponent
   pub through-none : (wire : ConnectionPorts) → slice_get (connection_ports_at tree n) k ≡ Some wire

@@ -17,7 +17,8 @@ use Rattle.aadl_chains.specs.proof.PermittedConnections.{ArePermitted}
 use Rattle.aadl_chains.proofs.ConnectionsOnChains.{is_in-at}
 use Rattle.aadl_chains.specs.proof.LimitedCounts.{IsNumber}
 use Rattle.aadl_chains.specs.proof.UpwardWalks.{Crossing, at_root, crosses, walk_back, IsThreadPort}
-use Rattle.aadl_chains.specs.proof.EnteredThreadPorts.{ComesFrom, EndsLink, IsEnteredThrough, IsLinkBelow, AmongFirst, FromOwn}
+use Rattle.aadl_chains.specs.proof.EnteredThreadPorts.{ComesFrom, EndsLink, IsEnteredThrough, IsLinkBelow, AmongFirst}
+use Rattle.aadl_chains.specs.proof.EnteredThreadPorts.{FromOwn}
 use Rattle.aadl_chains.specs.proof.EnteredThreadPorts.{FromThread}
 use Rattle.aadl_chains.proofs.LimitedCounts.{no_number, one_number, both_numbers, image_number}
 use Rattle.aadl_chains.proofs.FirstIncomingConnections.{first_wire, into_first, known_into}
@@ -142,7 +143,8 @@ module _ (tree : PackageTree ℕ) (n : ℕ) where
         ),
       )
 
-  pub link_parts : (x : Port) → EndsLink tree n x → ((s : ℕ) × IsLinkBelow tree n s x) ⊎ ((k : ℕ) × FromThread tree n k x)
+  pub link_parts : (x : Port) → EndsLink tree n x
+      → ((s : ℕ) × IsLinkBelow tree n s x) ⊎ ((k : ℕ) × FromThread tree n k x)
   link_parts x c = by (last_of x.path)
     where
       never : (path : List ℕ) → path ≡ [] → (r : Crossing) → walk_back tree n None path x.port ≡ crosses r → ⊥
@@ -284,7 +286,8 @@ module _ (tree : PackageTree ℕ) (n : ℕ) where
         to : (x : Port) → EndsLink tree m x → IsLinkBelow tree n s (port (x.path ++ s ∷ []) x.port)
         to x e = record { number = m; inner = x.path; path_is = refl; is_below = b; ends = e }
 
-        from : (y : Port) → IsLinkBelow tree n s y → (x : Port) × EndsLink tree m x × (y ≡ port (x.path ++ s ∷ []) x.port)
+        from : (y : Port) → IsLinkBelow tree n s y
+            → (x : Port) × EndsLink tree m x × (y ≡ port (x.path ++ s ∷ []) x.port)
         from y d =
             let number_is : m ≡ d.number = same_Some m d.number (sym b ∙ d.is_below) in (
               port d.inner y.port,

@@ -86,8 +86,12 @@ module _ (tree : PackageTree ℕ) where
   first_wire n target k e =
       let f = first_at (λ (w : ConnectionPorts). is_port target w.target) (connection_ports_at tree n) 0 k e in
       let is = f.is in
-      let same : f.index ≡ k = omega arith in
-      (f.item, ap (slice_get (connection_ports_at tree n)) (sym same) ∙ f.is_item, is_site-true target f.item.target f.passes)
+      let same : f.index ≡ k = omega arith in (
+        f.item,
+        ap (slice_get (connection_ports_at tree n)) (sym same)
+            ∙ f.is_item,
+        is_site-true target f.item.target f.passes,
+      )
 
   source_if : (k : ℕ) (o : Option NumberedPort) (from : ℕ × NumberedPort)
       → option_map_or (λ (source : NumberedPort). Some (k, source)) o None ≡ Some from
@@ -112,7 +116,8 @@ module _ (tree : PackageTree ℕ) where
         first = a ∙ ap Some s.1;
       })
 
-  pub into_first : (n : ℕ) (target source : NumberedPort) (k : ℕ) (wire : ConnectionPorts) → first_into_at tree n target ≡ Some k
+  pub into_first : (n : ℕ) (target source : NumberedPort) (k : ℕ) (wire : ConnectionPorts)
+      → first_into_at tree n target ≡ Some k
       → slice_get (connection_ports_at tree n) k ≡ Some wire
       → wire.source ≡ Some source → connection_into tree n target ≡ Some (k, source)
   into_first n target source k wire first is s =
@@ -120,13 +125,15 @@ module _ (tree : PackageTree ℕ) where
       ∙ (ap (option_and_then (with_source k)) is
       ∙ ap (λ (o : Option NumberedPort). option_map_or (λ (source : NumberedPort). Some (k, source)) o None) s)
 
-  target_of : (n k : ℕ) (wire : ConnectionPorts) (target : NumberedPort) → slice_get (connection_ports_at tree n) k ≡ Some wire
+  target_of : (n k : ℕ) (wire : ConnectionPorts) (target : NumberedPort)
+      → slice_get (connection_ports_at tree n) k ≡ Some wire
       → wire.target ≡ Some target
       → target_in (connection_ports_at tree n) k ≡ Some target
   target_of n k wire target is e = ap (option_and_then (λ (w : ConnectionPorts). w.target)) is ∙ e
 
   -- a connection without an earlier one into the same port is the first into it
-  pub first_if : (n k : ℕ) (wire : ConnectionPorts) (target : NumberedPort) → slice_get (connection_ports_at tree n) k ≡ Some wire
+  pub first_if : (n k : ℕ) (wire : ConnectionPorts) (target : NumberedPort)
+      → slice_get (connection_ports_at tree n) k ≡ Some wire
       → wire.target ≡ Some target
       → (IsDuplicate (connection_ports_at tree n) k → ⊥) → first_into_at tree n target ≡ Some k
   first_if n k wire target is e only =
@@ -137,7 +144,8 @@ module _ (tree : PackageTree ℕ) where
       let least = some.2 in
       some.1 ∙ ap Some (by some.0 w.0 w.1 w.2 (omega arith) (cases_order some.0 k))
     where
-      by : (m : ℕ) (w : ConnectionPorts) → slice_get (connection_ports_at tree n) m ≡ Some w → w.target ≡ Some target → m ≤ k
+      by : (m : ℕ) (w : ConnectionPorts) → slice_get (connection_ports_at tree n) m ≡ Some w → w.target ≡ Some target
+          → m ≤ k
           → (m ≡ k) ⊎ ((m < k) ⊎ (k < m)) → m ≡ k
       by m w at f least (inl same) = same
       by m w at f least (inr (inl less)) =
@@ -162,7 +170,8 @@ module _ (tree : PackageTree ℕ) where
       never k e = grind (arith, nat_tests)
 
   module _ (root : ℕ) where
-    goes_if : (place : ConnectionAt) (n : ℕ) (wire : ConnectionPorts) (source target : NumberedPort) (o : Option (Implementation ℕ))
+    goes_if : (place : ConnectionAt) (n : ℕ) (wire : ConnectionPorts) (source target : NumberedPort)
+        (o : Option (Implementation ℕ))
         → implementation_at tree n ≡ o
         → number_at_path tree root place.path ≡ Some n → slice_get (wires_of tree o) place.connection ≡ Some wire
         → wire.source ≡ Some source
@@ -192,7 +201,8 @@ module _ (tree : PackageTree ℕ) where
           refl,
         )
 
-    pub goes_at : (path : List ℕ) (n k : ℕ) (wire : ConnectionPorts) (source target : NumberedPort) → number_at_path tree root path ≡ Some n
+    pub goes_at : (path : List ℕ) (n k : ℕ) (wire : ConnectionPorts) (source target : NumberedPort)
+        → number_at_path tree root path ≡ Some n
         → slice_get (connection_ports_at tree n) k ≡ Some wire → wire.source ≡ Some source → wire.target ≡ Some target
         → Goes tree root (record { path = path; connection = k }) (port_at path source) (port_at path target)
     goes_at path n k wire source target stands is s t =
@@ -214,7 +224,8 @@ module _ (tree : PackageTree ℕ) where
           → first_into_at tree g.number g.target ≡ Some place.connection
       first_of_goes place from to g =
           let is = wire_of_goes tree root place from to g in
-          let some = some_first (λ (w : ConnectionPorts). is_port g.target w.target) (connection_ports_at tree g.number) 0 place.connection
+          let some = some_first (λ (w : ConnectionPorts). is_port g.target w.target)
+          (connection_ports_at tree g.number) 0 place.connection
           (record { source = Some g.source; target = Some g.target }) is (itself g.target) in
           let w = first_wire g.number g.target some.0 some.1 in
           let same : some.0 ≡ place.connection = one g.number some.0 place.connection g.target (place.path, g.stands)
@@ -240,7 +251,8 @@ module _ (tree : PackageTree ℕ) where
       pub no_thread : is_thread_at tree n ≡ false
 
     module _ (sound : ArePermitted tree) where
-      known_wire : (n : ℕ) (wire : ConnectionPorts) (source target : NumberedPort) → Contains (connection_ports_at tree n) wire
+      known_wire : (n : ℕ) (wire : ConnectionPorts) (source target : NumberedPort)
+          → Contains (connection_ports_at tree n) wire
           → wire.source ≡ Some source → wire.target ≡ Some target
           → Known n source target
       known_wire n wire source target h es et =

@@ -87,7 +87,8 @@ module _ (tree : PackageTree ℕ) (root : ℕ) (sound : ArePermitted tree) where
   end_fault n fault used f = by f.1.kind
     where
       by : ((IsOnChainAt tree root n f.0 → ⊥) × (fault ≡ DeadEnd f.1.link.name.spelling f.1.link.name.at))
-          ⊎ (IsDuplicate (connection_ports_at tree n) f.0 × (fault ≡ TwoSources f.1.link.name.spelling f.1.link.name.at))
+          ⊎ (IsDuplicate (connection_ports_at tree n) f.0
+          × (fault ≡ TwoSources f.1.link.name.spelling f.1.link.name.at))
           → IsEndFault tree root fault
       by (inl d) = inl (f.1.link, dead_to n f.0 f.1.link used f.1.is_connection d.0, d.1)
       by (inr s) =
@@ -154,7 +155,8 @@ module _ (tree : PackageTree ℕ) (root n k : ℕ) (link : Connection ℕ) (wire
       by (inl c) = absurd (Contains-nil fault c)
       by (inr e) = record { link = link; is_connection = is_link; kind = inr (tells.0 refl, sym e) }
 
-  dead_all : (b : Bool) (fault : PackageFault) → (IsTrue b ↔ IsOnChain tree root n wire) → (IsOnChainAt tree root n k → ⊥)
+  dead_all : (b : Bool) (fault : PackageFault) → (IsTrue b ↔ IsOnChain tree root n wire)
+      → (IsOnChainAt tree root n k → ⊥)
       → DeadEnd link.name.spelling link.name.at ≡ fault → Contains (dead_end b link) fault
   dead_all true fault tells none e = absurd (none (wire, is_wire, tells.0 refl))
   dead_all false fault tells none e = subst (Contains (DeadEnd link.name.spelling link.name.at ∷ [])) e
@@ -281,7 +283,8 @@ nothing_at tree root n k old none =
     finds_nothing (IsFoundAt tree root n k) old (λ f h. none-some h.link (sym none ∙ h.is_connection))
 
 -- ---- whether a connection is on a chain
-pub ways_tell : (tree : PackageTree ℕ) (root n : ℕ) (wire : ConnectionPorts) (s t : NumberedPort) (a b : Bool) → wire.source ≡ Some s
+pub ways_tell : (tree : PackageTree ℕ) (root n : ℕ) (wire : ConnectionPorts) (s t : NumberedPort) (a b : Bool)
+    → wire.source ≡ Some s
     → wire.target ≡ Some t
     → (IsTrue a ↔ LeadsFrom tree root directions.In n s) → (IsTrue b ↔ LeadsFrom tree root directions.Out n t)
     → IsTrue (a && b) ↔ IsOnChain tree root n wire

@@ -98,7 +98,8 @@ module _ (tree : PackageTree ℕ) (d : Direction) where
       → IsJoined tree d n wire ports (with_port ports (declaration_port n port))
   one_joined ports n port wire is = record {
     kept = λ x h. kept ports (declaration_port n port) x h;
-    sound = λ thread among old. λ k q h. by k q thread among old (either ports (declaration_port n port) (declaration_port k q) h);
+    sound = λ thread among old. λ k q h. by k q thread among old
+        (either ports (declaration_port n port) (declaration_port k q) h);
     here = λ q s p o i r. subst (λ x. Contains (with_port ports (declaration_port n port)) (declaration_port n x))
         (same_Some port q (sym is ∙ joined_from ports n q s p (outer_end d wire) (inner_end d wire) o i r))
         (added ports (declaration_port n port));
@@ -113,8 +114,10 @@ module _ (tree : PackageTree ℕ) (d : Direction) where
           let r = reaches_in_to ports (below tree n j.sub) j.other old j.reaches in
           of_inner j.sub j.other r.0 wire thread among j.outer_is j.inner_is r.1 r.2
 
-      by : (k q : ℕ) → is_thread_at tree n ≡ false → Contains (connection_ports_at tree n) wire → AreReaching tree d ports
-          → Contains ports (declaration_port k q) ⊎ (declaration_port n port ≡ declaration_port k q) → Reaches tree d k q
+      by : (k q : ℕ) → is_thread_at tree n ≡ false → Contains (connection_ports_at tree n) wire
+          → AreReaching tree d ports
+          → Contains ports (declaration_port k q) ⊎ (declaration_port n port ≡ declaration_port k q)
+          → Reaches tree d k q
       by k q thread among old (inl h) = old k q h
       by k q thread among old (inr e) =
           subst (λ (x : PortAt). Reaches tree d x.declaration x.port) e (new thread among old)
@@ -135,7 +138,8 @@ module _ (tree : PackageTree ℕ) (d : Direction) where
   pub record FrontJoined (n i : ℕ) (old new : List PortAt) : Type 0 where
     pub kept : (port : PortAt) → Contains old port → Contains new port
     pub sound : AreReaching tree d old → AreReaching tree d new
-    pub here : (k : ℕ) (wire : ConnectionPorts) (port s p m : ℕ) → k < i → slice_get (connection_ports_at tree n) k ≡ Some wire
+    pub here : (k : ℕ) (wire : ConnectionPorts) (port s p m : ℕ) → k < i
+        → slice_get (connection_ports_at tree n) k ≡ Some wire
         → outer_end d wire ≡ Some (Own port)
         → inner_end d wire ≡ Some (Inner s p)
         → below tree n s ≡ Some m → HasAll tree d old m → Reaches tree d m p → Contains new (declaration_port n port)
@@ -178,7 +182,8 @@ module _ (tree : PackageTree ℕ) (d : Direction) where
       which k w port s p m at o e b all r (inl h) =
           joined.kept (declaration_port n port) (front.here k w port s p m h at o e b all r)
       which k w port s p m at o e b all r (inr h) =
-          let same : wire ≡ w = same_Some wire w (sym is ∙ (ap (slice_get (connection_ports_at tree n)) (sym h) ∙ at)) in
+          let same : wire ≡ w = same_Some wire w (sym is ∙ (ap (slice_get (connection_ports_at tree n)) (sym h) ∙ at))
+          in
           joined.here port s p (ap (outer_end d) same ∙ o) (ap (inner_end d) same ∙ e)
           (ap (λ x. reaches_in mid tree d x p) b ∙ reaches_from mid m p (still_all old mid m front.kept all) r)
 
@@ -221,7 +226,8 @@ module _ (tree : PackageTree ℕ) (d : Direction) where
         t.inner_is t.is (ready t.sub t.target t.is) t.rest;
   }
     where
-      get_at : (ws : List ConnectionPorts) (k : ℕ) (w : ConnectionPorts) → k < length ws → get_or ws k w ≡ w → slice_get ws k ≡ Some w
+      get_at : (ws : List ConnectionPorts) (k : ℕ) (w : ConnectionPorts) → k < length ws → get_or ws k w ≡ w
+          → slice_get ws k ≡ Some w
       get_at [] k w lt e = absurd (omega arith)
       get_at (x ∷ ws) zero w lt e = ap Some e
       get_at (x ∷ ws) (suc k) w lt e = get_at ws k w (omega arith) e

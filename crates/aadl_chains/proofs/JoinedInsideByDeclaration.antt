@@ -13,7 +13,8 @@ use Rattle.aadl_uses.proofs.PackageContainment.{below-same}
 use Rattle.aadl_uses.specs.PortsOfConnections.{connection_ports_at, wires_of}
 use Rattle.aadl_uses.specs.proof.ContainmentOrders.{IsOrder}
 use Rattle.aadl_chains.specs.declared.port_set.PortAt.{PortAt}
-use Rattle.aadl_chains.specs.proof.PortsJoinedInside.{declaration_port, AreReaching, HasAll, HasAllBelow, AreJoined, IsInside}
+use Rattle.aadl_chains.specs.proof.PortsJoinedInside.{declaration_port, AreReaching, HasAll, HasAllBelow, AreJoined}
+use Rattle.aadl_chains.specs.proof.PortsJoinedInside.{IsInside}
 use Rattle.aadl_chains.proofs.JoinedInsideByConnection.{through}
 
 pub one_of_two : (k i : ℕ) → k < i + 1 → (k < i) ⊎ (k ≡ i)
@@ -53,7 +54,8 @@ module _ (tree : PackageTree ℕ) (d : Direction) where
           front.complete j.0 m j.1 j.2
 
       which : (k m : ℕ) → slice_get keys k ≡ Some m → (k < at) ⊎ (k ≡ at) → HasAll tree d new m
-      which k m e (inl h) = λ port thread r. joined.kept (declaration_port m port) (front.complete k m h e port thread r)
+      which k m e (inl h) = λ port thread r. joined.kept (declaration_port m port)
+          (front.complete k m h e port thread r)
       which k m e (inr h) =
           subst (HasAll tree d new) (same_Some n m (sym is ∙ (ap (slice_get keys) (sym h) ∙ e))) (joined.complete ready)
 

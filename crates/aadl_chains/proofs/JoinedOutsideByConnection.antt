@@ -35,7 +35,8 @@ module _ (tree : PackageTree ℕ) (root : ℕ) (d : Direction) where
   pub record FrontLed (n i : ℕ) (old new : List PortAt) : Type 0 where
     pub kept : (port : PortAt) → Contains old port → Contains new port
     pub sound : AreLeading tree root d old → AreLeading tree root d new
-    pub here : (k : ℕ) (wire : ConnectionPorts) (s port m : ℕ) (site : NumberedPort) → k < i → HasLeading tree root d old n
+    pub here : (k : ℕ) (wire : ConnectionPorts) (s port m : ℕ) (site : NumberedPort) → k < i
+        → HasLeading tree root d old n
         → slice_get (connection_ports_at tree n) k ≡ Some wire
         → inner_end d wire ≡ Some (Inner s port)
         → outer_end d wire ≡ Some site → below tree n s ≡ Some m → LeadsFrom tree root d n site
@@ -85,7 +86,14 @@ module _ (tree : PackageTree ℕ) (root : ℕ) (d : Direction) where
         → InnerPort n (Some (Inner s q)) port
     inner_below n s q port None e is = absurd (none-some port is)
     inner_below n s q port (Some m) e is =
-        record { sub = s; number = q; target = m; end_is = refl; names = e; port_is = same_Some (declaration_port m q) port is }
+        record {
+          sub = s;
+          number = q;
+          target = m;
+          end_is = refl;
+          names = e;
+          port_is = same_Some (declaration_port m q) port is;
+        }
 
     inner_port : (n : ℕ) (o : Option NumberedPort) (port : PortAt) → port_in tree n o ≡ Some port → InnerPort n o port
     inner_port n None port e = absurd (none-some port e)
@@ -96,8 +104,10 @@ module _ (tree : PackageTree ℕ) (root : ℕ) (d : Direction) where
     chosen true o x e = (refl, e)
     chosen false o x e = absurd (none-some x e)
 
-    led_new : (outside : List PortAt) (n : ℕ) (wire : ConnectionPorts) (s q m : ℕ) (o : Option NumberedPort) → outer_end d wire ≡ o
-        → leads_from outside inside tree root d n o ≡ true → IsInUse tree root n → Contains (connection_ports_at tree n) wire
+    led_new : (outside : List PortAt) (n : ℕ) (wire : ConnectionPorts) (s q m : ℕ) (o : Option NumberedPort)
+        → outer_end d wire ≡ o
+        → leads_from outside inside tree root d n o ≡ true → IsInUse tree root n
+        → Contains (connection_ports_at tree n) wire
         → AreLeading tree root d outside → inner_end d wire ≡ Some (Inner s q) → below tree n s ≡ Some m
         → LeadsOut tree root d m q
     led_new outside n wire s q m None e t used among sound inner b = absurd (true≢false (sym t))
@@ -116,7 +126,8 @@ module _ (tree : PackageTree ℕ) (root : ℕ) (d : Direction) where
       here = λ x e. subst (Contains (with_port outside port)) (same_Some port x (sym is ∙ e)) (added outside port);
     }
       where
-        by : IsInUse tree root n → Contains (connection_ports_at tree n) wire → AreLeading tree root d outside → (k q : ℕ)
+        by : IsInUse tree root n → Contains (connection_ports_at tree n) wire → AreLeading tree root d outside
+            → (k q : ℕ)
             → Contains outside (declaration_port k q) ⊎ (port ≡ declaration_port k q) → LeadsOut tree root d k q
         by used among old k q (inl h) = old k q h
         by used among old k q (inr e) =
@@ -127,7 +138,8 @@ module _ (tree : PackageTree ℕ) (root : ℕ) (d : Direction) where
             subst (λ (x : PortAt). LeadsOut tree root d x.declaration x.port) (i.port_is ∙ e)
             (led_new outside n wire i.sub i.number i.target (outer_end d wire) refl c.0 used among old i.end_is i.names)
 
-    pub none_led : (outside : List PortAt) (n : ℕ) (wire : ConnectionPorts) → led_by outside inside tree root d n wire ≡ None
+    pub none_led : (outside : List PortAt) (n : ℕ) (wire : ConnectionPorts)
+        → led_by outside inside tree root d n wire ≡ None
         → IsLed tree root d inside n wire outside outside
     none_led outside n wire is = record {
       kept = λ x h. h;
@@ -162,7 +174,8 @@ module _ (tree : PackageTree ℕ) (root : ℕ) (d : Direction) where
         which k w s port m site has_all at e o b l (inl h) =
             led.kept (declaration_port m port) (front.here k w s port m site h has_all at e o b l)
         which k w s port m site has_all at e o b l (inr h) =
-            let same : wire ≡ w = same_Some wire w (sym is ∙ (ap (slice_get (connection_ports_at tree n)) (sym h) ∙ at)) in
+            let same : wire ≡ w = same_Some wire w (sym is
+            ∙ (ap (slice_get (connection_ports_at tree n)) (sym h) ∙ at)) in
             let t : leads_from mid inside tree root d n (outer_end d wire) ≡ true =
             ap (leads_from mid inside tree root d n) (ap (outer_end d) same ∙ o)
             ∙ leads_found mid n site (still old mid n front.kept has_all) l in

@@ -54,7 +54,8 @@ module _ (tree : PackageTree ℕ) (root : ℕ) (d : Direction) (keys : List ℕ)
 
   module _ (order : IsOrder (containment tree) keys) where
     -- the position of a declaration with connections in the order
-    placed_at : (k : ℕ) (wire : ConnectionPorts) → Contains (connection_ports_at tree k) wire → (j : ℕ) × (slice_get keys j ≡ Some k)
+    placed_at : (k : ℕ) (wire : ConnectionPorts) → Contains (connection_ports_at tree k) wire
+        → (j : ℕ) × (slice_get keys j ≡ Some k)
     placed_at k wire among = which (split tree d k (length tree.declarations))
       where
         which : (k < length tree.declarations) ⊎ (length tree.declarations ≤ k) → (j : ℕ) × (slice_get keys j ≡ Some k)

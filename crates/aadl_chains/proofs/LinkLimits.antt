@@ -92,7 +92,12 @@ module _ (tree : PackageTree ℕ) (root : ℕ) where
       let r = crossed tree root None x.path x.port c e.1.1 in
       let stands : number_at_path tree root c.path ≡ Some c.declaration = r.goes.stands ∙ ap Some r.number_is in
       let g = gives e.1.2.2 (c.sub ∷ c.path) (next_at tree root c.path c.declaration c.sub e.1.2.0 stands e.1.2.1) in
-      let ends : CarriedChain = record { from = g.from; to = x; declaration = c.declaration; connection = c.connection } in
+      let ends : CarriedChain = record {
+        from = g.from;
+        to = x;
+        declaration = c.declaration;
+        connection = c.connection;
+      } in
       (ends, link_from tree root ends c g.chain e.0 e.1.1 g.thread g.out g.leads refl refl, refl)
 
   links_of : (xs : List Port) → AllByRecursion (EndsLink tree root) xs
@@ -106,7 +111,8 @@ module _ (tree : PackageTree ℕ) (root : ℕ) where
   pairs_none : {X : Type 0} (R : X → X → Type 0) → AllPairs R []
   pairs_none R i j d less lt = absurd (omega arith)
 
-  others_of : (x : CarriedChain) (all : List CarriedChain) → AllByRecursion (λ y. x.to ≡ y → ⊥) (map (λ (e : CarriedChain). e.to) all)
+  others_of : (x : CarriedChain) (all : List CarriedChain)
+      → AllByRecursion (λ y. x.to ≡ y → ⊥) (map (λ (e : CarriedChain). e.to) all)
       → AllByRecursion (OtherTarget x) all
   others_of x [] a = tt
   others_of x (y ∷ all) a = (a.0, others_of x all a.1)
@@ -151,7 +157,8 @@ module _ (tree : PackageTree ℕ) (root : ℕ) where
         to : limit < number → MoreThan limit (IsLink tree root) OtherTarget
         to lt =
             let l = links_of counted.all counted.are.each in
-            let size : length l.0 ≡ length counted.all = sym (length-map l.0 (λ (e : CarriedChain). e.to)) ∙ ap length l.2 in
+            let size : length l.0 ≡ length counted.all =
+            sym (length-map l.0 (λ (e : CarriedChain). e.to)) ∙ ap length l.2 in
             let is = counted.number_is in
             record {
               some = l.0;
@@ -220,7 +227,8 @@ module _ (tree : PackageTree ℕ) (limit n : ℕ) where
       → IsNumber limit (AmongFirst (IsLinkBelow tree n) i) a
       → IsNumber limit (λ port. (s : ℕ) × IsLinkBelow tree n s port) a
   deeper_all i a past x =
-      same_number limit (AmongFirst (IsLinkBelow tree n) i) (λ port. (s : ℕ) × IsLinkBelow tree n s port) a (λ z h. (h.0, h.2))
+      same_number limit (AmongFirst (IsLinkBelow tree n) i) (λ port. (s : ℕ) × IsLinkBelow tree n s port) a
+      (λ z h. (h.0, h.2))
       (λ z d. let lt = sub_within d.0 d.1.number d.1.is_below in (d.0, omega arith, d.1)) x
 
   pub none_deeper : IsNumber limit (AmongFirst (IsLinkBelow tree n) 0) 0
@@ -238,7 +246,8 @@ module _ (tree : PackageTree ℕ) (limit n : ℕ) where
       → IsNumber limit (AmongFirst (FromThread tree n) (i + 1)) b
   carried_more i a c b x y is = more_first limit (FromThread tree n) one_carries i a c b x y is
 
-  pub carried_all : (i a : ℕ) → length (connection_ports_at tree n) ≤ i → IsNumber limit (AmongFirst (FromThread tree n) i) a
+  pub carried_all : (i a : ℕ) → length (connection_ports_at tree n) ≤ i
+      → IsNumber limit (AmongFirst (FromThread tree n) i) a
       → IsNumber limit (λ port. (k : ℕ) × FromThread tree n k port) a
   carried_all i a past x =
       same_number limit (AmongFirst (FromThread tree n) i) (λ port. (k : ℕ) × FromThread tree n k port) a
@@ -251,14 +260,16 @@ module _ (tree : PackageTree ℕ) (limit n : ℕ) where
       → ReachesIn tree directions.Out n t q → IsNumber limit (IsEnteredThrough tree n k) c
       → IsNumber limit (FromThread tree n k) c
   carried-number k c t q wire is source reaches number =
-      same_number limit (IsEnteredThrough tree n k) (FromThread tree n k) c (λ x h. ((wire, t, q, is, source, reaches), h))
+      same_number limit (IsEnteredThrough tree n k) (FromThread tree n k) c
+      (λ x h. ((wire, t, q, is, source, reaches), h))
       (λ x f. f.1) number
 
   pub carried-none : (k : ℕ) (wire : ConnectionPorts) → slice_get (connection_ports_at tree n) k ≡ Some wire
       → ((t q : ℕ) → wire.source ≡ Some (Inner t q) → ReachesIn tree directions.Out n t q → ⊥)
       → IsNumber limit (FromThread tree n k) 0
   carried-none k wire is never = no_number limit (FromThread tree n k)
-      (λ x f. never f.0.1 f.0.2 (ap (λ (w : ConnectionPorts). w.source) (same_Some wire f.0.0 (sym is ∙ f.0.3)) ∙ f.0.4) f.0.5)
+      (λ x f. never f.0.1 f.0.2 (ap (λ (w : ConnectionPorts). w.source) (same_Some wire f.0.0 (sym is ∙ f.0.3))
+      ∙ f.0.4) f.0.5)
 
   pub carried-not : (k s p : ℕ) (wire : ConnectionPorts) → slice_get (connection_ports_at tree n) k ≡ Some wire
       → wire.source ≡ Some (Inner s p)
@@ -289,7 +300,8 @@ one_each tree root none n i j target used a b = by (cases_order i j)
   where
     listed_at : (o : Option (Implementation ℕ)) (k : ℕ) → target_in (wires_of tree o) k ≡ Some target
         → (x : Connection ℕ) × (slice_get (connections_of o) k ≡ Some x)
-    listed_at None k e = option_and_then_some (λ (w : ConnectionPorts). w.target) (slice_get (wires_of tree None) k) target e
+    listed_at None k e = option_and_then_some (λ (w : ConnectionPorts). w.target) (slice_get (wires_of tree None) k)
+        target e
         (λ w h f. absurd (Contains-nil w (Contains-from_slice_get [] k w h)))
     listed_at (Some x) k e =
         option_and_then_some (λ (w : ConnectionPorts). w.target) (slice_get (wires_of tree (Some x)) k) target e

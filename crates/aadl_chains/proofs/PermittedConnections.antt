@@ -24,9 +24,11 @@ use Rattle.aadl_names.specs.BehaviourAnnexes.{behaviours}
 use Rattle.aadl_names.specs.NameResolution.{implementation_in, implementation_at, is_thread, subcomponents_of}
 use Rattle.aadl_names.specs.NameResolution.{target_of, referred, port_named, sub_named, inner_ports, inner_end_port}
 use Rattle.aadl_names.specs.NameResolution.{end_port_by, end_port, ports_at, ports_of, direction_of, with_direction}
-use Rattle.aadl_names.specs.PackageNameFaults.{is_own, goes_in, may_leave, may_enter, end_faults, directed_end_port, connection_faults}
+use Rattle.aadl_names.specs.PackageNameFaults.{is_own, goes_in, may_leave, may_enter, end_faults, directed_end_port}
+use Rattle.aadl_names.specs.PackageNameFaults.{connection_faults}
 use Rattle.aadl_names.specs.PackageNameFaults.{subcomponent_faults, names_faults, may_contain, variables_faults}
-use Rattle.aadl_names.specs.PackageNameFaults.{heading_faults, outer_faults, annex_faults, declaration_faults, wrong_names}
+use Rattle.aadl_names.specs.PackageNameFaults.{heading_faults, outer_faults, annex_faults, declaration_faults}
+use Rattle.aadl_names.specs.PackageNameFaults.{wrong_names}
 use Rattle.aadl_names.specs.PackageNameFaults.{package_faults}
 use Rattle.aadl_names.proofs.FirstFaultSoFar.{wrong_none}
 use Rattle.aadl_uses.specs.ContainmentAndUse.{below}
@@ -82,7 +84,8 @@ module _ (tree : PackageTree ℕ) (x : Implementation ℕ) where
   by_second s p first None e = let m =
       option_map-parts Own (port_named (ports_of tree x) first.spelling) (Inner s p) e in let c = m.2 in absurd (cc c)
   by_second s p first (Some port) e =
-      option_and_then_some (inner_end_port tree x port.spelling) (sub_named x.subcomponents first.spelling) (Inner s p) e
+      option_and_then_some (inner_end_port tree x port.spelling) (sub_named x.subcomponents first.spelling) (Inner s p)
+      e
       (λ t h f. inner_site_by t s p port.spelling f)
 
   inner_port : (s p : ℕ) (end : ConnectionEnd ℕ) → end_port tree x end ≡ Some (Inner s p) → InnerPort s p
@@ -145,7 +148,8 @@ module _ (tree : PackageTree ℕ) (x : Implementation ℕ) where
         let at = c.name.at in
         let a = end_faults may_leave c.source at (directed_end_port tree x c.source) in
         let b = end_faults may_enter c.target at (directed_end_port tree x c.target) in
-        let o = wrong_if (is_own (directed_end_port tree x c.source) && is_own (directed_end_port tree x c.target)) at in
+        let o = wrong_if (is_own (directed_end_port tree x c.source) && is_own (directed_end_port tree x c.target)) at
+        in
         let l = list_faults holders.Connection c.properties in
         let front = append_is_nil_left (a ++ b ++ o) l e in
         let third = append_is_nil_right (a ++ b) o front in
@@ -166,11 +170,13 @@ module _ (tree : PackageTree ℕ) (x : Implementation ℕ) where
           not_both = not_both s.0 t.0 (
               ap (λ u. is_own u && is_own (Some (with_direction tree x t.0))) (ap Some s.2 ∙ sym p.1)
               ∙ (ap (λ u. is_own (directed_end_port tree x c.source) && is_own u) (ap Some t.2 ∙ sym q.1)
-              ∙ wrong_none (is_own (directed_end_port tree x c.source) && is_own (directed_end_port tree x c.target)) at third));
+              ∙ wrong_none (is_own (directed_end_port tree x c.source) && is_own (directed_end_port tree x c.target))
+              at third));
         }
 
     -- the ports of a connection
-    wired : (c : Connection ℕ) (wire : ConnectionPorts) → Declares c → ports_of_connection tree x c ≡ wire → IsPermitted tree n wire
+    wired : (c : Connection ℕ) (wire : ConnectionPorts) → Declares c → ports_of_connection tree x c ≡ wire
+        → IsPermitted tree n wire
     wired c wire d e = record {
       source = d.source;
       target = d.target;
@@ -204,7 +210,8 @@ module _ (tree : PackageTree ℕ) (x : Implementation ℕ) where
         → flat_map (subcomponent_faults tree x.category) x.subcomponents ≡ [] → Declares c → ⊥
     no_connection c thread clean d = by d.source d.target d.source_is d.target_is d.not_both
       where
-        by : (s t : NumberedPort) → end_port tree x c.source ≡ Some s → end_port tree x c.target ≡ Some t → NotBothOwn s t → ⊥
+        by : (s t : NumberedPort) → end_port tree x c.source ≡ Some s → end_port tree x c.target ≡ Some t
+            → NotBothOwn s t → ⊥
         by (Own p) (Own q) e f b = b
         by (Own p) (Inner t q) e f b = no_subs t q thread clean (inner_port t q c.target f)
         by (Inner s p) t e f b = no_subs s p thread clean (inner_port s p c.source e)
@@ -260,7 +267,8 @@ module _ (tree : PackageTree ℕ) (root : ℕ) (clean : package_faults tree root
   each_by n wire None e h = absurd (Contains-nil wire h)
   each_by n wire (Some x) e h =
       let l =
-      listed (ports_of_connection tree x) x.connections h.0 wire (slice_get-from_Contains (wires_of tree (Some x)) wire h) in
+      listed (ports_of_connection tree x) x.connections h.0 wire
+      (slice_get-from_Contains (wires_of tree (Some x)) wire h) in
       wired tree x n e l.0 wire (declares_at n h.0 x l.0 e l.1) l.2
 
   threads_by : (n : ℕ) (o : Option (Implementation ℕ)) → implementation_at tree n ≡ o → is_thread_in o ≡ true

@@ -23,7 +23,8 @@ use Rattle.aadl_chains.specs.LinksFeedsAndTaps.{CarriedChain, IsLink, IsFeed, Is
 use Rattle.aadl_chains.proofs.UniqueIncomingChains.{passes_end, passes_before, only_start, no_chain}
 use Rattle.aadl_chains.proofs.FirstIncomingConnections.{entered, goes_into, into_of_goes, inner_of}
 use Rattle.aadl_chains.proofs.WalksOfChains.{into_own}
-use Rattle.aadl_chains.proofs.CarriedChainsByWalks.{link_from, feed_from, tap_from, LinkMet, link_met, FeedMet, feed_met}
+use Rattle.aadl_chains.proofs.CarriedChainsByWalks.{link_from, feed_from, tap_from, LinkMet, link_met, FeedMet}
+use Rattle.aadl_chains.proofs.CarriedChainsByWalks.{feed_met}
 use Rattle.aadl_chains.proofs.CarriedChainsByWalks.{TapMet, tap_met}
 use Rattle.aadl_chains.proofs.FaultlessConnections.{sound_by}
 
@@ -116,7 +117,8 @@ module _ (tree : PackageTree ℕ) (root : ℕ) (sound : ArePermitted tree) (one 
   -- ---- links and feeds
   module _ (no_thread : is_thread_at tree root ≡ false) (to : Port) where
     met_link : (ends : CarriedChain) → IsLink tree root ends → ends.to ≡ to
-        → (m : LinkMet tree root sound one no_thread ends) × (walk_back tree root None to.path to.port ≡ crosses m.crossing)
+        → (m : LinkMet tree root sound one no_thread ends)
+        × (walk_back tree root None to.path to.port ≡ crosses m.crossing)
     met_link ends l e =
         let m = link_met tree root sound one no_thread ends l in
         (m, ap (λ (p : Port). walk_back tree root None p.path p.port) (sym e) ∙ m.climbs)
@@ -232,7 +234,8 @@ module _ (tree : PackageTree ℕ) (root : ℕ) (sound : ArePermitted tree) (one 
         let m = tap_met tree root sound one no_thread ends l in
         (m, ap (λ (p : Port). connection_into tree root (Own p.port)) (sym e) ∙ m.enters)
 
-    pub no_tap : connection_into tree root (Own port) ≡ None → TracesTap tree root (record { path = []; port = port }) None
+    pub no_tap : connection_into tree root (Own port) ≡ None
+        → TracesTap tree root (record { path = []; port = port }) None
     no_tap none ends l e = let m = met_tap ends l e in
         none-some (ends.connection, Inner m.0.sub m.0.port) (sym none ∙ m.1)
 
@@ -271,7 +274,8 @@ module _ (tree : PackageTree ℕ) (root : ℕ) (sound : ArePermitted tree) (one 
                 (entered tree root (Own port) (k, Inner t q) is) giver.thread giver.out giver.leads refl refl;
             only = λ ends l f.
                 let m = met_tap ends l f in
-                ends_by ends found (giver.only m.0.earlier ends.from m.0.start (there ends m.0 m.1)) f m.0.declaration_is
+                ends_by ends found (giver.only m.0.earlier ends.from m.0.start (there ends m.0 m.1)) f
+                m.0.declaration_is
                 (same_into ends.connection k m.0.sub m.0.port t q (sym m.1 ∙ is)).0;
           })
         where

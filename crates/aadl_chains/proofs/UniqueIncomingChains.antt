@@ -41,7 +41,8 @@ module _ (tree : PackageTree ℕ) (root : ℕ) where
 
   module _ (sound : AreFaultless tree root) where
     -- two connections with the same path and target have the same component and source
-    same_place : (a b : ConnectionAt) (from1 from2 to : Port) → (g : Goes tree root a from1 to) (h : Goes tree root b from2 to)
+    same_place : (a b : ConnectionAt) (from1 from2 to : Port)
+        → (g : Goes tree root a from1 to) (h : Goes tree root b from2 to)
         → a.path ≡ b.path
         → g.target ≡ h.target → (a ≡ b) × (from1 ≡ from2)
     same_place a b from1 from2 to g h path target =
@@ -68,7 +69,8 @@ module _ (tree : PackageTree ℕ) (root : ℕ) where
         (place_by a b path i, g.leaves ∙ (f ∙ sym h.leaves))
 
     -- an own out port is not an in port of a subcomponent
-    never_both : (a b : ConnectionAt) (from1 from2 to : Port) → (g : Goes tree root a from1 to) (h : Goes tree root b from2 to)
+    never_both : (a b : ConnectionAt) (from1 from2 to : Port)
+        → (g : Goes tree root a from1 to) (h : Goes tree root b from2 to)
         → (p t q : ℕ)
         → MayEnter tree g.number (Own p) → MayEnter tree h.number (Inner t q)
         → port_at a.path (Own p) ≡ port_at b.path (Inner t q) → ⊥
@@ -78,7 +80,8 @@ module _ (tree : PackageTree ℕ) (root : ℕ) where
         let here : is_in tree root (port_at a.path (Own p)) ≡ false = goes_at a.path g.number p g.stands ∙ mg in
         opposed (is_in tree root (port_at a.path (Own p))) (ap (is_in tree root) e ∙ there) here
 
-    by_targets : (a b : ConnectionAt) (from1 from2 to : Port) → (g : Goes tree root a from1 to) (h : Goes tree root b from2 to)
+    by_targets : (a b : ConnectionAt) (from1 from2 to : Port)
+        → (g : Goes tree root a from1 to) (h : Goes tree root b from2 to)
         → (x y : NumberedPort) → g.target ≡ x
         → h.target ≡ y
         → MayEnter tree g.number x → MayEnter tree h.number y → port_at a.path x ≡ port_at b.path y

@@ -12,7 +12,8 @@ use Rattle.aadl_chains.specs.proof.PortsJoinedInside.{is_in_at}
 use Rattle.aadl_chains.specs.proof.PermittedConnections.{MayLeave, ArePermitted}
 use Rattle.aadl_chains.proofs.ConnectionsOnChains.{next_at}
 use Rattle.aadl_chains.specs.declared.chain_tracing.ConnectionInto.{ConnectionInto}
-use Rattle.aadl_chains.specs.proof.UpwardWalks.{Crossing, WalkEnd, nowhere, crosses, walk_back, walk_back_by, walk_back_along}
+use Rattle.aadl_chains.specs.proof.UpwardWalks.{Crossing, WalkEnd, nowhere, crosses, walk_back, walk_back_by}
+use Rattle.aadl_chains.specs.proof.UpwardWalks.{walk_back_along}
 use Rattle.aadl_chains.specs.proof.UpwardWalks.{walk_back_into}
 use Rattle.aadl_chains.specs.proof.WalkResults.{entry}
 use Rattle.aadl_chains.proofs.FirstIncomingConnections.{known}
@@ -34,7 +35,8 @@ module _ (tree : PackageTree ℕ) (root : ℕ) where
   -- the position of the trace after a connection
   climb_on : List ℕ → Option ConnectionInto → WalkEnd
   climb_on path None = nowhere
-  climb_on path (Some e) = walk_back_by (λ k q. walk_back tree root (Some k) path q) path e.declaration e.connection e.source
+  climb_on path (Some e) = walk_back_by (λ k q. walk_back tree root (Some k) path q) path e.declaration e.connection
+      e.source
 
   on_into : (path : List ℕ) (n : ℕ) (o : Option (ℕ × NumberedPort))
       → walk_back_along (λ k q. walk_back tree root (Some k) path q) path n o
@@ -51,7 +53,8 @@ module _ (tree : PackageTree ℕ) (root : ℕ) where
 
   climbs_on : (last : Option ℕ) (path : List ℕ) (d p : ℕ) → d < length path
       → walk_back tree root last (reverse (take (d + 1) path)) p
-      ≡ climb_on (reverse (take d path)) (entry tree (number_at_path tree root (reverse (take d path))) (get_or path d 0) p)
+      ≡ climb_on (reverse (take d path)) (entry tree (number_at_path tree root (reverse (take d path)))
+      (get_or path d 0) p)
   climbs_on last path d p lt =
       ap (λ l. walk_back tree root last l p) (reversed_more path d lt)
       ∙ on_entry (reverse (take d path)) (get_or path d 0) p (number_at_path tree root (reverse (take d path)))
@@ -68,7 +71,8 @@ module _ (tree : PackageTree ℕ) (root : ℕ) where
         ≡ walk_back tree root (Some x.connection) (reverse (take d path)) q
     unfolding climb_on
     climbs_own x q e own = climbs_on last path d p lt ∙ (ap (climb_on (reverse (take d path))) e
-        ∙ ap (walk_back_by (λ k q. walk_back tree root (Some k) (reverse (take d path)) q) (reverse (take d path)) x.declaration
+        ∙ ap (walk_back_by (λ k q. walk_back tree root (Some k) (reverse (take d path)) q) (reverse (take d path))
+        x.declaration
         x.connection) own)
 
     pub climbs_inner : (x : ConnectionInto) (t q : ℕ)
@@ -84,7 +88,8 @@ module _ (tree : PackageTree ℕ) (root : ℕ) where
         })
     unfolding climb_on
     climbs_inner x t q e inner = climbs_on last path d p lt ∙ (ap (climb_on (reverse (take d path))) e
-        ∙ ap (walk_back_by (λ k q. walk_back tree root (Some k) (reverse (take d path)) q) (reverse (take d path)) x.declaration
+        ∙ ap (walk_back_by (λ k q. walk_back tree root (Some k) (reverse (take d path)) q) (reverse (take d path))
+        x.declaration
         x.connection) inner)
 
   -- the implementation at the source of a crossing

@@ -49,7 +49,8 @@ module _ (tree : PackageTree ℕ) (root : ℕ) where
       ap (λ (e : Implementation ℕ). is_crossing tree e g.link) (sym c)
       ∙ (ap (is_crossing tree x.component) (sym l) ∙ x.kind) in
       let b =
-      and_parts (not_own (end_port tree g.component g.link.source)) (not_own (end_port tree g.component g.link.target)) k in
+      and_parts (not_own (end_port tree g.component g.link.source)) (not_own (end_port tree g.component g.link.target))
+      k in
       (ap not_own (sym g.is_source) ∙ b.0, ap not_own (sym g.is_target) ∙ b.1)
 
   module _ (sound : ArePermitted tree) where
@@ -156,7 +157,8 @@ module _ (tree : PackageTree ℕ) (root : ℕ) where
               (Contains-cons_cases c cs place h) d;
         }
       where
-        by_crossing : (place : ConnectionAt) → Crosses place → {r : ℕ} → g.target ≡ Own r → (c ≡ place) ⊎ Contains cs place
+        by_crossing : (place : ConnectionAt) → Crosses place → {r : ℕ} → g.target ≡ Own r
+            → (c ≡ place) ⊎ Contains cs place
             → {m : ℕ} → Down cs from mid m → ⊥
         by_crossing place x is (inl same) d =
             let b = both_inner c mid p g (subst Crosses (sym same) x) in
@@ -215,7 +217,8 @@ module _ (tree : PackageTree ℕ) (root : ℕ) where
         by_is = λ place h e. absurd (Contains-nil place h);
       }
 
-      up_root : (last : Option ℕ) (c : ConnectionAt) (cs : List ConnectionAt) (from mid p : Port) (g : Goes tree root c mid p)
+      up_root : (last : Option ℕ) (c : ConnectionAt) (cs : List ConnectionAt) (from mid p : Port)
+          (g : Goes tree root c mid p)
           (s r q : ℕ) → g.source ≡ Own q
           → g.target ≡ Inner s r → MetRoot (Some c.connection) cs from mid → MetRoot last (c ∷ cs) from p
       up_root last c cs from mid p g s r q e f m = record {
@@ -249,10 +252,12 @@ module _ (tree : PackageTree ℕ) (root : ℕ) where
 
           by : (place : ConnectionAt) → place.path ≡ [] → (c ≡ place) ⊎ Contains cs place → m.by ≡ Some place.connection
           by place root_is (inl same) =
-              here (ap (λ (x : ConnectionAt). x.path) same ∙ root_is) ∙ ap (λ (x : ConnectionAt). Some x.connection) same
+              here (ap (λ (x : ConnectionAt). x.path) same ∙ root_is)
+              ∙ ap (λ (x : ConnectionAt). Some x.connection) same
           by place root_is (inr h) = m.by_is place h root_is
 
-      up_crossing : (last : Option ℕ) (c : ConnectionAt) (cs : List ConnectionAt) (from mid p : Port) (g : Goes tree root c mid p)
+      up_crossing : (last : Option ℕ) (c : ConnectionAt) (cs : List ConnectionAt) (from mid p : Port)
+          (g : Goes tree root c mid p)
           (s r q : ℕ) → g.source ≡ Own q
           → g.target ≡ Inner s r → MetCrossing (Some c.connection) cs from mid → MetCrossing last (c ∷ cs) from p
       up_crossing last c cs from mid p g s r q e f m = record {
@@ -289,7 +294,8 @@ module _ (tree : PackageTree ℕ) (root : ℕ) where
               absurd (true≢false (sym b.0 ∙ ap (λ (s : NumberedPort). not_own (Some s)) e))
           by place x (inr h) = m.only place h x
 
-      over_crossing : (last : Option ℕ) (c : ConnectionAt) (cs : List ConnectionAt) (from mid p : Port) (g : Goes tree root c mid p)
+      over_crossing : (last : Option ℕ) (c : ConnectionAt) (cs : List ConnectionAt) (from mid p : Port)
+          (g : Goes tree root c mid p)
           (s r t q : ℕ) → g.source ≡ Inner t q
           → g.target ≡ Inner s r → Leads tree root cs from mid → IsStart tree root from
           → MetCrossing last (c ∷ cs) from p

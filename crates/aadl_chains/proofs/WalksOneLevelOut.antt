@@ -14,7 +14,8 @@ use Rattle.aadl_uses.specs.proof.ThreadCounts.{is_thread_in}
 use Rattle.aadl_uses.specs.proof.IncomingConnections.{connection_into}
 use Rattle.aadl_chains.specs.proof.PortsJoinedInside.{is_thread_at}
 use Rattle.aadl_chains.specs.Chains.{Port, is_in}
-use Rattle.aadl_chains.specs.proof.UpwardWalks.{Crossing, WalkEnd, nowhere, at_root, crosses, walk_back_by, walk_back_along, walk_back_into}
+use Rattle.aadl_chains.specs.proof.UpwardWalks.{Crossing, WalkEnd, nowhere, at_root, crosses, walk_back_by}
+use Rattle.aadl_chains.specs.proof.UpwardWalks.{walk_back_along, walk_back_into}
 use Rattle.aadl_chains.specs.proof.UpwardWalks.{walk_back, IsThreadPort}
 use Rattle.aadl_chains.proofs.FirstIncomingConnections.{Entered, entered}
 
@@ -115,7 +116,8 @@ module _ (tree : PackageTree ℕ) where
         (number_at_path tree m path)
 
     -- ---- the source of a trace one level further out
-    root_by : (p k : ℕ) (l : Option ℕ) (q : ℕ) (source : NumberedPort) → connection_into tree n (Inner s p) ≡ Some (k, source)
+    root_by : (p k : ℕ) (l : Option ℕ) (q : ℕ) (source : NumberedPort)
+        → connection_into tree n (Inner s p) ≡ Some (k, source)
         → walk_back_by (λ k q. at_root (Some k) q) [] n k source ≡ at_root l q → Entered tree n (Inner s p) k (Own q)
     root_by p k l q (Own r) i is =
         let same : r ≡ q = cc is in
@@ -123,7 +125,8 @@ module _ (tree : PackageTree ℕ) where
     root_by p k l q (Inner t r) i is = absurd (cc is)
 
     root_along : (p : ℕ) (l : Option ℕ) (q : ℕ) (o : Option (ℕ × NumberedPort)) → connection_into tree n (Inner s p) ≡ o
-        → walk_back_along (λ k q. at_root (Some k) q) [] n o ≡ at_root l q → (k : ℕ) × Entered tree n (Inner s p) k (Own q)
+        → walk_back_along (λ k q. at_root (Some k) q) [] n o ≡ at_root l q
+        → (k : ℕ) × Entered tree n (Inner s p) k (Own q)
     root_along p l q None i is = absurd (cc is)
     root_along p l q (Some from) i is = (from.0, root_by p from.0 l q from.1 i is)
 
@@ -168,7 +171,8 @@ module _ (tree : PackageTree ℕ) where
           declaration_is = ap (λ (x : Crossing). x.declaration) (sym same);
         }
 
-    crossing_along : (last : Option ℕ) (p : ℕ) (c : Crossing) (o : Option (ℕ × NumberedPort)) → connection_into tree n (Inner s p) ≡ o
+    crossing_along : (last : Option ℕ) (p : ℕ) (c : Crossing) (o : Option (ℕ × NumberedPort))
+        → connection_into tree n (Inner s p) ≡ o
         → walk_back_along (λ k q. at_root (Some k) q) [] n o ≡ crosses c → Itself (at_root last p) c
     crossing_along last p c None i is = absurd (cc is)
     crossing_along last p c (Some from) i is = crossing_by last p from.0 c from.1 i is

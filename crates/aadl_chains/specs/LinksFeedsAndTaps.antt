@@ -27,7 +27,8 @@ is_crossing tree x c = not_own (end_port tree x c.source) && not_own (end_port t
 
 -- the carrier is the connection whose properties apply to the chain: the one between two subcomponents, or the one in
 -- the root's implementation
-pub record Carries (tree : PackageTree ℕ) (root : ℕ) (crossing : Bool) (chain : List ConnectionAt) (ends : CarriedChain) : Type 0 where
+pub record Carries (tree : PackageTree ℕ) (root : ℕ) (crossing : Bool) (chain : List ConnectionAt)
+    (ends : CarriedChain) : Type 0 where
   pub place : ConnectionAt
   pub component : Implementation ℕ
   pub link : Connection ℕ

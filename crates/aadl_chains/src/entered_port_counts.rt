@@ -8,7 +8,8 @@ ghost use Rattle.aadl_chains.specs.declared.port_set.PortAt.{PortAt};
 ghost use Rattle.aadl_chains.specs.proof.PortSets.{same_port};
 ghost use Rattle.aadl_chains.specs.proof.PermittedConnections.{ArePermitted};
 ghost use Rattle.aadl_chains.specs.proof.LimitedCounts.{IsNumber};
-ghost use Rattle.aadl_chains.specs.proof.EnteredPortCountTables.{entered_count, entered_count_by, AreCounted, AreTakenBelow, IsCounted};
+ghost use Rattle.aadl_chains.specs.proof.EnteredPortCountTables.{entered_count, entered_count_by, AreCounted};
+ghost use Rattle.aadl_chains.specs.proof.EnteredPortCountTables.{AreTakenBelow, IsCounted};
 ghost use Rattle.aadl_chains.specs.proof.EnteredPortCountTables.{AreAdded};
 ghost use Rattle.aadl_chains.specs.proof.EnteredThreadPorts.{IsEnteredThrough};
 

@@ -46,7 +46,8 @@ rising inside text from to (t ∷ ts) (start, some, order) = (
   rising (inside_behind inside t.kind) text t.end to ts order,
 )
 
-derived : (tree : PackageTree ℕ) (ks : List PlainTerminal) → Spells (package_parts tree) ks [] → Derives whole_package ks
+derived : (tree : PackageTree ℕ) (ks : List PlainTerminal) → Spells (package_parts tree) ks []
+    → Derives whole_package ks
 derived tree ks s = packages.derived ks (record { tree = tree; spelled = s })
 
 -- the canonical text does not depend on places

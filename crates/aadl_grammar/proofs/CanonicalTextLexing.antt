@@ -17,12 +17,14 @@ use Rattle.aadl_tree.specs.CanonicalText.{kind_text, line_end, between, text_beh
 use Rattle.aadl_grammar.specs.proof.StackMachine.{kind_number}
 use Rattle.aadl_grammar.proofs.AdjacencyRules.{AreNeighbours}
 use Rattle.aadl_grammar.proofs.LiteralAndAnnexLexing.{body_first}
-use Rattle.aadl_grammar.proofs.PossibleTerminals.{is_inside, IsPossibleTerminal, a_word, a_number, a_real, a_string, an_annex}
+use Rattle.aadl_grammar.proofs.PossibleTerminals.{is_inside, IsPossibleTerminal, a_word, a_number, a_real, a_string}
+use Rattle.aadl_grammar.proofs.PossibleTerminals.{an_annex}
 use Rattle.aadl_grammar.proofs.PossibleTerminals.{a_keyword, a_symbol, opens, closes, behind, ArePossibleTerminals}
 use Rattle.aadl_grammar.proofs.TerminalRelexing.{Ends, Lexed, IsPlain, lexed}
 use Rattle.aadl_grammar.proofs.TerminalSeparation.{ends_behind}
 use Rattle.aadl_grammar.proofs.NoAnnexEnds.{close_past, kind_past, close_at}
-use Rattle.aadl_grammar.proofs.TextPiecesAndGaps.{line, is_gap, gap_blank, stands_within, drop_past, drop_cut, gap_skipped}
+use Rattle.aadl_grammar.proofs.TextPiecesAndGaps.{line, is_gap, gap_blank, stands_within, drop_past, drop_cut}
+use Rattle.aadl_grammar.proofs.TextPiecesAndGaps.{gap_skipped}
 use Rattle.aadl_grammar.proofs.TextPiecesAndGaps.{token_bytes, close_gap}
 
 -- from a position outside an annex on
@@ -89,7 +91,8 @@ closed_inside _ _ e closes = refl
 closed_inside _ _ e opens = absurd cc
 
 -- one token, and the tokens after it
-spots_first : (inside : Bool) (text : List ℕ) (class : TokenKind) (at : ℕ) (kind : PlainTerminal) (s : List ℕ) (ts : List Token)
+spots_first : (inside : Bool) (text : List ℕ) (class : TokenKind) (at : ℕ) (kind : PlainTerminal) (s : List ℕ)
+    (ts : List Token)
     (ks : List PlainTerminal) → drop at text ≡ kind_text kind ++ s
     → class_kind inside class (kind_text kind) ≡ kind → inside_behind inside class ≡ inside
     → kinds_of (spots_from inside text ts) ≡ ks
@@ -100,7 +103,8 @@ spots_first inside text class at kind s ts ks e read stays more =
     (ap (λ (b : Bool). kinds_of (spots_from b text ts)) stays ∙ more)
 
 -- the lexer takes a terminal and reads on after it
-token_taken : (r : Reading) (text : List ℕ) (at : ℕ) (kind : PlainTerminal) (s : List ℕ) (ts : List Token) (l : Lexed r kind s)
+token_taken : (r : Reading) (text : List ℕ) (at : ℕ) (kind : PlainTerminal) (s : List ℕ) (ts : List Token)
+    (l : Lexed r kind s)
     → drop at text ≡ kind_text kind ++ s
     → Lexes (behind r kind) text (at + length (kind_text kind)) ts
     → Lexes r text at (token l.class at (length (kind_text kind)) ∷ ts)
@@ -112,8 +116,10 @@ token_taken r text at kind s ts l e more =
     (subst (λ (x : Reading). Lexes x text (at + length (kind_text kind)) ts)
     (sym (ap (after r l.class) bytes ∙ l.goes)) more)
 
-outer_plain : (p kind : PlainTerminal) (ks : List PlainTerminal) (r : Reading) (text : List ℕ) (at : ℕ) → is_inside r ≡ false
-    → AreNeighbours (kind_number kind) ks → IsPossibleTerminal r kind → ArePossibleTerminals (behind r kind) ks → IsPlain kind
+outer_plain : (p kind : PlainTerminal) (ks : List PlainTerminal) (r : Reading) (text : List ℕ) (at : ℕ)
+    → is_inside r ≡ false
+    → AreNeighbours (kind_number kind) ks → IsPossibleTerminal r kind → ArePossibleTerminals (behind r kind) ks
+    → IsPlain kind
     → drop at text ≡ between p kind ++ (kind_text kind ++ text_behind kind ks)
     → ((s : Reading) (to : ℕ) → is_inside s ≡ false → ArePossibleTerminals s ks → drop to text ≡ text_behind kind ks
     → Outer s text to ks) → Outer r text at (kind ∷ ks)
@@ -188,7 +194,8 @@ inside_stays (mark k.AnnexClose) plain = absurd (plain.1 refl)
 inside_stays (mark _) plain = refl
 inside_stays _ plain = refl
 
-inner_plain : (p kind : PlainTerminal) (ks : List PlainTerminal) (text : List ℕ) (at : ℕ) → AreNeighbours (kind_number kind) ks
+inner_plain : (p kind : PlainTerminal) (ks : List PlainTerminal) (text : List ℕ) (at : ℕ)
+    → AreNeighbours (kind_number kind) ks
     → IsPossibleTerminal Inside kind → ArePossibleTerminals (behind Inside kind) ks → IsPlain kind
     → drop at text ≡ between p kind ++ (kind_text kind ++ text_behind kind ks)
     → ((to : ℕ) → drop to text ≡ text_behind kind ks → Inner text to (text_behind kind ks) ks)
@@ -236,7 +243,8 @@ inner_plain p kind ks text at near said saids plain e go =
 
 mutual
   pub outer : (p : PlainTerminal) (ks : List PlainTerminal) (r : Reading) (text : List ℕ) (at : ℕ) → is_inside r ≡ false
-      → AreNeighbours (kind_number p) ks → ArePossibleTerminals r ks → drop at text ≡ text_behind p ks → Outer r text at ks
+      → AreNeighbours (kind_number p) ks → ArePossibleTerminals r ks → drop at text ≡ text_behind p ks
+      → Outer r text at ks
   outer p [] r text at i near said e = record {
     tokens = [];
     lexes =
@@ -250,14 +258,16 @@ mutual
         subst (λ (q : PlainTerminal). Outer r text at (q ∷ ks)) (sym x)
         (subst (λ (s : Reading). Outer s text at (mark k.AnnexOpen ∷ ks)) (sym after)
         (outer_opens p ks text at (subst (λ (q : PlainTerminal). drop at text ≡ text_behind p (q ∷ ks)) x e)
-        (λ to f. inner (mark k.AnnexOpen) ks text to (subst (λ (q : PlainTerminal). AreNeighbours (kind_number q) ks) x nears)
+        (λ to f. inner (mark k.AnnexOpen) ks text to
+        (subst (λ (q : PlainTerminal). AreNeighbours (kind_number q) ks) x nears)
         (subst (λ (s : Reading). ArePossibleTerminals s ks) (ap₂ behind after x) saids) f))))
     | inl (inr x) ↦ absurd (let inside = closed_inside r kind x said in let never = ap is_inside inside in cc)
     | inr plain ↦ outer_plain p kind ks r text at i nears said saids plain e
         (λ s to o more f. outer kind ks s text to o nears more f)
   ]
 
-  inner : (p : PlainTerminal) (ks : List PlainTerminal) (text : List ℕ) (at : ℕ) → AreNeighbours (kind_number p) ks → ArePossibleTerminals Inside ks
+  inner : (p : PlainTerminal) (ks : List PlainTerminal) (text : List ℕ) (at : ℕ) → AreNeighbours (kind_number p) ks
+      → ArePossibleTerminals Inside ks
       → drop at text ≡ text_behind p ks → Inner text at (text_behind p ks) ks
   inner p [] text at near said e = absurd cc
   inner p (kind ∷ ks) text at (near, nears) (said, saids) e = elim (which kind) [
@@ -268,5 +278,6 @@ mutual
         (subst (λ (q : PlainTerminal). AreNeighbours (kind_number q) ks) x nears)
         (subst (λ (q : PlainTerminal). ArePossibleTerminals (behind Inside q) ks) x saids) f))
     | inr plain ↦ inner_plain p kind ks text at nears said saids plain e
-        (λ to f. inner kind ks text to nears (subst (λ (s : Reading). ArePossibleTerminals s ks) (inside_stays kind plain) saids) f)
+        (λ to f. inner kind ks text to nears (subst (λ (s : Reading). ArePossibleTerminals s ks)
+        (inside_stays kind plain) saids) f)
   ]

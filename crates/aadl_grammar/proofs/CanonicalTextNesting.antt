@@ -3,7 +3,8 @@
 use Rattle.std.proofs.Common.{◌≡◌, ℕ, ◌≤◌, Bool, true, false, ap, subst, refl, List, [], ◌∷◌, ◌++◌, inl, inr, arith}
 use Rattle.aadl_tree.specs.declared.mark.Mark.TheVariants as k
 use Rattle.aadl_tree.specs.Terminals.{PlainTerminal, mark}
-use Rattle.aadl_tree.specs.SpellingParts.{SpellingPart, token, may, feature_section, subcomponent_section, connection_section}
+use Rattle.aadl_tree.specs.SpellingParts.{SpellingPart, token, may, feature_section, subcomponent_section}
+use Rattle.aadl_tree.specs.SpellingParts.{connection_section}
 use Rattle.aadl_tree.specs.SpellingParts.{property_section, Extra, empty_section, last_semicolon, extra_kinds, Spells}
 use Rattle.aadl_tree.specs.SpellingParts.{kept}
 use Rattle.aadl_tree.specs.declared.nesting_limit.TheConstants.{GREATEST_NESTING}
@@ -21,7 +22,8 @@ low_front n ended [] (kind ∷ ks) h = h.0
 low_front n ended (kind ∷ front) back h = low_front (opened n ended kind) (is_end kind) front back h.1
 
 front_low : (n : ℕ) (ended : Bool) (ks : List PlainTerminal)
-    → ((front back : List PlainTerminal) → ks ≡ front ++ back → nesting_from n ended front ≤ GREATEST_NESTING) → Low n ended ks
+    → ((front back : List PlainTerminal) → ks ≡ front ++ back → nesting_from n ended front ≤ GREATEST_NESTING)
+    → Low n ended ks
 front_low n ended [] h = h [] [] refl
 front_low n ended (kind ∷ ks) h = (
   h [] (kind ∷ ks) refl,
@@ -55,7 +57,8 @@ opened_less n false m false (mark k.If) h = omega arith
 opened_less n false m false (mark _) h = omega arith
 opened_less n false m false _ h = h
 
-low_less : (n : ℕ) (ended : Bool) (m : ℕ) (after : Bool) (ks : List PlainTerminal) → NoMore n ended m after → Low m after ks
+low_less : (n : ℕ) (ended : Bool) (m : ℕ) (after : Bool) (ks : List PlainTerminal) → NoMore n ended m after
+    → Low m after ks
     → Low n ended ks
 low_less n ended m after [] h l = let g = no_more n ended m after h in omega arith
 low_less n ended m after (kind ∷ ks) h l =
@@ -81,7 +84,8 @@ low_behind n false (empty_section connection_section) ks h = h.1.1.1
 low_behind n false (empty_section property_section) ks h = h.1.1.1
 low_behind n false last_semicolon ks h = h.1
 
-low_kept : {P : Type 0} (ps : List (SpellingPart P)) (n : ℕ) (ended : Bool) (ks : List PlainTerminal) → Spells ps ks [] → Low n ended ks
+low_kept : {P : Type 0} (ps : List (SpellingPart P)) (n : ℕ) (ended : Bool) (ks : List PlainTerminal) → Spells ps ks []
+    → Low n ended ks
     → Low n ended (kept ps)
 low_kept [] n ended ks e l = subst (λ (q : List PlainTerminal). Low n ended q) e l
 low_kept (token kind places ∷ ps) n ended ks (more, e, s) l =
@@ -93,7 +97,8 @@ low_kept (may extra ∷ ps) n ended ks (inr (more, e, s)) l =
     (low_kept ps n false more s (low_behind n ended extra more (subst (λ (q : List PlainTerminal). Low n ended q) e l)))
 
 -- The terminals that a tree keeps are within the nesting limit if all its terminals are.
-pub kept_shallow : {P : Type 0} (outer : ℕ) (ps : List (SpellingPart P)) (ks : List PlainTerminal) → Spells ps ks [] → IsShallow outer ks
+pub kept_shallow : {P : Type 0} (outer : ℕ) (ps : List (SpellingPart P)) (ks : List PlainTerminal) → Spells ps ks []
+    → IsShallow outer ks
     → IsShallow outer (kept ps)
 kept_shallow outer ps ks s shallow front back e =
     low_front outer false front back

@@ -18,7 +18,8 @@ use Rattle.aadl_tree.specs.Terminals.{PlainTerminal}
 use Rattle.aadl_tree.specs.CanonicalText.{kind_text, line_end, between, text_behind}
 use Rattle.aadl_lex.specs.proof.TokenSpellings.{IsReal}
 use Rattle.aadl_grammar.proofs.LiteralAndAnnexLexing.{number_digits}
-use Rattle.aadl_grammar.proofs.PossibleTerminals.{IsPossibleTerminal, a_word, a_number, a_real, a_string, an_annex, a_keyword}
+use Rattle.aadl_grammar.proofs.PossibleTerminals.{IsPossibleTerminal, a_word, a_number, a_real, a_string, an_annex}
+use Rattle.aadl_grammar.proofs.PossibleTerminals.{a_keyword}
 use Rattle.aadl_grammar.proofs.PossibleTerminals.{a_symbol, opens, closes, behind, ArePossibleTerminals}
 use Rattle.aadl_grammar.proofs.NoAnnexEnds.{all_weaker, all_append}
 use Rattle.aadl_grammar.proofs.TextPiecesAndGaps.{is_gap, gap_blank}
@@ -78,7 +79,8 @@ kind_utf8 r _ (a_symbol _ m h) = mark_utf8 m
 kind_utf8 _ _ opens = mark_utf8 k.AnnexOpen
 kind_utf8 _ _ closes = mark_utf8 k.AnnexClose
 
-pub text_utf8 : (r : Reading) (p : PlainTerminal) (ks : List PlainTerminal) → ArePossibleTerminals r ks → IsUtf8 (text_behind p ks)
+pub text_utf8 : (r : Reading) (p : PlainTerminal) (ks : List PlainTerminal) → ArePossibleTerminals r ks
+    → IsUtf8 (text_behind p ks)
 text_utf8 r p [] said = low_utf8 line_end refl
 text_utf8 r p (kind ∷ ks) (said, saids) =
     IsUtf8-append (between p kind) (kind_text kind ++ text_behind kind ks)

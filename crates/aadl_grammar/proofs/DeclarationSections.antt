@@ -122,7 +122,8 @@ empty section {ps} {ss} {mid} {last} {rest} e a b c =
       );
     })
 
-pub empty_section_read : (section : Section) (keyword : Mark) {ps : List (SpellingPart ℕ)} {ss mid last rest : List PlacedTerminal}
+pub empty_section_read : (section : Section)
+    (keyword : Mark) {ps : List (SpellingPart ℕ)} {ss mid last rest : List PlacedTerminal}
     → section_mark section ≡ keyword → [] ≡ ps → AtMark keyword ss mid → AtMark k.Nothing mid last
     → AtMark k.Semicolon last rest → Reads (section_parts section ps) ss rest
 empty_section_read section keyword {ss = ss} {mid = mid} is e a b c =
@@ -135,7 +136,8 @@ filled section [] qs {mid = mid} {last = last} l a less b =
     let e : length mid ≡ length last = ap length a.written in absurd (omega (arith, e, less))
 filled section (p ∷ ps) qs l a less b = marked l (then a b)
 
-pub filled_section_read : (section : Section) (keyword : Mark) (ps qs : List (SpellingPart ℕ)) {ss mid last rest : List PlacedTerminal}
+pub filled_section_read : (section : Section) (keyword : Mark)
+    (ps qs : List (SpellingPart ℕ)) {ss mid last rest : List PlacedTerminal}
     → section_mark section ≡ keyword → AtMark keyword ss mid → Reads ps mid last → length last < length mid
     → Reads qs last rest → Reads (section_parts section (ps ++ qs)) ss rest
 filled_section_read section keyword ps qs {ss = ss} {mid = mid} is l a less b =

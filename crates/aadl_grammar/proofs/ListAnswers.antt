@@ -20,7 +20,8 @@ spelled (Some m) f g xs = sym (flat_map-map (behind m f) g xs)
 spelled None f g xs = sym (flat_map-map f g xs)
 
 -- a list with the function that reads its items
-abbrev pub items_of : {X Y : Type 0} {r : Reader} {before : Option Mark} {answers : Answers X} (f : Y → List (SpellingPart ℕ))
+abbrev pub items_of : {X Y : Type 0} {r : Reader} {before : Option Mark} {answers : Answers X}
+    (f : Y → List (SpellingPart ℕ))
     (g : X → Y) (allowed : Option ℕ) (item list : Symbol) → IsList before item list
     → ((at : ℕ) (result : Result (X × ℕ) ParseFault) → answers at result
     → Parses r (Allows allowed) (item ∷ []) (λ x. f (g x)) at result) → ItemsOf r before answers
@@ -65,7 +66,8 @@ pub list_from : {X : Type 0} {r : Reader} {before : Option Mark} {answers : Answ
     → ((outer : ℕ) (below : Stack) → Allows of.allowed (outer + depth (wanted ++ below))
     → Allows of.allowed (outer + depth (of.list ∷ below))
     × (fate outer r.end (wanted ++ below) (here r at) ≡ fate outer r.end (of.list ∷ below) (here r mid)))
-    → ((more : List X) (rest : List PlacedTerminal) → Reads (flat_map (with_mark before of.parts) more) (here r mid) rest
+    → ((more : List X) (rest : List PlacedTerminal)
+    → Reads (flat_map (with_mark before of.parts) more) (here r mid) rest
     → Reads (whole (first ∷ more)) (here r at) rest)
     → ParsesMore r before answers old mid result
     → Parses r (Allows of.allowed) wanted (λ (x : Vec X). whole x.items) at result
@@ -78,7 +80,8 @@ list_from {X} {r} {before} {answers} {old} {at} {mid} {wanted} {result} of first
 }
 
 -- the result of a call, written otherwise
-pub same_answer : {X : Type 0} {r : Reader} {Allowed : ℕ → Type 0} {wanted : Stack} {parts : X → List (SpellingPart ℕ)} {at : ℕ}
+pub same_answer : {X : Type 0} {r : Reader} {Allowed : ℕ → Type 0} {wanted : Stack} {parts : X
+    → List (SpellingPart ℕ)} {at : ℕ}
     {found result : Result (X × ℕ) ParseFault} → Parses r Allowed wanted parts at found → result ≡ found
     → Parses r Allowed wanted parts at result
 same_answer {X} {r = r} {Allowed = Allowed} {wanted = wanted} {parts = parts} {at = at} p e =
@@ -91,14 +94,16 @@ read_so : {X : Type 0} {p q : X → List (SpellingPart ℕ)} (r : Reader) (at : 
 read_so r at (Err e) same a = tt
 read_so r at (Ok y) same a = respelled (same y.0) a
 
-pub respelled_answer : {X : Type 0} {r : Reader} {Allowed : ℕ → Type 0} {wanted : Stack} {p q : X → List (SpellingPart ℕ)}
+pub respelled_answer : {X : Type 0} {r : Reader} {Allowed : ℕ → Type 0} {wanted : Stack} {p q : X
+    → List (SpellingPart ℕ)}
     {at : ℕ} {result : Result (X × ℕ) ParseFault} → ((x : X) → p x ≡ q x) → Parses r Allowed wanted p at result
     → Parses r Allowed wanted q at result
 respelled_answer {r = r} {at = at} {result = result} same a =
     record { runs = a.runs; reads = read_so r at result same a.reads }
 
 -- an item takes a terminal
-pub item_advances : {X : Type 0} {r : Reader} (Allowed : ℕ → Type 0) (wanted : Stack) (parts : X → List (SpellingPart ℕ))
+pub item_advances : {X : Type 0} {r : Reader} (Allowed : ℕ → Type 0) (wanted : Stack)
+    (parts : X → List (SpellingPart ℕ))
     {at : ℕ} (result : Result (X × ℕ) ParseFault)
     → ((x : X) (ss rest : List PlacedTerminal) → Reads (parts x) ss rest → length rest < length ss)
     → Parses r Allowed wanted parts at result → IfOk result (λ y. length (here r y.1) < length (here r at))

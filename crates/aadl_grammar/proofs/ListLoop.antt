@@ -34,7 +34,8 @@ item_runs {X} {r} {before} {answers} of outer below rest start result was h e f 
     ((of.each start result a).runs outer (of.list ∷ below) (subst (λ (n : ℕ). Allows of.allowed n) same h))
 
 -- it is read with its mark
-marked_item : {X : Type 0} (before : Option Mark) (parts : X → List (SpellingPart ℕ)) (x : X) {ss start rest : List PlacedTerminal}
+marked_item : {X : Type 0} (before : Option Mark) (parts : X → List (SpellingPart ℕ))
+    (x : X) {ss start rest : List PlacedTerminal}
     → Follows before ss start → Reads (parts x) start rest → Reads (with_mark before parts x) ss rest
 marked_item (Some m) parts x l a = marked l a
 marked_item None parts x {rest = rest} (w, e) a = subst (λ (l : List PlacedTerminal). Reads (parts x) l rest) e a

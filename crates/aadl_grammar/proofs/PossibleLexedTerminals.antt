@@ -21,11 +21,13 @@ use Rattle.aadl_lex.proofs.TokensAsWritten.{spelled_tokens}
 use Rattle.aadl_tree.specs.declared.mark.Mark.{Mark}
 use Rattle.aadl_tree.specs.declared.mark.Mark.TheVariants as k
 use Rattle.aadl_tree.specs.KeywordsAndSymbols.{keyword_of, symbol_of}
-use Rattle.aadl_tree.specs.Terminals.{mark, word_kind, symbol_kind, class_kind, inside_behind, spots_from, placed_terminals}
+use Rattle.aadl_tree.specs.Terminals.{mark, word_kind, symbol_kind, class_kind, inside_behind, spots_from}
+use Rattle.aadl_tree.specs.Terminals.{placed_terminals}
 use Rattle.aadl_tree.specs.Terminals.{kinds_of}
 use Rattle.aadl_tree.proofs.LexedSymbols.{symbol_known}
 use Rattle.aadl_grammar.proofs.LiteralAndAnnexLexing.{at_seam}
-use Rattle.aadl_grammar.proofs.PossibleTerminals.{is_inside, IsPossibleTerminal, a_word, a_number, a_real, a_string, an_annex}
+use Rattle.aadl_grammar.proofs.PossibleTerminals.{is_inside, IsPossibleTerminal, a_word, a_number, a_real, a_string}
+use Rattle.aadl_grammar.proofs.PossibleTerminals.{an_annex}
 use Rattle.aadl_grammar.proofs.PossibleTerminals.{a_keyword, a_symbol, opens, closes, behind, ArePossibleTerminals}
 use Rattle.aadl_grammar.proofs.TerminalRelexing.{after_inside, word_then, whole_then, real_then, quoted_then}
 use Rattle.aadl_grammar.proofs.KeywordAndSymbolSpellings.{keyword_fixed, symbol_fixed, keyword_behind, symbol_behind}
@@ -64,11 +66,14 @@ symbol_says : (r : Reading) (b : List ℕ) (o : Option Mark) → symbol_of b ≡
 symbol_says r b None e known = absurd cc
 symbol_says r b (Some m) e known = (a_symbol r m (symbol_fixed b m e), symbol_behind r b m (symbol_fixed b m e))
 
-says_open : (r : Reading) → r ≡ AfterName → IsPossibleTerminal r (mark k.AnnexOpen) × (Inside ≡ behind r (mark k.AnnexOpen))
+says_open : (r : Reading) → r ≡ AfterName
+    → IsPossibleTerminal r (mark k.AnnexOpen) × (Inside ≡ behind r (mark k.AnnexOpen))
 says_open r e =
-    subst (λ (q : Reading). IsPossibleTerminal q (mark k.AnnexOpen) × (Inside ≡ behind q (mark k.AnnexOpen))) (sym e) (opens, refl)
+    subst (λ (q : Reading). IsPossibleTerminal q (mark k.AnnexOpen) × (Inside ≡ behind q (mark k.AnnexOpen))) (sym e)
+    (opens, refl)
 
-says_close : (r : Reading) → r ≡ Inside → IsPossibleTerminal r (mark k.AnnexClose) × (Outside ≡ behind r (mark k.AnnexClose))
+says_close : (r : Reading) → r ≡ Inside → IsPossibleTerminal r (mark k.AnnexClose)
+    × (Outside ≡ behind r (mark k.AnnexClose))
 says_close r e =
     subst (λ (q : Reading). IsPossibleTerminal q (mark k.AnnexClose) × (Outside ≡ behind q (mark k.AnnexClose))) (sym e)
     (closes, refl)
@@ -113,7 +118,8 @@ outside_is AfterName h = refl
 outside_is Inside h = absurd (h refl)
 
 said_tokens : (text : List ℕ) → IsUtf8 text → (r : Reading) (from : ℕ) (ts : List Token)
-    → AreInOrder from (length text) ts → AreSpelled text r ts → ArePossibleTerminals r (kinds_of (spots_from (is_inside r) text ts))
+    → AreInOrder from (length text) ts → AreSpelled text r ts
+    → ArePossibleTerminals r (kinds_of (spots_from (is_inside r) text ts))
 said_tokens text utf8 r from [] order h = outside_is r h
 said_tokens text utf8 r from (t ∷ ts) (start, some, order) (h, hs) =
     let b = bytes_of text t in
@@ -125,11 +131,15 @@ said_tokens text utf8 r from (t ∷ ts) (start, some, order) (h, hs) =
     let on : ArePossibleTerminals next (kinds_of (spots_from (is_inside next) text ts)) =
     said_tokens text utf8 next t.end ts order hs in (
       says.spoken,
-      subst (λ (x : Bool). ArePossibleTerminals (behind r (class_kind (is_inside r) t.kind b)) (kinds_of (spots_from x text ts)))
+      subst (λ (x : Bool). ArePossibleTerminals (behind r (class_kind (is_inside r) t.kind b))
+          (kinds_of (spots_from x text ts)))
           (sym (inside_goes r t.kind b))
-          (subst (λ (q : Reading). ArePossibleTerminals q (kinds_of (spots_from (is_inside next) text ts))) says.goes on),
+          (subst (λ (q : Reading). ArePossibleTerminals q (kinds_of (spots_from (is_inside next) text ts))) says.goes
+          on),
     )
 
 -- The terminals of a text are possible terminals.
-pub text_terminals_possible : (text : List ℕ) (ts : List Token) → AreTokensOf text ts → ArePossibleTerminals Outside (kinds_of (placed_terminals text ts))
-text_terminals_possible text ts h = said_tokens text h.utf8 Outside 0 ts (order_tokens text ts h) (spelled_tokens text ts h)
+pub text_terminals_possible : (text : List ℕ) (ts : List Token) → AreTokensOf text ts
+    → ArePossibleTerminals Outside (kinds_of (placed_terminals text ts))
+text_terminals_possible text ts h = said_tokens text h.utf8 Outside 0 ts (order_tokens text ts h)
+    (spelled_tokens text ts h)

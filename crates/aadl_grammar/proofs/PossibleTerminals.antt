@@ -13,7 +13,8 @@ use Rattle.aadl_tree.specs.declared.mark.Mark.TheVariants as k
 use Rattle.aadl_tree.specs.KeywordsAndSymbols.{mark_text, keyword_of, symbol_of}
 use Rattle.aadl_tree.specs.proof.MarkNumbers.{mark_number}
 use Rattle.aadl_tree.specs.Terminals.{PlainTerminal, word, whole, real, quoted, unread, mark}
-use Rattle.aadl_tree.specs.SpellingParts.{SpellingPart, token, may, feature_section, subcomponent_section, connection_section}
+use Rattle.aadl_tree.specs.SpellingParts.{SpellingPart, token, may, feature_section, subcomponent_section}
+use Rattle.aadl_tree.specs.SpellingParts.{connection_section}
 use Rattle.aadl_tree.specs.SpellingParts.{property_section, Extra, empty_section, last_semicolon, extra_kinds, Spells}
 use Rattle.aadl_tree.specs.SpellingParts.{kept}
 use Rattle.aadl_grammar.specs.proof.StackMachine.{kind_number}
@@ -26,7 +27,8 @@ is_inside _ = false
 
 -- a terminal that is possible in this mode of reading
 pub data IsPossibleTerminal : Reading → PlainTerminal → Type 0 where
-  a_word : (r : Reading) (b : List ℕ) → is_word b ≡ true → keyword_of (is_inside r) b ≡ None → IsPossibleTerminal r (word b)
+  a_word : (r : Reading) (b : List ℕ) → is_word b ≡ true → keyword_of (is_inside r) b ≡ None
+      → IsPossibleTerminal r (word b)
   a_number : (r : Reading) (n : ℕ) → n ≤ most → IsPossibleTerminal r (whole (pos n))
   a_real : (r : Reading) (b : List ℕ) → IsReal b → IsPossibleTerminal r (real b)
   a_string : (r : Reading) (b : List ℕ) → IsString b → IsUtf8 b → (r ≡ Inside → close_from 0 b ≡ None)
@@ -110,7 +112,8 @@ said_behind AfterName (empty_section property_section) ks near h = said_anyhow A
 said_behind AfterName last_semicolon ks near h = said_anyhow AfterName ks refl near h.1
 
 -- The terminals that a tree keeps of a text's terminals are possible in a text.
-pub kept_said : {P : Type 0} (ps : List (SpellingPart P)) (p : ℕ) (r : Reading) (ks : List PlainTerminal) → Spells ps ks []
+pub kept_said : {P : Type 0} (ps : List (SpellingPart P)) (p : ℕ) (r : Reading) (ks : List PlainTerminal)
+    → Spells ps ks []
     → AreNeighbours p ks → ArePossibleTerminals r ks → ArePossibleTerminals r (kept ps)
 kept_said [] p r ks e near said = subst (λ (q : List PlainTerminal). ArePossibleTerminals r q) e said
 kept_said (token kind places ∷ ps) p r ks (more, e, s) near said =

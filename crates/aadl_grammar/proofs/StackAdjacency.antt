@@ -66,12 +66,16 @@ fine_below top pair beside g p x [] o h = (refl, refl)
 fine_below top pair beside g p x (y ∷ s) o (h, n) = (g.omits p x y o h (first_so _ _ n), second_so (pair x y) _ n)
 
 fine_row : (top : ℕ → Symbol → Bool) (pair : Symbol → Symbol → Bool) (n : ℕ) (f : List Symbol) (below : Stack)
-    → (on_top top n f && pairs_hold pair f) ≡ true → ((y : Symbol) (s : Stack) → below ≡ y ∷ s → seam top pair n f y ≡ true)
+    → (on_top top n f && pairs_hold pair f) ≡ true
+    → ((y : Symbol) (s : Stack) → below ≡ y ∷ s → seam top pair n f y ≡ true)
     → pairs_hold pair below ≡ true → Fine top pair n (f ++ below)
 fine_row top pair n [] [] w m h = (refl, refl)
 fine_row top pair n [] (y ∷ s) w m h = (m y s refl, h)
-fine_row top pair n (z ∷ f) [] w m h =
-    (first_so _ _ w, subst (λ (l : Stack). pairs_hold pair l ≡ true) (sym (append-nil (z ∷ f))) (second_so (top n z) _ w))
+fine_row top pair n (z ∷ f) [] w m h = (
+  first_so _ _ w,
+  subst (λ (l : Stack). pairs_hold pair l ≡ true) (sym (append-nil (z ∷ f)))
+      (second_so (top n z) _ w),
+)
 fine_row top pair n (z ∷ f) (y ∷ s) w m h =
     (first_so _ _ w, neat_append pair z f y s (second_so (top n z) _ w) (m y s refl) h)
 

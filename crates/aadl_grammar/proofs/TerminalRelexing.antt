@@ -16,13 +16,15 @@ use Rattle.aadl_lex.specs.Rules.{is_in_word, is_word, first, after}
 use Rattle.aadl_tree.specs.declared.mark.Mark.{Mark}
 use Rattle.aadl_tree.specs.declared.mark.Mark.TheVariants as k
 use Rattle.aadl_tree.specs.KeywordsAndSymbols.{mark_text, keyword_of, symbol_of}
-use Rattle.aadl_tree.specs.Terminals.{PlainTerminal, word, whole, real, quoted, mark, word_kind, symbol_kind, class_kind}
+use Rattle.aadl_tree.specs.Terminals.{PlainTerminal, word, whole, real, quoted, mark, word_kind, symbol_kind}
+use Rattle.aadl_tree.specs.Terminals.{class_kind}
 use Rattle.aadl_tree.specs.Terminals.{inside_behind}
 use Rattle.aadl_tree.specs.CanonicalText.{kind_text}
 use Rattle.aadl_grammar.proofs.WordAndSymbolLexing.{stops, extends, word_first, symbol_first}
 use Rattle.aadl_grammar.proofs.LiteralAndAnnexLexing.{in_number, number_first, number_some, real_first, string_first}
 use Rattle.aadl_grammar.proofs.LiteralAndAnnexLexing.{unread_first}
-use Rattle.aadl_grammar.proofs.PossibleTerminals.{is_inside, IsPossibleTerminal, a_word, a_number, a_real, a_string, an_annex}
+use Rattle.aadl_grammar.proofs.PossibleTerminals.{is_inside, IsPossibleTerminal, a_word, a_number, a_real, a_string}
+use Rattle.aadl_grammar.proofs.PossibleTerminals.{an_annex}
 use Rattle.aadl_grammar.proofs.PossibleTerminals.{a_keyword, a_symbol, opens, closes, behind}
 
 -- bytes that would continue a terminal
@@ -148,7 +150,8 @@ after_inside Outside _ b = refl
 after_inside AfterName Word b = named (str_eq_ignore_ascii_case b (codes "behavior_specification"))
 after_inside AfterName _ b = refl
 
-stays : (r : Reading) (class : TokenKind) (kind : PlainTerminal) → IsInner class → after r class (kind_text kind) ≡ behind r kind
+stays : (r : Reading) (class : TokenKind) (kind : PlainTerminal) → IsInner class
+    → after r class (kind_text kind) ≡ behind r kind
     → inside_behind (is_inside r) class ≡ is_inside (behind r kind)
 stays r class kind inner e = inner (is_inside r) ∙ sym (after_inside r class (kind_text kind)) ∙ ap is_inside e
 
@@ -205,7 +208,8 @@ keyword_stops m rest w e =
     (λ h g. sym (ap (λ b. b && is_in_word h) w)
     ∙ (or_parts (is_word (mark_text m) && is_in_word h) (extends m h) g).0) e
 
-pub lexed : (r : Reading) (kind : PlainTerminal) (rest : List ℕ) → IsPossibleTerminal r kind → IsPlain kind → Ends kind rest
+pub lexed : (r : Reading) (kind : PlainTerminal) (rest : List ℕ) → IsPossibleTerminal r kind → IsPlain kind
+    → Ends kind rest
     → Lexed r kind rest
 lexed r _ rest (a_word _ b w h) plain e = record {
   class = Word;

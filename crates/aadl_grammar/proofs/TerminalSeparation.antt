@@ -112,14 +112,16 @@ dot_meets_word r (mark k.Package) rest h s = absurd cc
 dot_meets_word r (mark _) rest h s = absurd cc
 dot_meets_word r _ rest h s = absurd cc
 
-bang_meets_group : (kind : PlainTerminal) (rest : List ℕ) → may_stand_behind (mark_number k.Bang) (kind_number kind) ≡ true
+bang_meets_group : (kind : PlainTerminal) (rest : List ℕ)
+    → may_stand_behind (mark_number k.Bang) (kind_number kind) ≡ true
     → Ends (mark k.Bang) (kind_text kind ++ rest)
 bang_meets_group (mark k.ParenOpen) rest h = refl
 bang_meets_group (mark _) rest h = absurd cc
 bang_meets_group _ rest h = absurd cc
 
 right_meets : (r : Reading) (p kind : PlainTerminal) (rest : List ℕ) → holds_right p ≡ true
-    → may_stand_behind (kind_number p) (kind_number kind) ≡ true → IsPossibleTerminal r kind → Ends p (kind_text kind ++ rest)
+    → may_stand_behind (kind_number p) (kind_number kind) ≡ true → IsPossibleTerminal r kind
+    → Ends p (kind_text kind ++ rest)
 right_meets r (mark k.ParenOpen) kind rest g h s = closed_ends k.ParenOpen (λ c. refl) (kind_text kind ++ rest)
 right_meets r (mark k.Scope) kind rest g h s = closed_ends k.Scope (λ c. refl) (kind_text kind ++ rest)
 right_meets r (mark k.Tick) kind rest g h s = closed_ends k.Tick (λ c. refl) (kind_text kind ++ rest)
@@ -142,7 +144,8 @@ gap_ends r p kind rest true e h s = elim (or_cases (holds_right p) (holds_left k
 gap_ends r p kind rest false e h s = apart p (ends_line p) (kind_text kind ++ rest)
 
 -- The text after a terminal in the canonical text of such terminals does not continue the terminal.
-pub ends_behind : (r : Reading) (p : PlainTerminal) (ks : List PlainTerminal) → AreNeighbours (kind_number p) ks → ArePossibleTerminals r ks
+pub ends_behind : (r : Reading) (p : PlainTerminal) (ks : List PlainTerminal) → AreNeighbours (kind_number p) ks
+    → ArePossibleTerminals r ks
     → Ends p (text_behind p ks)
 ends_behind r p [] near said = line_ends p
 ends_behind r p (kind ∷ ks) (near, nears) (said, saids) =

@@ -22,7 +22,8 @@ use Rattle.aadl_lex.specs.declared.rules.Reading.TheVariants.{Outside, AfterName
 use Rattle.aadl_lex.specs.Rules.{is_blank, run, is_in_word, word_first, whole_len, decimal, most, whole_first}
 use Rattle.aadl_lex.specs.Rules.{number_by, real_len, is_in_string, string_first, body_len, annex_by, can_open}
 use Rattle.aadl_lex.specs.Rules.{symbol_len, symbol_first, first, after, IsWithin}
-use Rattle.aadl_lex.specs.TokensAndFirstFaults.{token, Lexes, ended, skips, takes, reads, Faults, refused, past_skipped, past_token}
+use Rattle.aadl_lex.specs.TokensAndFirstFaults.{token, Lexes, ended, skips, takes, reads, Faults, refused, past_skipped}
+use Rattle.aadl_lex.specs.TokensAndFirstFaults.{past_token}
 use Rattle.aadl_lex.specs.TokensAndFirstFaults.{in_body, past_body, not_utf8, not_lexed}
 use Rattle.aadl_lex.proofs.TokenOrder.{stands_within}
 use Rattle.aadl_grammar.specs.proof.TokensTreesAndFaults.{HasTokens, HasLexFault}

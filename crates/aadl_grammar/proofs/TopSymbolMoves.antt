@@ -22,13 +22,15 @@ use Rattle.aadl_grammar.proofs.Fates.FirstTerminalFates.{none_own, fits_itself}
 use Rattle.aadl_grammar.specs.proof.ParserAnswers.{spot, At, AtMark, AtWord, Misses, MissAll, IsMarked}
 
 -- the symbol takes the first terminal
-pub takes_row : (outer end : ℕ) (x : Symbol) (below : Stack) {kind : PlainTerminal} {ss rest : List PlacedTerminal} {f : List Symbol}
+pub takes_row : (outer end : ℕ) (x : Symbol)
+    (below : Stack) {kind : PlainTerminal} {ss rest : List PlacedTerminal} {f : List Symbol}
     → At kind ss rest → move x kind ≡ takes f → outer + depth (f ++ below) ≤ GREATEST_NESTING
     → fate outer end (x ∷ below) ss ≡ fate outer end (f ++ below) rest
 takes_row outer end x below {kind} {ss} {rest} {f} l m h =
     ap (fate outer end (x ∷ below)) l.whole ∙ fate_takes outer end x below (spot kind l.at) rest f m h
 
-pub deep_row : (outer end : ℕ) (x : Symbol) (below : Stack) {kind : PlainTerminal} {ss rest : List PlacedTerminal} {f : List Symbol}
+pub deep_row : (outer end : ℕ) (x : Symbol)
+    (below : Stack) {kind : PlainTerminal} {ss rest : List PlacedTerminal} {f : List Symbol}
     → At kind ss rest → move x kind ≡ takes f → GREATEST_NESTING < outer + depth (f ++ below)
     → fate outer end (x ∷ below) ss ≡ deep_at (place end ss)
 deep_row outer end x below {kind} {ss} {rest} {f} l m h =
@@ -70,7 +72,8 @@ none_own_fits rs [] m = tt
 none_own_fits rs (t ∷ ss) m = false_from_ne_true (among (kind_number t.kind) (firsts rs)) (none_fits_marks rs t ss m)
 
 -- past some of its own rows, it begins as another symbol with more after it
-pub begins_past : (outer end : ℕ) (x y : Symbol) (own : List Row) (more : List Symbol) (below : Stack) (ss : List PlacedTerminal)
+pub begins_past : (outer end : ℕ) (x y : Symbol) (own : List Row) (more : List Symbol) (below : Stack)
+    (ss : List PlacedTerminal)
     → rows x ≡ own ++ behind more (rows y) → can_omit x ≡ false → can_omit y ≡ false → MissAll own ss
     → fate outer end (x ∷ below) ss ≡ fate outer end (y ∷ more ++ below) ss
 begins_past outer end x y own more below ss e o p m =
@@ -82,7 +85,8 @@ pub begins_as : (outer end : ℕ) (x y : Symbol) (more : List Symbol) (below : S
 begins_as outer end x y more below ss e o p = fate_expands outer end x y [] more below ss e o p (none_own ss)
 
 -- a symbol that may be omitted begins as another one, if that one takes the terminal
-pub enters_as : (outer end : ℕ) (x y : Symbol) (more : List Symbol) (below : Stack) {kind : PlainTerminal} {ss rest : List PlacedTerminal}
+pub enters_as : (outer end : ℕ) (x y : Symbol) (more : List Symbol)
+    (below : Stack) {kind : PlainTerminal} {ss rest : List PlacedTerminal}
     {f : List Symbol} → rows x ≡ behind more (rows y) → can_omit y ≡ false
     → At kind ss rest → move y kind ≡ takes f → fate outer end (x ∷ below) ss ≡ fate outer end (y ∷ more ++ below) ss
 unfolding move
@@ -90,7 +94,8 @@ enters_as outer end x y more below {kind} {ss} {rest} {f} e p l m =
     fate_enters outer end x y [] more below ss f e p (none_own ss) (ap (move_at y) l.whole ∙ m)
 
 -- two symbols that do the same at the first terminal
-pub acts_as : (outer end : ℕ) (x y : Symbol) (below : Stack) {kind : PlainTerminal} {ss rest : List PlacedTerminal} → At kind ss rest
+pub acts_as : (outer end : ℕ) (x y : Symbol) (below : Stack) {kind : PlainTerminal} {ss rest : List PlacedTerminal}
+    → At kind ss rest
     → move x kind ≡ move y kind → fate outer end (x ∷ below) ss ≡ fate outer end (y ∷ below) ss
 acts_as outer end x y below {kind} {ss} {rest} l m =
     fate_is outer end x below ss
@@ -106,7 +111,8 @@ missing (r ∷ rs) m at rest e = let b = or_parts (fits r.first (mark m)) (among
 
 pub misses_at : (rs : List Row) {m : Mark} {ss rest : List PlacedTerminal} → AtMark m ss rest
     → among (mark_number m) (firsts rs) ≡ false → MissAll rs ss
-misses_at rs {m} {ss} {rest} l e = subst (λ (x : List PlacedTerminal). MissAll rs x) (sym l.whole) (missing rs m l.at rest e)
+misses_at rs {m} {ss} {rest} l e = subst (λ (x : List PlacedTerminal). MissAll rs x) (sym l.whole)
+    (missing rs m l.at rest e)
 
 -- a symbol that cannot be omitted is not omitted
 cond_omits : (b : Bool) (f : List Symbol) (z : Move) → (z ≡ omitted → ⊥) → cond b (takes f) z ≡ omitted → ⊥
@@ -128,7 +134,8 @@ never_omits y (t ∷ ss) p e = rows_omit (rows y) t.kind (ap (λ b. move_by (row
 
 -- If a required symbol is missing, omitting the symbols before it gives the same fault.
 by_move : (outer end : ℕ) (x y : Symbol) (own : List Row) (more : List Symbol) (m : Mark) (below : Stack)
-    (ss : List PlacedTerminal) (z : Move) → rows x ≡ own ++ behind more (rows y) → can_omit x ≡ true → can_omit y ≡ false
+    (ss : List PlacedTerminal) (z : Move) → rows x ≡ own ++ behind more (rows y) → can_omit x ≡ true
+    → can_omit y ≡ false
     → MissAll own ss → Misses (the m) ss → move_at y ss ≡ z → (z ≡ omitted → ⊥)
     → fate outer end (x ∷ s.only m ∷ below) ss ≡ fate outer end (y ∷ more ++ s.only m ∷ below) ss
 by_move outer end x y own more m below ss (takes f) e o p own_miss miss h never =

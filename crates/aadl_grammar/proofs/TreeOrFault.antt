@@ -71,7 +71,8 @@ by_fate text tokens l (deep_at at) e =
 
 by_tokens : (text : List ℕ) → HasTokens text ⊎ HasLexFault text
     → HasTree text ⊎ HasLexFault text ⊎ Stops text ⊎ NestsTooDeep text
-by_tokens text (inl (tokens, l)) = by_fate text tokens l (fate 0 (length text) whole_package (placed_terminals text tokens)) refl
+by_tokens text (inl (tokens, l)) = by_fate text tokens l
+    (fate 0 (length text) whole_package (placed_terminals text tokens)) refl
 by_tokens text (inr fault) = inr (inl fault)
 
 pub tree_or_fault : (text : List ℕ) → HasTree text ⊎ HasLexFault text ⊎ Stops text ⊎ NestsTooDeep text

@@ -47,7 +47,8 @@ more_listed (y ∷ xs) x =
     (sym (append_assoc (v.value_parts (value_view kept_place y)) (v.more_values_parts (values_view kept_place xs))
     (plain k.Comma ∷ v.value_parts (value_view kept_place x))))
 
-pub values_push : (old new : List Value) (first : Value) (others : List Value) (x : Value) {ss mid rest : List PlacedTerminal}
+pub values_push : (old new : List Value) (first : Value) (others : List Value)
+    (x : Value) {ss mid rest : List PlacedTerminal}
     → old ≡ first ∷ others → new ≡ old ++ x ∷ [] → Reads (v.values_parts (values_view kept_place old)) ss mid
     → Reads (plain k.Comma ∷ v.value_parts (value_view kept_place x)) mid rest
     → Reads (v.values_parts (values_view kept_place new)) ss rest
@@ -66,7 +67,8 @@ associations_listed (y ∷ xs) x =
     ∙ sym (append_assoc (v.association_parts (association_view kept_place y))
     (v.associations_parts (associations_view kept_place xs)) (v.association_parts (association_view kept_place x)))
 
-pub associations_push : (xs ys : List Association) (x : Association) {ss mid rest : List PlacedTerminal} → ys ≡ xs ++ x ∷ []
+pub associations_push : (xs ys : List Association) (x : Association) {ss mid rest : List PlacedTerminal}
+    → ys ≡ xs ++ x ∷ []
     → Reads (v.associations_parts (associations_view kept_place xs)) ss mid
     → Reads (v.association_parts (association_view kept_place x)) mid rest
     → Reads (v.associations_parts (associations_view kept_place ys)) ss rest
@@ -90,7 +92,8 @@ pub association_begun : (x : Association) {ss rest : List PlacedTerminal}
 association_begun x a = plain_begun (association_view kept_place x) a
 
 -- a word is not a closer, so the list before the closer is not empty
-pub braced : (xs : List Association) {front ss mid rest : List PlacedTerminal} → StartsWord ss → AtMark k.BraceOpen front ss
+pub braced : (xs : List Association) {front ss mid rest : List PlacedTerminal} → StartsWord ss
+    → AtMark k.BraceOpen front ss
     → Reads (v.associations_parts (associations_view kept_place xs)) ss mid → AtMark k.BraceClose mid rest
     → Reads (v.properties_parts (associations_view kept_place xs)) front rest
 braced [] {ss = ss} {mid = mid} {rest = rest} w l a c = absurd (no_closer (sym w.whole ∙ a.written ∙ c.whole)) where

@@ -88,7 +88,8 @@ fourth false true c d x y z w v e f g h = absurd cc
 fourth true b c d x y z w v e f g h = absurd cc
 
 -- a letter begins a word
-letter_goes : (r : Reading) (at c : ℕ) (s : List ℕ) → is_ascii_alphabetic c ≡ true → nat_le (run is_in_word (c ∷ s)) NAME_BYTES ≡ true → first r at (c ∷ s) ≡ Taken Word (run is_in_word (c ∷ s))
+letter_goes : (r : Reading) (at c : ℕ) (s : List ℕ) → is_ascii_alphabetic c ≡ true
+    → nat_le (run is_in_word (c ∷ s)) NAME_BYTES ≡ true → first r at (c ∷ s) ≡ Taken Word (run is_in_word (c ∷ s))
 unfolding first
 letter_goes r at c s letter short =
     let v : Visible is_ascii_alphabetic =

@@ -50,9 +50,11 @@ module _ (tree : PackageTree ℕ) (root : ℕ) where
   module _ (no_thread : is_thread_at tree root ≡ false) (paths : List (List ℕ)) (pairs : AllPairs PathBefore paths)
       (node port : ℕ) (path : List ℕ)
       (at : slice_get paths node ≡ Some path) where
-    added_by : (begin : ChainStart) (one : CarriedChain) (incoming : Incoming) → one.to ≡ record { path = path; port = port }
+    added_by : (begin : ChainStart) (one : CarriedChain) (incoming : Incoming)
+        → one.to ≡ record { path = path; port = port }
         → IsOfKind tree root begin one
-        → ((x : CarriedChain) → IsLink tree root x ⊎ IsFeed tree root x → x.to ≡ record { path = path; port = port } → x ≡ one)
+        → ((x : CarriedChain) → IsLink tree root x ⊎ IsFeed tree root x → x.to ≡ record { path = path; port = port }
+        → x ≡ one)
         → AreInto tree root paths node port incoming
         → AreInto tree root paths node (port + 1) (with_chain incoming begin (chain_in tree root paths one))
     added_by (begins.Root p) one incoming there kind only i =
@@ -84,7 +86,8 @@ module _ (tree : PackageTree ℕ) (root : ℕ) where
         not_in x e t end =
             true≢false (sym (in_by tree root paths no_thread x.to t end) ∙ (ap (is_in tree root) e ∙ out))
 
-        never : (x : CarriedChain) → IsLink tree root x ⊎ IsFeed tree root x → x.to ≡ record { path = path; port = port } → ⊥
+        never : (x : CarriedChain) → IsLink tree root x ⊎ IsFeed tree root x
+            → x.to ≡ record { path = path; port = port } → ⊥
         never x (inl l) e = not_in x e l.3 l.1.ends
         never x (inr f) e = not_in x e f.3 f.1.ends
 

@@ -16,7 +16,8 @@ use Rattle.aadl_chains.specs.proof.PortsJoinedInside.{is_thread_at}
 use Rattle.aadl_chains.specs.Chains.{Port, is_in, IsEnd}
 use Rattle.aadl_chains.proofs.ConnectionsOnChains.{thread_from}
 use Rattle.aadl_chains.proofs.SamePaths.{same_path-self}
-use Rattle.aadl_chains.specs.LinksFeedsAndTaps.{CarriedChain, IsLink, IsFeed, IsTap, same_path, TargetBefore, PortBefore}
+use Rattle.aadl_chains.specs.LinksFeedsAndTaps.{CarriedChain, IsLink, IsFeed, IsTap, same_path, TargetBefore}
+use Rattle.aadl_chains.specs.LinksFeedsAndTaps.{PortBefore}
 use Rattle.aadl_instance.specs.declared.chain.Chain.{Chain}
 use Rattle.aadl_instance.specs.declared.chain_search.Incoming.{Incoming}
 use Rattle.aadl_instance.specs.InstancesByNumbers.{chain_in}
@@ -119,7 +120,8 @@ module _ (tree : PackageTree ℕ) (root : ℕ) (paths : List (List ℕ)) where
     shown_same chains to from s =
         record { ends = s.ends; listed = lists_same P Q Before s.ends to from s.listed; shown = s.shown }
 
-    shown_more : (chains : List Chain) (y : CarriedChain) → ((x : CarriedChain) → P x → Q x) → Q y → ((x : CarriedChain) → Q x → P x ⊎ (y ≡ x))
+    shown_more : (chains : List Chain) (y : CarriedChain) → ((x : CarriedChain) → P x → Q x) → Q y
+        → ((x : CarriedChain) → Q x → P x ⊎ (y ≡ x))
         → ((x : CarriedChain) → P x → Before x y)
         → AreShown tree root paths P Before chains
         → AreShown tree root paths Q Before (chains ++ chain_in tree root paths y ∷ [])
@@ -131,7 +133,8 @@ module _ (tree : PackageTree ℕ) (root : ℕ) (paths : List (List ℕ)) where
           ∙ sym (map-append (chain_in tree root paths) s.ends (y ∷ []));
     }
 
-  shown_none : (P : CarriedChain → Type 0) (Before : CarriedChain → CarriedChain → Type 0) → ((x : CarriedChain) → P x → ⊥)
+  shown_none : (P : CarriedChain → Type 0) (Before : CarriedChain → CarriedChain → Type 0)
+      → ((x : CarriedChain) → P x → ⊥)
       → AreShown tree root paths P Before []
   shown_none P Before none = record { ends = []; listed = lists_none P Before none; shown = refl }
 
@@ -212,7 +215,8 @@ module _ (tree : PackageTree ℕ) (root : ℕ) (paths : List (List ℕ)) where
       -- no chain of a kind leads into the port
       module _ (Kind : CarriedChain → Type 0)
           (none : (x : CarriedChain) → Kind x → x.to ≡ record { path = path; port = port } → ⊥) where
-        still : (x : CarriedChain) → Kind x → IsPassed paths node port x.to ⊎ (x.to ≡ record { path = path; port = port })
+        still : (x : CarriedChain) → Kind x → IsPassed paths node port x.to
+            ⊎ (x.to ≡ record { path = path; port = port })
             → IsPassed paths node port x.to
         still x k (inl h) = h
         still x k (inr e) = absurd (none x k e)
@@ -230,7 +234,8 @@ module _ (tree : PackageTree ℕ) (root : ℕ) (paths : List (List ℕ)) where
       module _ (Kind : CarriedChain → Type 0) (one : CarriedChain) (is : Kind one)
           (there : one.to ≡ record { path = path; port = port })
           (only : (x : CarriedChain) → Kind x → x.to ≡ record { path = path; port = port } → one ≡ x) where
-        or_one : (x : CarriedChain) → Kind x → IsPassed paths node port x.to ⊎ (x.to ≡ record { path = path; port = port })
+        or_one : (x : CarriedChain) → Kind x → IsPassed paths node port x.to
+            ⊎ (x.to ≡ record { path = path; port = port })
             → (Kind x × IsPassed paths node port x.to) ⊎ (one ≡ x)
         or_one x k (inl h) = inl (k, h)
         or_one x k (inr e) = inr (only x k e)
@@ -251,7 +256,8 @@ module _ (tree : PackageTree ℕ) (root : ℕ) (paths : List (List ℕ)) where
             s
 
       pub into_skip : (incoming : Incoming)
-          → ((x : CarriedChain) → IsLink tree root x ⊎ IsFeed tree root x → x.to ≡ record { path = path; port = port } → ⊥)
+          → ((x : CarriedChain) → IsLink tree root x ⊎ IsFeed tree root x → x.to ≡ record { path = path; port = port }
+          → ⊥)
           → AreInto tree root paths node port incoming → AreInto tree root paths node (port + 1) incoming
       into_skip incoming none i = record {
         links = shown_skip (IsLink tree root) (λ x k e. none x (inl k) e) incoming.links i.links;
@@ -259,7 +265,8 @@ module _ (tree : PackageTree ℕ) (root : ℕ) (paths : List (List ℕ)) where
       }
 
       module _ (one : CarriedChain) (there : one.to ≡ record { path = path; port = port })
-          (only : (x : CarriedChain) → IsLink tree root x ⊎ IsFeed tree root x → x.to ≡ record { path = path; port = port }
+          (only : (x : CarriedChain) → IsLink tree root x ⊎ IsFeed tree root x
+          → x.to ≡ record { path = path; port = port }
           → x ≡ one) where
         pub into_link : (incoming : Incoming) → IsLink tree root one → AreInto tree root paths node port incoming
             → AreInto tree root paths node (port + 1)
@@ -285,7 +292,8 @@ module _ (tree : PackageTree ℕ) (root : ℕ) (paths : List (List ℕ)) where
 
     -- all threads are passed
     module _ (node : ℕ) (all : length paths ≤ node) (threads : Lists (IsThreadAt tree root) PathBefore paths) where
-      whole : (Kind : CarriedChain → Type 0) (chains : List Chain) → ((x : CarriedChain) → Kind x → IsThreadAt tree root x.to.path)
+      whole : (Kind : CarriedChain → Type 0) (chains : List Chain)
+          → ((x : CarriedChain) → Kind x → IsThreadAt tree root x.to.path)
           → AreShown tree root paths (λ x. Kind x × IsPassed paths node 0 x.to) TargetBefore chains
           → AreShown tree root paths Kind TargetBefore chains
       whole Kind chains is s =
@@ -332,7 +340,8 @@ module _ (tree : PackageTree ℕ) (root : ℕ) (paths : List (List ℕ)) where
         by x t (inl less) = less
         by x t (inr e) = absurd (none x t e)
 
-    pub taps_more : (taps : List Chain) (one : CarriedChain) → IsTap tree root one → one.to ≡ record { path = []; port = port }
+    pub taps_more : (taps : List Chain) (one : CarriedChain) → IsTap tree root one
+        → one.to ≡ record { path = []; port = port }
         → ((x : CarriedChain) → IsTap tree root x → x.to ≡ record { path = []; port = port } → x ≡ one)
         → AreTapsTo tree root paths port taps
         → AreTapsTo tree root paths (port + 1) (taps ++ chain_in tree root paths one ∷ [])

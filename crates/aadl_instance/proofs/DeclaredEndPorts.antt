@@ -13,7 +13,8 @@ use Rattle.aadl_names.specs.declared.numbered_port.NumberedPort.{NumberedPort}
 use Rattle.aadl_names.specs.declared.numbered_port.NumberedPort.TheVariants.{Own, Inner}
 use Rattle.aadl_names.specs.PackageNameFaults.{goes_in}
 use Rattle.aadl_names.specs.NameResolution.{implementation_at, referred, target_of, ports_at, ports_of, port_named}
-use Rattle.aadl_names.specs.NameResolution.{sub_named, inner_ports, inner_end_port, end_port_by, end_port, subcomponents_of}
+use Rattle.aadl_names.specs.NameResolution.{sub_named, inner_ports, inner_end_port, end_port_by, end_port}
+use Rattle.aadl_names.specs.NameResolution.{subcomponents_of}
 use Rattle.aadl_uses.specs.ContainmentAndUse.{below, number_at_path, component_at}
 use Rattle.aadl_chains.specs.Chains.{Port, ConnectionAt, port_at, Goes, Leads}
 use Rattle.aadl_instance.specs.proof.ChainsSoFar.{HasPort}
@@ -91,7 +92,8 @@ module _ (tree : PackageTree ℕ) (root : ℕ) where
       subst (HasPort tree root) (sym g.enters)
       (there place.path g.number g.component g.stands g.is_component g.link.target g.target g.is_target)
 
-  begins_by : (c : ConnectionAt) (cs : List ConnectionAt) (from to : Port) → Leads tree root (c ∷ cs) from to → HasPort tree root from
+  begins_by : (c : ConnectionAt) (cs : List ConnectionAt) (from to : Port) → Leads tree root (c ∷ cs) from to
+      → HasPort tree root from
   begins_by c [] from to l = subst (HasPort tree root) (sym l.1) (leaves_there c l.0 to l.2)
   begins_by c (d ∷ cs) from to l = begins_by d cs from l.0 l.1
 

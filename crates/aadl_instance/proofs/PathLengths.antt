@@ -99,7 +99,8 @@ weighs tree (s ∷ p) n m e =
     let own = weight_at tree n s sub declared in
     let rest = weighs tree p k m b in
     let whole = total_inside tree n s k sub declared names p in
-    let through : path_weight (containment tree) (name_weights tree) n (s ∷ p) ≡ weights.weight_of (name_weights tree) n s + path_weight (containment tree) (name_weights tree) k p =
+    let through : path_weight (containment tree) (name_weights tree) n (s ∷ p)
+    ≡ weights.weight_of (name_weights tree) n s + path_weight (containment tree) (name_weights tree) k p =
     ap (λ o. weights.weight_of (name_weights tree) n s
     + option_map_or (λ j. path_weight (containment tree) (name_weights tree) j p) o 0) a in
     omega (arith, own, rest, whole, through)))

@@ -9,7 +9,8 @@ use Rattle.aadl_lex.specs.declared.rules.First.TheVariants.{Skipped, Taken, Body
 use Rattle.aadl_lex.specs.declared.rules.Reading.{Reading}
 use Rattle.aadl_lex.specs.declared.rules.Reading.TheVariants.{Outside, Inside}
 use Rattle.aadl_lex.specs.Rules.{first, after}
-use Rattle.aadl_lex.specs.TokensAndFirstFaults.{token, Lexes, ended, skips, takes, reads, Faults, refused, past_skipped, past_token}
+use Rattle.aadl_lex.specs.TokensAndFirstFaults.{token, Lexes, ended, skips, takes, reads, Faults, refused, past_skipped}
+use Rattle.aadl_lex.specs.TokensAndFirstFaults.{past_token}
 use Rattle.aadl_lex.specs.TokensAndFirstFaults.{in_body, past_body, AreTokensOf, IsFaultOf, not_utf8, not_lexed}
 
 record SameTaken (j k : TokenKind) (m n : ℕ) : Type 0 where

@@ -24,7 +24,8 @@ use Rattle.aadl_parse.specs.declared.text_fault.TextFault.TheVariants.{Syntax}
 use Rattle.aadl_parse.specs.ParseResults.{IsOnlyTreeOf, IsFaultOfText, of_parse}
 
 faults : (text : List ℕ) (tokens : List Token) → AreTokensOf text tokens → (e : ParseFault)
-    → FailsAs (fate 0 (length text) (s.a_package ∷ []) (placed_terminals text tokens)) e → IsFaultOfText text (of_parse e)
+    → FailsAs (fate 0 (length text) (s.a_package ∷ []) (placed_terminals text tokens)) e
+    → IsFaultOfText text (of_parse e)
 faults text tokens l parsing.Memory f = l.utf8
 faults text tokens l (parsing.Syntax at) f =
     record {
@@ -63,16 +64,19 @@ given_tree : (text : List ℕ) (tokens : List Token) → AreTokensOf text tokens
     → IsTreeOf text t
 given_tree text tokens l end t rest f a e =
     let both =
-    (answers_text IsPackage 0 end packages (placed_terminals text tokens)).0 (f ∙ ap (fate 0 end []) e ∙ fate_end 0 end) in
+    (answers_text IsPackage 0 end packages (placed_terminals text tokens)).0
+    (f ∙ ap (fate 0 end []) e ∙ fate_end 0 end) in
     record {
       tokens = tokens;
       lexed = l;
-      written = subst (λ (x : List PlacedTerminal). Written (package_parts t) (placed_terminals text tokens) x) e a.written;
+      written = subst (λ (x : List PlacedTerminal). Written (package_parts t) (placed_terminals text tokens) x) e
+          a.written;
       shallow = both.1;
     }
 
 pub at_tree : (text : List ℕ) (tokens : List Token) → AreTokensOf text tokens
-    → (end : ℕ) (ss : List PlacedTerminal) (t : PackageTree ℕ) (rest : List PlacedTerminal) → ss ≡ placed_terminals text tokens
+    → (end : ℕ) (ss : List PlacedTerminal) (t : PackageTree ℕ) (rest : List PlacedTerminal)
+    → ss ≡ placed_terminals text tokens
     → fate 0 end (s.a_package ∷ []) ss ≡ fate 0 end [] rest → Reads (package_parts t) ss rest → rest ≡ []
     → IsTreeOf text t
 at_tree text tokens l end ss t rest b f a e =

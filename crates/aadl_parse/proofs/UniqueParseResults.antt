@@ -18,7 +18,8 @@ use Rattle.aadl_parse.specs.ParseResults.{IsFaultOfText}
 
 -- two faults are equal
 same_fails : (text : List ℕ) (ts us : List Token) → ts ≡ us → (a b : ℕ)
-    → FailsAt IsPackage 0 (length text) (placed_terminals text ts) a → FailsAt IsPackage 0 (length text) (placed_terminals text us) b → a ≡ b
+    → FailsAt IsPackage 0 (length text) (placed_terminals text ts) a
+    → FailsAt IsPackage 0 (length text) (placed_terminals text us) b → a ≡ b
 same_fails text ts us e a b f g =
     fails_once IsPackage 0 (length text) (placed_terminals text us) a b
     (subst (λ (l : List Token). FailsAt IsPackage 0 (length text) (placed_terminals text l) a) e f) g
@@ -26,10 +27,12 @@ same_fails text ts us e a b f g =
 same_deep : (text : List ℕ) (ts us : List Token) → ts ≡ us → (a b : ℕ) → DeepAt IsPackage 0 (placed_terminals text ts) a
     → DeepAt IsPackage 0 (placed_terminals text us) b → a ≡ b
 same_deep text ts us e a b f g =
-    deep_once IsPackage 0 (placed_terminals text us) a b (subst (λ (l : List Token). DeepAt IsPackage 0 (placed_terminals text l) a) e f) g
+    deep_once IsPackage 0 (placed_terminals text us) a b
+    (subst (λ (l : List Token). DeepAt IsPackage 0 (placed_terminals text l) a) e f) g
 
 never_both : (text : List ℕ) (ts us : List Token) → ts ≡ us → (a b : ℕ)
-    → FailsAt IsPackage 0 (length text) (placed_terminals text ts) a → DeepAt IsPackage 0 (placed_terminals text us) b → ⊥
+    → FailsAt IsPackage 0 (length text) (placed_terminals text ts) a → DeepAt IsPackage 0 (placed_terminals text us) b
+    → ⊥
 never_both text ts us e a b f g =
     fails_not_deep IsPackage 0 (length text) (placed_terminals text us) a b
     (subst (λ (l : List Token). FailsAt IsPackage 0 (length text) (placed_terminals text l) a) e f) g

@@ -14,7 +14,8 @@ abbrev written : Printed → List PlainTerminal → Printed
 written before [] = before
 written before (kind ∷ ks) = written (put before kind) ks
 
-printed_kept : {P : Type 0} (before : Printed) (ps : List (SpellingPart P)) → printed before ps ≡ written before (kept ps)
+printed_kept : {P : Type 0} (before : Printed) (ps : List (SpellingPart P))
+    → printed before ps ≡ written before (kept ps)
 printed_kept before [] = refl
 printed_kept before (token kind places ∷ ps) = printed_kept (put before kind) ps
 printed_kept before (may extra ∷ ps) = printed_kept before ps

@@ -16,7 +16,8 @@ pub printed_section : {P : Type 0} → (before : Printed) (s : Section) (ps : Li
 printed_section before s [] = refl
 printed_section before s (p ∷ ps) = refl
 
-pub under_some : {P : Type 0} (word : Mark) (ps : List (SpellingPart P)) → (ps ≡ [] → ⊥) → under word ps ≡ plain word ∷ ps
+pub under_some : {P : Type 0} (word : Mark) (ps : List (SpellingPart P)) → (ps ≡ [] → ⊥)
+    → under word ps ≡ plain word ∷ ps
 under_some word [] some = absurd (some refl)
 under_some word (p ∷ ps) some = refl
 
@@ -30,7 +31,8 @@ some_parts parts tree some (x ∷ xs) h e = some (tree x) (front_none (parts (tr
     front_none [] b e = refl
     front_none (x ∷ a) b e = absurd cc
 
-some_association : {P : Type 0} (x : Association P) (rest : List (SpellingPart P)) → association_parts x ++ rest ≡ [] → ⊥
+some_association : {P : Type 0} (x : Association P) (rest : List (SpellingPart P)) → association_parts x ++ rest ≡ []
+    → ⊥
 some_association (association name operator constant v paths) rest e = absurd cc
 
 pub some_associations : {P : Type 0} (place : ℕ → P) (xs : List source.Association) → false ≡ (length xs == 0)

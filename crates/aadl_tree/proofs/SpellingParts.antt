@@ -4,12 +4,14 @@ use Rattle.std.proofs.Common.{◌≡◌, ℕ, ◌∙◌, sym, ap, subst, refl, L
 use Rattle.aadl_tree.specs.Terminals.{PlainTerminal, PlacedTerminal, kinds_of}
 use Rattle.aadl_tree.specs.SpellingParts.{SpellingPart, token, may, extra_kinds, Spells, HaveKinds, Written, kept}
 
-pub kept_spells : {P : Type 0} → (ps : List (SpellingPart P)) (rest : List PlainTerminal) → Spells ps (kept ps ++ rest) rest
+pub kept_spells : {P : Type 0} → (ps : List (SpellingPart P)) (rest : List PlainTerminal)
+    → Spells ps (kept ps ++ rest) rest
 kept_spells [] rest = refl
 kept_spells (token kind places ∷ ps) rest = (kept ps ++ rest, refl, kept_spells ps rest)
 kept_spells (may extra ∷ ps) rest = inl (kept_spells ps rest)
 
-have_kinds : (ks : List PlainTerminal) (ss rest : List PlacedTerminal) → HaveKinds ks ss rest → kinds_of ss ≡ ks ++ kinds_of rest
+have_kinds : (ks : List PlainTerminal) (ss rest : List PlacedTerminal) → HaveKinds ks ss rest
+    → kinds_of ss ≡ ks ++ kinds_of rest
 have_kinds [] ss rest e = ap kinds_of e
 have_kinds (kind ∷ ks) ss rest (s, more, e, is, h) =
     ap kinds_of e ∙ ap (λ x. x ∷ kinds_of more) is ∙ ap (λ l. kind ∷ l) (have_kinds ks more rest h)
@@ -23,7 +25,8 @@ written_spells (may extra ∷ ps) ss rest (inl w) = inl (written_spells ps ss re
 written_spells (may extra ∷ ps) ss rest (inr (more, h, w)) =
     inr (kinds_of more, have_kinds (extra_kinds extra) ss more h, written_spells ps more rest w)
 
-pub spells_append : {P : Type 0} → (a b : List (SpellingPart P)) (ks mid rest : List PlainTerminal) → Spells a ks mid → Spells b mid rest
+pub spells_append : {P : Type 0} → (a b : List (SpellingPart P)) (ks mid rest : List PlainTerminal) → Spells a ks mid
+    → Spells b mid rest
     → Spells (a ++ b) ks rest
 spells_append [] b ks mid rest e s = subst (λ (x : List PlainTerminal). Spells b x rest) (sym e) s
 spells_append (token kind places ∷ a) b ks mid rest (more, e, r) s = (more, e, spells_append a b more mid rest r s)
@@ -39,7 +42,8 @@ spells_split (may extra ∷ a) b ks rest (inl s) = let r = spells_split a b ks r
 spells_split (may extra ∷ a) b ks rest (inr (more, e, s)) = let r = spells_split a b more rest s in
     (r.0, inr (more, e, r.1), r.2)
 
-pub written_append : (a b : List (SpellingPart ℕ)) (ss mid rest : List PlacedTerminal) → Written a ss mid → Written b mid rest
+pub written_append : (a b : List (SpellingPart ℕ)) (ss mid rest : List PlacedTerminal) → Written a ss mid
+    → Written b mid rest
     → Written (a ++ b) ss rest
 written_append [] b ss mid rest e w = subst (λ (x : List PlacedTerminal). Written b x rest) (sym e) w
 written_append (token kind places ∷ a) b ss mid rest (s, more, e, is, at, v) w =

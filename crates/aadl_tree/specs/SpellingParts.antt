@@ -77,7 +77,8 @@ HaveKinds (kind ∷ ks) ss rest =
 abbrev pub Written : List (SpellingPart ℕ) → List PlacedTerminal → List PlacedTerminal → Type 0
 Written [] ss rest = ss ≡ rest
 Written (token kind places ∷ ps) ss rest =
-    (s : PlacedTerminal) × (more : List PlacedTerminal) × (ss ≡ s ∷ more) × (s.kind ≡ kind) × AreAt places s.at × Written ps more rest
+    (s : PlacedTerminal) × (more : List PlacedTerminal) × (ss ≡ s ∷ more) × (s.kind ≡ kind) × AreAt places s.at
+    × Written ps more rest
 Written (may extra ∷ ps) ss rest =
     Written ps ss rest ⊎ ((more : List PlacedTerminal) × HaveKinds (extra_kinds extra) ss more × Written ps more rest)
 

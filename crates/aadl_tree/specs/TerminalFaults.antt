@@ -25,7 +25,8 @@ place end (s ∷ ss) = s.at
 -- A text of the language does not continue at this place: some text begins with the terminals before it, but none
 -- with this one as well; or the place is the end, and the terminals are not a text. No terminal before it exceeds the
 -- nesting limit.
-pub record FailsAt (IsText : List PlainTerminal → Type 0) (outer end : ℕ) (spots : List PlacedTerminal) (at : ℕ) : Type 0 where
+pub record FailsAt (IsText : List PlainTerminal → Type 0) (outer end : ℕ) (spots : List PlacedTerminal) (at : ℕ) : Type
+    0 where
   pub seen : List PlacedTerminal
   pub left : List PlacedTerminal
   pub whole : spots ≡ seen ++ left
@@ -35,12 +36,13 @@ pub record FailsAt (IsText : List PlainTerminal → Type 0) (outer end : ℕ) (s
   pub shallow : IsShallow outer (kinds_of seen)
 
 -- The opener at this place exceeds the nesting limit, and some text begins with the terminals up to it.
-pub record DeepAt (IsText : List PlainTerminal → Type 0) (outer : ℕ) (spots : List PlacedTerminal) (at : ℕ) : Type 0 where
-  pub seen : List PlacedTerminal
-  pub opener : PlacedTerminal
-  pub left : List PlacedTerminal
-  pub whole : spots ≡ seen ++ opener ∷ left
-  pub place : at ≡ opener.at
-  pub begins : Begins IsText (kinds_of seen ++ opener.kind ∷ [])
-  pub shallow : IsShallow outer (kinds_of seen)
-  pub deep : nesting outer (kinds_of seen ++ opener.kind ∷ []) ≡ GREATEST_NESTING + 1
+pub record DeepAt (IsText : List PlainTerminal → Type 0) (outer : ℕ) (spots : List PlacedTerminal) (at : ℕ) : Type 0
+  where
+    pub seen : List PlacedTerminal
+    pub opener : PlacedTerminal
+    pub left : List PlacedTerminal
+    pub whole : spots ≡ seen ++ opener ∷ left
+    pub place : at ≡ opener.at
+    pub begins : Begins IsText (kinds_of seen ++ opener.kind ∷ [])
+    pub shallow : IsShallow outer (kinds_of seen)
+    pub deep : nesting outer (kinds_of seen ++ opener.kind ∷ []) ≡ GREATEST_NESTING + 1

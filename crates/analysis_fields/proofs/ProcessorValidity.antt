@@ -217,7 +217,8 @@ unfolding processors_in
 processors_are_valid design d processors e =
     let first : List ℕ × List Processor = (replicate (length design.components) 0, []) in
     let tail : List (List ℕ × Data) → Result (List Processor) ScenarioFault =
-    λ es. through (with_processor design) first es >>= λ placing. all_placed design placing.1 (first_unplaced placing.0) in
+    λ es. through (with_processor design) first es >>= λ placing.
+    all_placed design placing.1 (first_unplaced placing.0) in
     let es =
     ok_bind (entries (codes "processors") d)
     (λ es. only_if (nat_le 1 (length es) && nat_le (length es) PROCESSORS) (OutOfRange (codes "processors"))

@@ -4,7 +4,8 @@ ghost use Rattle.std.specs.Prelude.{◌≡◌, ◌≤◌, ◌∷◌, ◌++◌, [
 ghost use Rattle.serde_json.specs.View.{view};
 ghost use Rattle.scenario_values.specs.ResultCombinators.{Answers, Shows};
 ghost use Rattle.scenario_values.specs.FaultPlaces.{place_text};
-ghost use Rattle.analysis_fields.specs.ReplicasAndTheirFaults.{source_in, target_in, kind_in, replicas_of, fault_values};
+ghost use Rattle.analysis_fields.specs.ReplicasAndTheirFaults.{source_in, target_in, kind_in, replicas_of};
+ghost use Rattle.analysis_fields.specs.ReplicasAndTheirFaults.{fault_values};
 ghost use Rattle.analysis_fields.specs.ReplicasAndTheirFaults.{replica_at, link_from, ends_of, fault_behind, fault_of};
 ghost use Rattle.analysis_fields.specs.ReplicasAndTheirFaults.{copies_at, kind_at, key_of, fault_in, with_fault};
 ghost use Rattle.analysis_fields.specs.ReplicasAndTheirFaults.{faults_in};

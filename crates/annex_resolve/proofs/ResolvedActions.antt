@@ -33,7 +33,8 @@ use Rattle.annex_resolve.specs.ResolvedTrees.{otherwise_of, block_of}
 use Rattle.annex_resolve.specs.ActionFindings.{turns, turns_with_outer, is_too_long, is_integer, action_findings}
 use Rattle.annex_resolve.specs.ActionFindings.{actions_findings, mores_findings, branch_findings, elsifs_findings}
 use Rattle.annex_resolve.specs.ActionFindings.{otherwise_findings, block_findings}
-use Rattle.annex_resolve.specs.proof.ResolutionResults.{ResolvesAction, ResolvesActions, ResolvesBranch, ResolvesBranches}
+use Rattle.annex_resolve.specs.proof.ResolutionResults.{ResolvesAction, ResolvesActions, ResolvesBranch}
+use Rattle.annex_resolve.specs.proof.ResolutionResults.{ResolvesBranches}
 use Rattle.annex_resolve.proofs.ResolvedTermsAndSums.{take_next}
 
 -- ---- a name that is assigned or sent
@@ -129,7 +130,8 @@ pub next_action : (scope : Scope) (around : ℕ) (first : Action ℕ) (xs : List
     → i < length xs → x ≡ get_or xs i x
     → ResolvesActions (plain.Do (action_of scope first) (mores_of scope (mores_view kept_place (take i xs))))
     (action_findings scope around first ++ mores_findings scope around (mores_view kept_place (take i xs))) acts b m
-    → ResolvesAction (action_of scope (action_view kept_place x)) (action_findings scope around (action_view kept_place x))
+    → ResolvesAction (action_of scope (action_view kept_place x))
+    (action_findings scope around (action_view kept_place x))
     act m a → news ≡ acts ++ act ∷ []
     → ResolvesActions (plain.Do (action_of scope first) (mores_of scope (mores_view kept_place (take (i + 1) xs))))
     (action_findings scope around first
@@ -234,7 +236,8 @@ pub branch_read : (scope : Scope) (around : ℕ) (e : Expression ℕ) (xs : Acti
     (types : List Violation) (b m a : List Violation)
     → tree_of branch.guard ≡ expression_of scope e → m ≡ b ++ types
     → ResolvesActions (actions_of scope xs) (actions_findings scope around xs) branch.acts.items m a
-    → ResolvesBranch (expression_of scope e) (actions_of scope xs) (types ++ actions_findings scope around xs) branch b a
+    → ResolvesBranch (expression_of scope e) (actions_of scope xs) (types ++ actions_findings scope around xs) branch b
+    a
 branch_read scope around e xs branch types b m a guard typed reads = record {
   guard_is = guard;
   actions_are = reads.tree_is;

@@ -194,7 +194,8 @@ factors_next scope xs i x op at t ops news b m0 m1 m2 within is before reads her
 
 pub of_factors : (scope : Scope) (xs ys : List (MultiplyOperator × source_factor.Factor)) (ops : List Operand)
     (b a : List Violation) → xs ≡ ys
-    → ResolvesOperands (factors_of scope (factors_view kept_place xs)) (factors_types scope (factors_view kept_place xs))
+    → ResolvesOperands (factors_of scope (factors_view kept_place xs))
+    (factors_types scope (factors_view kept_place xs))
     ops b a → ResolvesOperands (factors_of scope (factors_view kept_place ys))
     (factors_types scope (factors_view kept_place ys)) ops b a
 of_factors scope xs ys ops b a same reads =
@@ -204,7 +205,8 @@ of_factors scope xs ys ops b a same reads =
     }
 
 pub terms_none : (scope : Scope) (ops : List Operand) (b : List Violation) → ops ≡ []
-    → ResolvesOperands (terms_of scope (terms_view kept_place [])) (terms_types scope (terms_view kept_place [])) ops b b
+    → ResolvesOperands (terms_of scope (terms_view kept_place [])) (terms_types scope (terms_view kept_place [])) ops b
+    b
 unfolding terms_of terms_types
 terms_none scope ops b none = record { tree_is = ap operands_along none; found = sym (append-nil b) }
 
@@ -236,7 +238,8 @@ terms_next scope xs i x op at t ops news b m0 m1 m2 within is before reads here 
 
 pub of_terms : (scope : Scope) (xs ys : List (Sign × source_term.Term)) (ops : List Operand)
     (b a : List Violation) → xs ≡ ys
-    → ResolvesOperands (terms_of scope (terms_view kept_place xs)) (terms_types scope (terms_view kept_place xs)) ops b a
+    → ResolvesOperands (terms_of scope (terms_view kept_place xs)) (terms_types scope (terms_view kept_place xs)) ops b
+    a
     → ResolvesOperands (terms_of scope (terms_view kept_place ys))
     (terms_types scope (terms_view kept_place ys)) ops b a
 of_terms scope xs ys ops b a same reads =

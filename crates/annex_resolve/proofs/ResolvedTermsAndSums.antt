@@ -50,7 +50,8 @@ take_next xs i x within is = take_more xs i x within ∙ ap (λ y. take i xs ++ 
 -- one more operand has been read
 pub one_more : (tree next : plain.Operands) (fs gs its : List Violation) (op : Op) (item : plain.Expression)
     (kind : Option Kind) (k : Kind) (at place : ℕ) (t : Typed) (ops news : List Operand) (b m0 m1 m2 : List Violation)
-    → ResolvesOperands tree fs ops b m0 → Resolves item kind its t m0 m1 → at ≡ place → m2 ≡ m1 ++ misfit at (Some k) t.kind
+    → ResolvesOperands tree fs ops b m0 → Resolves item kind its t m0 m1 → at ≡ place
+    → m2 ≡ m1 ++ misfit at (Some k) t.kind
     → news ≡ ops ++ record { op = op; right = t.expr } ∷ [] → next ≡ put_last tree op item
     → gs ≡ fs ++ (its ++ misfit place (Some k) kind)
     → ResolvesOperands next gs news b m2
@@ -71,7 +72,8 @@ one_more tree next fs gs its op item kind k at place t ops news b m0 m1 m2 befor
 -- several operands have been read
 pub several : (tree : plain.Expression) (kind : Option Kind) (fs rs : List Violation) (rest : plain.Operands) (k : Kind)
     (at place : ℕ) (t : Typed) (ops : List Operand) (e : Expr) (b m1 m2 a : List Violation)
-    → Resolves tree kind fs t b m1 → at ≡ place → m2 ≡ m1 ++ misfit at (Some k) t.kind → ResolvesOperands rest rs ops m2 a
+    → Resolves tree kind fs t b m1 → at ≡ place → m2 ≡ m1 ++ misfit at (Some k) t.kind
+    → ResolvesOperands rest rs ops m2 a
     → tree_of e ≡ chained (tree_of t.expr) (operands_along ops)
     → Resolves (chained tree rest) (Some k) ((fs ++ misfit place (Some k) kind) ++ rs)
     (record { expr = e; kind = Some k }) b a
@@ -132,7 +134,8 @@ term_alone scope first (x ∷ xs) t b a none reads = absurd (omega (arith, none)
 
 pub term_several : (scope : Scope) (first : Factor ℕ) (rest : List (MultiplyOperator × source_factor.Factor)) (at : ℕ)
     (t : Typed) (ops : List Operand) (e : Expr) (b m1 m2 a : List Violation) → (length rest ≡ 0 → ⊥)
-    → Resolves (factor_of scope first) (factor_kind scope first) (factor_types scope first) t b m1 → at ≡ factor_at first
+    → Resolves (factor_of scope first) (factor_kind scope first) (factor_types scope first) t b m1
+    → at ≡ factor_at first
     → m2 ≡ m1 ++ misfit at (Some Integer) t.kind
     → ResolvesOperands (factors_of scope (factors_view kept_place rest))
     (factors_types scope (factors_view kept_place rest)) ops m2 a

@@ -17,7 +17,8 @@ use Rattle.annex_resolve.specs.declared.ports_and_variables.DeclaredValues.{Decl
 use Rattle.annex_resolve.specs.declared.states.StateAt.{StateAt}
 use Rattle.annex_resolve.specs.declared.outgoing_transitions.Departure.{Departure}
 use Rattle.annex_resolve.specs.declared.outgoing_transitions.GuardCase.{GuardCase}
-use Rattle.annex_resolve.specs.declared.outgoing_transitions.GuardCase.TheVariants.{Dispatch, Otherwise, Always, Guarded}
+use Rattle.annex_resolve.specs.declared.outgoing_transitions.GuardCase.TheVariants.{Dispatch, Otherwise, Always}
+use Rattle.annex_resolve.specs.declared.outgoing_transitions.GuardCase.TheVariants.{Guarded}
 use Rattle.annex_resolve.specs.declared.violation.Violation.{Violation}
 use Rattle.annex_resolve.specs.declared.violation.TheConstants.{NO_INITIAL, DISPATCH_COUNT, NO_OTHERWISE}
 use Rattle.annex_resolve.specs.declared.violation.TheConstants.{CYCLE_WITHOUT_COMPLETE}

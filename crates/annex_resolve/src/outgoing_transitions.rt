@@ -5,7 +5,8 @@ ghost use Rattle.std.specs.List.{list_any};
 ghost use Rattle.pals_base.specs.BehaviourRules.{dispatch_count};
 ghost use Rattle.aadl_tree.specs.proof.PlaceMaps.{kept_place};
 ghost use Rattle.aadl_tree.specs.proof.AnnexViews.{guard_view, transition_view};
-ghost use Rattle.annex_resolve.specs.BehavioursAndFindings.{guard_case_of, departure_of, guard_cases_from, is_otherwise, is_guarded};
+ghost use Rattle.annex_resolve.specs.BehavioursAndFindings.{guard_case_of, departure_of, guard_cases_from};
+ghost use Rattle.annex_resolve.specs.BehavioursAndFindings.{is_otherwise, is_guarded};
 ghost use Rattle.annex_resolve.specs.BehavioursAndFindings.{is_open, lacks_otherwise, breaks_dispatch};
 
 use crate::cycles::is_complete;

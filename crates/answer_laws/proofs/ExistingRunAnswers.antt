@@ -127,5 +127,6 @@ run_answer ends named design scenario trace rules suits =
     let run = run_of design scenario in
     let is_run : IsRunOf run = record { design = rules; rounds = suits.long.0 } in
     let e = ends run scenario.clocks is_run (begins run scenario.clocks suits.clock) in
-    by_stop named run scenario.clocks trace is_run suits.long.1 (are_readings run.design scenario.clocks suits.clock) e.later
+    by_stop named run scenario.clocks trace is_run suits.long.1 (are_readings run.design scenario.clocks suits.clock)
+    e.later
     e.more e.state e.state.stop e.runs e.lists refl e.come

@@ -18,7 +18,8 @@ use Rattle.design_laws.specs.PackageDesigns as laws
 use Rattle.design_laws.proofs.UniqueInstancesAndDesigns.{one_instance, one_list, no_list}
 use Rattle.bundle_designs.specs.ParsedBundles.{IsParsed}
 use Rattle.bundle_designs.specs.RefusedTexts.{IsUndivided, IsUnread, IsTextRefused}
-use Rattle.bundle_designs.specs.AcceptedAndRefusedPackages.{IsFaulty, HasViolations, IsRefusedIn, IsAccepted, IsPackageRefused}
+use Rattle.bundle_designs.specs.AcceptedAndRefusedPackages.{IsFaulty, HasViolations, IsRefusedIn, IsAccepted}
+use Rattle.bundle_designs.specs.AcceptedAndRefusedPackages.{IsPackageRefused}
 use Rattle.pals_top.specs.RefusalAnswers.{IsBundleRefused}
 use Rattle.answer_laws.proofs.BundleSplits.{one_split, divided}
 use Rattle.answer_laws.specs.proof.UniquenessPremises.{OneDesign, OneFault}

@@ -57,7 +57,8 @@ done_or_first run (Lists lists) s node goal done first =
 
 -- ---- two ends
 module _ (run : Run) (clocks : Clocks) (rules : IsRunOf run) where
-  ends_first : (a : List ℕ) → (x : IsEndedRun run clocks a) → EndsFirst run x.outcome.later x.outcome.state x.node x.goal
+  ends_first : (a : List ℕ) → (x : IsEndedRun run clocks a)
+      → EndsFirst run x.outcome.later x.outcome.state x.node x.goal
   ends_first a x = first_of run x.outcome.later x.outcome.state x.node x.goal x.outcome.keeps.agrees x.ends x.first
 
   module _ (one_end : EndsAgree) where

@@ -84,7 +84,8 @@ joined_reads logic.Xor l a = marked l a
 joined_reads logic.AndThen (mid, l, m) a = marked l (marked m a)
 joined_reads logic.OrElse (mid, l, m) a = marked l (marked m a)
 
-pub joined_shorter : (o : LogicOperator) {ps : List (SpellingPart ℕ)} (ss mid rest : List PlacedTerminal) → Joins o ss mid
+pub joined_shorter : (o : LogicOperator) {ps : List (SpellingPart ℕ)} (ss mid rest : List PlacedTerminal)
+    → Joins o ss mid
     → Reads ps mid rest → length rest < length ss
 joined_shorter logic.And ss next rest (l, miss) a = shorter l a
 joined_shorter logic.Or ss next rest (l, miss) a = shorter l a
@@ -103,7 +104,8 @@ factors_listed (y ∷ xs) o x =
     (sym (append_assoc (e.factor_parts (factor_view kept_place y.1)) (e.factors_parts (factors_view kept_place xs))
     (plain (e.multiply_mark o) ∷ e.factor_parts (factor_view kept_place x))))
 
-pub factors_push : (ps : List (SpellingPart ℕ)) (xs ys : List (MultiplyOperator × Factor)) (o : MultiplyOperator) (x : Factor)
+pub factors_push : (ps : List (SpellingPart ℕ)) (xs ys : List (MultiplyOperator × Factor)) (o : MultiplyOperator)
+    (x : Factor)
     {ss mid rest : List PlacedTerminal} → ys ≡ xs ++ (o, x) ∷ []
     → Reads (ps ++ e.factors_parts (factors_view kept_place xs)) ss mid
     → Reads (plain (e.multiply_mark o) ∷ e.factor_parts (factor_view kept_place x)) mid rest
@@ -123,7 +125,8 @@ terms_listed (y ∷ xs) o x =
     (sym (append_assoc (e.term_parts (term_view kept_place y.1)) (e.terms_parts (terms_view kept_place xs))
     (plain (sign_mark o) ∷ e.term_parts (term_view kept_place x))))
 
-pub terms_push : (ps : List (SpellingPart ℕ)) (xs ys : List (Sign × Term)) (o : Sign) (x : Term) {ss mid rest : List PlacedTerminal}
+pub terms_push : (ps : List (SpellingPart ℕ)) (xs ys : List (Sign × Term)) (o : Sign)
+    (x : Term) {ss mid rest : List PlacedTerminal}
     → ys ≡ xs ++ (o, x) ∷ [] → Reads (ps ++ e.terms_parts (terms_view kept_place xs)) ss mid
     → Reads (plain (sign_mark o) ∷ e.term_parts (term_view kept_place x)) mid rest
     → Reads (ps ++ e.terms_parts (terms_view kept_place ys)) ss rest
@@ -146,7 +149,8 @@ relations_listed (y ∷ xs) o x =
     (e.relation_parts (relation_view kept_place y.1) ++ e.relations_parts (relations_view kept_place xs))
     (e.logic_parts o ++ e.relation_parts (relation_view kept_place x)))
 
-pub relations_push : (ps : List (SpellingPart ℕ)) (xs ys : List (LogicOperator × Relation)) (o : LogicOperator) (x : Relation)
+pub relations_push : (ps : List (SpellingPart ℕ)) (xs ys : List (LogicOperator × Relation)) (o : LogicOperator)
+    (x : Relation)
     {ss mid rest : List PlacedTerminal} → ys ≡ xs ++ (o, x) ∷ []
     → Reads (ps ++ e.relations_parts (relations_view kept_place xs)) ss mid
     → Reads (e.logic_parts o ++ e.relation_parts (relation_view kept_place x)) mid rest

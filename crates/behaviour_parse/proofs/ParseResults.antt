@@ -63,26 +63,30 @@ end_last (t ∷ u ∷ ts) d some =
     ap (λ (k : ℕ). (get_or (t ∷ u ∷ ts) k d).end) e ∙ end_last (u ∷ ts) d (omega arith)
 
 -- the fault of the behaviour itself
-pub at_fault : (text : List ℕ) (tokens : List Token) (end : ℕ) (ss : List PlacedTerminal) (e : ParseFault) → end ≡ end_of tokens
+pub at_fault : (text : List ℕ) (tokens : List Token) (end : ℕ) (ss : List PlacedTerminal) (e : ParseFault)
+    → end ≡ end_of tokens
     → ss ≡ spots_from true text tokens → FailsAs (fate 1 end annex_body ss) e → IsFaultOfBehaviour text tokens e
 at_fault text tokens end ss e a b f =
     faults text tokens e (subst (λ (l : List PlacedTerminal). FailsAs (fate 1 (end_of tokens) annex_body l) e) b
     (subst (λ (n : ℕ). FailsAs (fate 1 n annex_body ss) e) a f))
 
 -- a terminal follows the behaviour
-pub left_fault : (text : List ℕ) (tokens : List Token) (end : ℕ) (ss rest : List PlacedTerminal) (at : ℕ) → end ≡ end_of tokens
+pub left_fault : (text : List ℕ) (tokens : List Token) (end : ℕ) (ss rest : List PlacedTerminal) (at : ℕ)
+    → end ≡ end_of tokens
     → ss ≡ spots_from true text tokens → fate 1 end annex_body ss ≡ fate 1 end [] rest → 0 < length rest
     → at ≡ place end rest → IsFaultOfBehaviour text tokens (Syntax at)
 left_fault text tokens end ss [] at a b c d e = absurd (omega arith)
 left_fault text tokens end ss (x ∷ more) at a b c d e =
     at_fault text tokens end ss (Syntax at) a b (c ∙ fate_left 1 end x more ∙ ap syntax_at (sym e))
 
-pub at_tree : (text : List ℕ) (tokens : List Token) (end : ℕ) (ss : List PlacedTerminal) (t : AnnexTree ℕ) (rest : List PlacedTerminal)
+pub at_tree : (text : List ℕ) (tokens : List Token) (end : ℕ) (ss : List PlacedTerminal) (t : AnnexTree ℕ)
+    (rest : List PlacedTerminal)
     → ss ≡ spots_from true text tokens → fate 1 end annex_body ss ≡ fate 1 end [] rest
     → Reads (annex_tree_parts t) ss rest → rest ≡ []
     → IsOnlyBehaviourOf text tokens t
 at_tree text tokens end ss t rest b f a e =
-    tree_of text tokens end t rest (subst (λ (l : List PlacedTerminal). fate 1 end annex_body l ≡ fate 1 end [] rest) b f)
+    tree_of text tokens end t rest (subst (λ (l : List PlacedTerminal). fate 1 end annex_body l ≡ fate 1 end [] rest) b
+    f)
     (subst (λ (l : List PlacedTerminal). Reads (annex_tree_parts t) l rest) b a) e
 
 pub residual : {X : Type 0} (P : ParseFault → Type 0) (e : ParseFault) (result : Result X ParseFault)

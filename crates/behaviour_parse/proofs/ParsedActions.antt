@@ -34,7 +34,8 @@ use Rattle.behaviour_parse.specs.declared.actions.LoopHead.{LoopHead}
 use Rattle.behaviour_parse.specs.proof.LoopAndChoiceParts.{head_parts, choice_parts}
 
 -- a choice after its `if`
-pub choice_reads : (x : Choice) {ss mid rest : List PlacedTerminal} → AtMark k.If ss mid → Reads (choice_parts x) mid rest
+pub choice_reads : (x : Choice) {ss mid rest : List PlacedTerminal} → AtMark k.If ss mid
+    → Reads (choice_parts x) mid rest
     → Reads (a.action_parts (choice_view kept_place x)) ss rest
 choice_reads x l b = respelled (ap a.action_parts (sym (view-out-choice kept_place x))) (marked l b)
 
@@ -62,7 +63,8 @@ pub begins_by : {x : Symbol} {kind : PlainTerminal} {ss rest : List PlacedTermin
 begins_by {x} {kind} {ss} {rest} {f} l m = record { kind = kind; rest = rest; wanted = f; first = l; moves = m }
 
 -- a bound of a loop's range
-pub bound_runs : (b : Bool) (outer end : ℕ) (below : Stack) {n : ℤ} (ss : List PlacedTerminal) {mid rest : List PlacedTerminal}
+pub bound_runs : (b : Bool) (outer end : ℕ) (below : Stack) {n : ℤ}
+    (ss : List PlacedTerminal) {mid rest : List PlacedTerminal}
     → outer + depth below ≤ GREATEST_NESTING → IsMarked k.Minus b ss mid → At (whole n) mid rest
     → fate outer end (s.bound ∷ below) ss ≡ fate outer end below rest
 unfolding move depth
@@ -84,7 +86,8 @@ bound_refuses false outer end below ss mid h (l, e) m =
     (m, (subst (λ (x : List PlacedTerminal). Misses (the k.Minus) x) (sym e) l, tt))
 
 -- the parentheses of a loop and its body
-pub loop_reads : (x : LoopHead) (body : List (SpellingPart ℕ)) {ss rest : List PlacedTerminal} → Reads (head_parts x ++ body) ss rest
+pub loop_reads : (x : LoopHead) (body : List (SpellingPart ℕ)) {ss rest : List PlacedTerminal}
+    → Reads (head_parts x ++ body) ss rest
     → Reads (plain k.ParenOpen
     ∷ (identifier_parts (identifier_view kept_place x.variable)
     ++ (plain k.Colon ∷ (reference_parts (reference_view kept_place x.data_type) ++ (plain k.In
@@ -138,7 +141,8 @@ mores_listed (y ∷ xs) x =
     (sym (append_assoc (a.action_parts (action_view kept_place y)) (a.mores_parts (mores_view kept_place xs))
     (plain k.Semicolon ∷ a.action_parts (action_view kept_place x))))
 
-pub mores_push : (ps : List (SpellingPart ℕ)) (xs ys : List Action) (x : Action) {ss mid rest : List PlacedTerminal} → ys ≡ xs ++ x ∷ []
+pub mores_push : (ps : List (SpellingPart ℕ)) (xs ys : List Action) (x : Action) {ss mid rest : List PlacedTerminal}
+    → ys ≡ xs ++ x ∷ []
     → Reads (ps ++ a.mores_parts (mores_view kept_place xs)) ss mid
     → Reads (plain k.Semicolon ∷ a.action_parts (action_view kept_place x)) mid rest
     → Reads (ps ++ a.mores_parts (mores_view kept_place ys)) ss rest
@@ -151,7 +155,8 @@ pub not_ended : (ps qs : List (SpellingPart ℕ)) {ss rest : List PlacedTerminal
     → Reads (ps ++ (qs ++ may last_semicolon ∷ [])) ss rest
 not_ended ps qs {ss} {rest} p = regroup ps qs p (record { written = inl refl })
 
-pub ended : (ps qs : List (SpellingPart ℕ)) {ss mid rest : List PlacedTerminal} → Reads (ps ++ qs) ss mid → AtMark k.Semicolon mid rest
+pub ended : (ps qs : List (SpellingPart ℕ)) {ss mid rest : List PlacedTerminal} → Reads (ps ++ qs) ss mid
+    → AtMark k.Semicolon mid rest
     → Reads (ps ++ (qs ++ may last_semicolon ∷ [])) ss rest
 ended ps qs {ss} {mid} {rest} p l =
     regroup ps qs p (record { written = inr (rest, (_, rest, l.whole, refl, refl), refl) })

@@ -18,7 +18,8 @@ use Rattle.pals_model.specs.declared.design.Feed.{Feed}
 use Rattle.pals_model.specs.declared.design.DesignParts.{DesignParts}
 use Rattle.pals_model.specs.declared.port_sources.PortSource.{PortSource}
 use Rattle.pals_model.specs.declared.port_sources.PortSource.TheVariants as source
-use Rattle.pals_model.specs.ComponentInputs.{values_at, input_vectors, inputs_in, source_of, sources_of, brought_tuple, read_feed}
+use Rattle.pals_model.specs.ComponentInputs.{values_at, input_vectors, inputs_in, source_of, sources_of, brought_tuple}
+use Rattle.pals_model.specs.ComponentInputs.{read_feed}
 use Rattle.pals_model.specs.ComponentInputs.{read_link}
 use Rattle.pals_model.specs.PortKindsAndRates.{rate_of}
 use Rattle.pals_model.specs.Composition.{comp, msg}

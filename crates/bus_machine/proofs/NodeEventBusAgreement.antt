@@ -35,7 +35,8 @@ use Rattle.bus_machine.specs.Agreement.{SlotAgrees, IsCopy, Agrees}
 use Rattle.bus_machine.specs.proof.AgreementLaws.{IsRunOf}
 use Rattle.bus_machine.proofs.ListsAndOldestCopies.{numbered_at}
 use Rattle.bus_machine.proofs.InputAgreement.{SlotsAgree}
-use Rattle.bus_machine.proofs.NodeEventLocalAgreement.{starts, steps_on, finishes, finish_keeps, sends, MaySend, may_send_of}
+use Rattle.bus_machine.proofs.NodeEventLocalAgreement.{starts, steps_on, finishes, finish_keeps, sends, MaySend}
+use Rattle.bus_machine.proofs.NodeEventLocalAgreement.{may_send_of}
 use Rattle.bus_machine.proofs.NodeEventLocalAgreement.{sends_message}
 use Rattle.bus_machine.proofs.StateChangeAgreement.{with_stop_agrees, with_flights_agrees, node_set, is_component}
 use Rattle.bus_machine.proofs.StateChangeAgreement.{with_node_agrees, slots_of}

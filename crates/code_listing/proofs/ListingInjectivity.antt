@@ -15,7 +15,8 @@ use Rattle.step_code.specs.declared.instr.CodeParts.{CodeParts}
 use Rattle.pals_report.specs.CheckReports.{link_line, feed_line, tap_line}
 use Rattle.code_listing.specs.Listings.{range_line}
 use Rattle.code_listing.specs.NumberRanges.{NumbersFit, AllFit}
-use Rattle.code_listing.specs.proof.ListingInjectivity.{ToldComponent, told_component, told_components, told_design, IsCodeOf}
+use Rattle.code_listing.specs.proof.ListingInjectivity.{ToldComponent, told_component, told_components, told_design}
+use Rattle.code_listing.specs.proof.ListingInjectivity.{IsCodeOf}
 use Rattle.code_listing.specs.proof.ListingInjectivity.{AreListed, ListingTells}
 use Rattle.code_listing.proofs.LinesAndWords.{is_plain, same_lines, same_words, decimal_plain}
 use Rattle.code_listing.proofs.PortNames.{Ported, names_of, ported, outs_of, ins_of}
@@ -119,7 +120,8 @@ alike design other programs others listed listed_other same =
 -- ---- the law
 lines_told : (design other : DesignParts) (programs others : List CodeParts) → AreListed design programs
     → AreListed other others
-    → lines_in_order design programs ≡ lines_in_order other others → told_design design programs ≡ told_design other others
+    → lines_in_order design programs ≡ lines_in_order other others
+    → told_design design programs ≡ told_design other others
 lines_told design other programs others listed listed_other same =
     let rules = listed.rules in
     let rules_other = listed_other.rules in

@@ -34,7 +34,8 @@ use Rattle.code_listing.proofs.ComponentInjectivity.{behind_states, behind_vars,
 use Rattle.code_listing.proofs.ComponentInjectivity.{tail_lines, lines_are}
 use Rattle.code_listing.proofs.DeclarationInjectivity.{kind_plain}
 use Rattle.code_listing.proofs.InstructionInjectivity.{words_plain}
-use Rattle.code_listing.proofs.LinkFeedTapInjectivity.{link_words, link_line-is, link_plain, feed_words, feed_line-is, feed_plain}
+use Rattle.code_listing.proofs.LinkFeedTapInjectivity.{link_words, link_line-is, link_plain, feed_words, feed_line-is}
+use Rattle.code_listing.proofs.LinkFeedTapInjectivity.{feed_plain}
 use Rattle.code_listing.proofs.LinkFeedTapInjectivity.{tap_words, tap_line-is, tap_plain}
 
 -- ---- a component

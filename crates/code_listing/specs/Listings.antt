@@ -163,7 +163,8 @@ lines_of_all design components programs = flat_map (λ p. component_lines design
 
 abbrev pub listing_lines : DesignParts → List CodeParts → List (List ℕ)
 listing_lines design programs =
-    period_and_bounds_lines design ++ lines_of_all design design.components programs ++ map (link_line design) design.links
+    period_and_bounds_lines design ++ lines_of_all design design.components programs
+    ++ map (link_line design) design.links
     ++ map (feed_line design) design.feeds ++ map (tap_line design) design.taps ++ codes "end" ∷ []
 
 abbrev pub listing : DesignParts → List CodeParts → List ℕ

@@ -26,7 +26,8 @@ use Rattle.bus_machine.specs.Nodes.{NodeState}
 use Rattle.bus_machine.specs.NodeEvents.{running_step, finished, finished_with, fired}
 use Rattle.bus_machine.specs.Plans.{plan_of, component_at}
 use Rattle.bus_machine.specs.RunParameters.{Run}
-use Rattle.bus_machine.specs.Machine.{BusEvent, Start, Step, Finish, Send, Arrive, Drop, Repeat, after, is_allowed, on_step}
+use Rattle.bus_machine.specs.Machine.{BusEvent, Start, Step, Finish, Send, Arrive, Drop, Repeat, after, is_allowed}
+use Rattle.bus_machine.specs.Machine.{on_step}
 use Rattle.bus_machine.specs.Replay.{Replays, opens as replay_opens, goes_on as replay_goes_on}
 use Rattle.bus_machine.specs.proof.AgreementLaws.{IsRunOf}
 use Rattle.bus_machine.proofs.MessageAndRunAgreement.{replay_agrees}
@@ -123,7 +124,8 @@ module _ (run : Run) (codes : List CodeParts) (rules : IsRunOf run) (are : AreCo
   after_same s agrees (Repeat link round) allowed = refl
 
   -- ---- each journal
-  replays_by_code : (journal : List JournalEntry) (s : BusState) → Replays run journal s → CodeReplays run codes journal s
+  replays_by_code : (journal : List JournalEntry) (s : BusState) → Replays run journal s
+      → CodeReplays run codes journal s
   replays_by_code journal s replay_opens = opens
   replays_by_code journal s (replay_goes_on {journal = before} {s = t} e old step) =
       let agrees = replay_agrees run before t rules old in

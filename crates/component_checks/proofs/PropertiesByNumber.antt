@@ -36,9 +36,11 @@ timed period periodic = record { period = period; periodic = periodic }
 pub timed_append : (a b : List (Associations ℕ)) → timed_by (a ++ b) ≡ nearer (timed_by a) (timed_by b)
 unfolding timed
 timed_append a b =
-    let period : period_at (first_in Period (a ++ b)) ≡ option_or (period_at (first_in Period a)) (period_at (first_in Period b)) =
+    let period : period_at (first_in Period (a ++ b))
+    ≡ option_or (period_at (first_in Period a)) (period_at (first_in Period b)) =
     ap period_at (first-append Period a b) ∙ map_or _ (first_in Period a) (first_in Period b) in
-    let periodic : dispatch_at (first_in Dispatch (a ++ b)) ≡ option_or (dispatch_at (first_in Dispatch a)) (dispatch_at (first_in Dispatch b)) =
+    let periodic : dispatch_at (first_in Dispatch (a ++ b))
+    ≡ option_or (dispatch_at (first_in Dispatch a)) (dispatch_at (first_in Dispatch b)) =
     ap dispatch_at (first-append Dispatch a b) ∙ map_or _ (first_in Dispatch a) (first_in Dispatch b) in
     ap (λ x. timed x (dispatch_at (first_in Dispatch (a ++ b)))) period
     ∙ ap (timed (option_or (period_at (first_in Period a)) (period_at (first_in Period b)))) periodic
@@ -110,7 +112,8 @@ behind_list lists xs own behind said result is_own is_behind is_said is =
     is ∙ ap (λ t. nearer t behind) is_own ∙ ap (nearer (timed_by (xs ∷ []))) (is_behind ∙ is_said)
     ∙ sym (timed_append (xs ∷ []) lists)
 
-pub own_is : (tree : PackageTree ℕ) (n : ℕ) (x : Implementation ℕ) (types : List ComponentProperties) (number : Option ℕ)
+pub own_is : (tree : PackageTree ℕ) (n : ℕ) (x : Implementation ℕ) (types : List ComponentProperties)
+    (number : Option ℕ)
     (own behind result : ComponentProperties) → types ≡ map type_timed tree.declarations
     → Some x ≡ implementation_at tree n → number ≡ type_number_at tree n → own ≡ timed_by (x.properties ∷ [])
     → behind ≡ numbered types number → result ≡ nearer own behind
@@ -123,7 +126,8 @@ own_is tree n x types number own behind result are declared names is_own is_behi
     ∙ types_numbered tree.declarations (type_number tree x)) is
     ∙ ap (λ o. timed_by (own_lists tree o)) declared
 
-pub sub_is : (tree : PackageTree ℕ) (at : SubAt) (x : Subcomponent ℕ) (owns : List ComponentProperties) (number : Option ℕ)
+pub sub_is : (tree : PackageTree ℕ) (at : SubAt) (x : Subcomponent ℕ) (owns : List ComponentProperties)
+    (number : Option ℕ)
     (own behind result : ComponentProperties) → owns ≡ map (own_timed tree) tree.declarations
     → Some x ≡ sub_at tree at.declaration at.sub → number ≡ below tree at.declaration at.sub
     → own ≡ timed_by (x.properties ∷ []) → behind ≡ numbered owns number → result ≡ nearer own behind

@@ -34,7 +34,8 @@ use Rattle.design_laws.proofs.DesignLinksFeedsAndTaps.{links, feeds, taps, whole
 use Rattle.design_laws.proofs.InstancesFromParts.{of_shown, to_shown}
 
 -- ---- the design
-module _ {tree : PackageTree ℕ} {name : List ℕ} {parts : InstanceParts} (flat : IsFlat tree name parts) (used : ℕ → Bool)
+module _ {tree : PackageTree ℕ} {name : List ℕ} {parts : InstanceParts} (flat : IsFlat tree name parts)
+    (used : ℕ → Bool)
     (is_use : IsUse tree parts.root used) (found : NoFindings tree (shown_by tree parts) used) (named : AreNamed tree)
     (law : ThreadLaw) where
   abbrev rate : ℕ
@@ -128,7 +129,8 @@ module _ {tree : PackageTree ℕ} {name : List ℕ} {parts : InstanceParts} (fla
   pub accepted : HasDesign tree (shown_by tree parts)
   accepted = (design, is_design_of, keeps)
 
-pub has_design : ThreadLaw → (tree : PackageTree ℕ) (s : ShownInstance) → AreNamed tree → IsShown tree s → NothingFound tree s
+pub has_design : ThreadLaw → (tree : PackageTree ℕ) (s : ShownInstance) → AreNamed tree → IsShown tree s
+    → NothingFound tree s
     → HasDesign tree s
 has_design law tree s named i nothing =
     let there = to_shown (NothingFound tree) tree s i nothing in

@@ -54,7 +54,8 @@ shown_is tree root parts flat = record {
   taps_are = refl;
 }
 
-pub keeps_rules : ((tree : PackageTree ℕ) (s : ShownInstance) → AreNamed tree → ∥ IsShown tree s ∥₁ → NothingFound tree s
+pub keeps_rules : ((tree : PackageTree ℕ) (s : ShownInstance) → AreNamed tree → ∥ IsShown tree s ∥₁
+    → NothingFound tree s
     → (design : DesignParts)
     → IsDesignOf tree s design → IsDesign design)
     → (tree : PackageTree ℕ) (root : List ℕ) (design : DesignParts) → AreNamed tree → IsDesignIn tree root design

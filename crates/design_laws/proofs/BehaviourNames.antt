@@ -30,7 +30,8 @@ use Rattle.model_violations.specs.PortsAndVariables.{port_of, ins_in, outs_in, v
 use Rattle.model_violations.specs.PortsAndVariables.{var_of}
 use Rattle.design_laws.specs.proof.PackageNames.{IsNamed, Differ}
 use Rattle.design_laws.proofs.PairwiseDistinctNames.{same_itself, Differs}
-use Rattle.design_laws.proofs.ElementAndPairwiseProperties.{all_unmapped, pairs_unmapped, pairs_first, pairs_second, pairs_across}
+use Rattle.design_laws.proofs.ElementAndPairwiseProperties.{all_unmapped, pairs_unmapped, pairs_first, pairs_second}
+use Rattle.design_laws.proofs.ElementAndPairwiseProperties.{pairs_across}
 use Rattle.design_laws.proofs.ElementAndPairwiseProperties.{all_kept, split, all_true}
 
 -- ---- distinct names

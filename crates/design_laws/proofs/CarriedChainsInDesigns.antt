@@ -34,7 +34,8 @@ use Rattle.design_laws.specs.InstanceDesigns.{tap_in}
 use Rattle.design_laws.proofs.InstanceBehaviours.{thread_is, root_no_thread}
 use Rattle.design_laws.proofs.MatchedLists.{Zipped}
 use Rattle.design_laws.proofs.ChainTypes.{first_there, last_there, kind_there, kinds_along}
-use Rattle.design_laws.proofs.ChainEndPortsInDesigns.{IsComponentAt, AtNode, at_node, in_port, out_port, component_there}
+use Rattle.design_laws.proofs.ChainEndPortsInDesigns.{IsComponentAt, AtNode, at_node, in_port, out_port}
+use Rattle.design_laws.proofs.ChainEndPortsInDesigns.{component_there}
 
 -- ---- the adaptor between two rates
 pub rated_fits : (at : ℕ) (word : List ℕ) (text : Option (List ℕ)) (kind : Option Kind) (a b : Option ℕ) (p q : ℕ)
@@ -121,11 +122,13 @@ module _ {tree : PackageTree ℕ} {name : List ℕ} {parts : InstanceParts} (fla
         joins chain e.from e.to is.leads (λ same. not_root e.from from (ap (λ (p : Port). p.path) same ∙ to))
 
   -- ---- the connection whose properties apply
-  pub connection_is : (crossing : Bool) (chain : List ConnectionAt) (e : CarriedChain) → (c : Carries tree parts.root crossing chain e)
+  pub connection_is : (crossing : Bool) (chain : List ConnectionAt) (e : CarriedChain)
+      → (c : Carries tree parts.root crossing chain e)
       → connection_of tree (chain_at tree parts e).carrier ≡ Some c.link
   connection_is crossing chain e c = ap (λ o. slice_get (connections_of o) e.connection) c.is_component ∙ c.is_link
 
-  pub adaptor_is : (crossing : Bool) (chain : List ConnectionAt) (e : CarriedChain) → (c : Carries tree parts.root crossing chain e)
+  pub adaptor_is : (crossing : Bool) (chain : List ConnectionAt) (e : CarriedChain)
+      → (c : Carries tree parts.root crossing chain e)
       → chain_adaptor tree (chain_at tree parts e) ≡ option_and_then adaptor_named (adaptor_text c.link)
   adaptor_is crossing chain e c = ap (option_and_then given_adaptor) (connection_is crossing chain e c)
 
@@ -161,14 +164,16 @@ module _ {tree : PackageTree ℕ} {name : List ℕ} {parts : InstanceParts} (fla
           parts.root e.from;
     }
 
-    pub link_is : (e : CarriedChain) → walks.IsLink tree parts.root e → link_in tree (chain_at tree parts e) ≡ Some (link_of e)
+    pub link_is : (e : CarriedChain) → walks.IsLink tree parts.root e
+        → link_in tree (chain_at tree parts e) ≡ Some (link_of e)
     link_is e (chain, is, from, to, carries) =
         ap (λ a. link_by (chain_adaptor tree (chain_at tree parts e)) a (end_in tree parts.root parts.threads e.to))
         (thread_end e.from from)
         ∙ ap (link_by (chain_adaptor tree (chain_at tree parts e)) (Thread (node_at parts.threads e.from.path)
         (port_number tree parts.root e.from))) (thread_end e.to to)
 
-    pub feed_is : (e : CarriedChain) → walks.IsFeed tree parts.root e → feed_in tree (chain_at tree parts e) ≡ Some (feed_of e)
+    pub feed_is : (e : CarriedChain) → walks.IsFeed tree parts.root e
+        → feed_in tree (chain_at tree parts e) ≡ Some (feed_of e)
     feed_is e (chain, is, from, to, carries) =
         ap (λ a. feed_by (chain_adaptor tree (chain_at tree parts e)) a (end_in tree parts.root parts.threads e.to))
         (root_end e.from from)

@@ -121,7 +121,8 @@ module _ (tree : PackageTree ℕ) (root : ℕ) (threads : List (List ℕ)) (cs :
     pub in_seen : is_in tree root p ≡ true → end_kind tree (map (thread_at tree root) threads)
         (Thread (node_at threads p.path) (port_number tree root p)) ≡ kind_in f.data_type
     in_seen goes =
-        let node : slice_get (map (thread_at tree root) threads) (node_at threads p.path).0 ≡ Some (thread_at tree root p.path) =
+        let node : slice_get (map (thread_at tree root) threads) (node_at threads p.path).0
+        ≡ Some (thread_at tree root p.path) =
         ap (slice_get (map (thread_at tree root) threads)) at.node.number
         ∙ (slice_get-map (thread_at tree root) threads at.node.place
         ∙ ap (option_map (thread_at tree root)) at.node.is) in
@@ -153,7 +154,8 @@ module _ (tree : PackageTree ℕ) (root : ℕ) (threads : List (List ℕ)) (cs :
       → end_rate (map (thread_rate tree root) (map (thread_at tree root) threads))
       (Thread (node_at threads path) n) ≡ Some at.component.rate
   rate_at path n at =
-      let read : slice_get (map (thread_rate tree root) (map (thread_at tree root) threads)) (node_at threads path).0 ≡ Some
+      let read : slice_get (map (thread_rate tree root) (map (thread_at tree root) threads)) (node_at threads path).0
+      ≡ Some
       (thread_rate tree root (thread_at tree root path)) =
       ap (slice_get (map (thread_rate tree root) (map (thread_at tree root) threads))) at.node.number
       ∙ (slice_get-map (thread_rate tree root) (map (thread_at tree root) threads) at.node.place

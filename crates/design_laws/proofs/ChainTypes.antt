@@ -127,7 +127,8 @@ same_kinds (Some a) None k l first second e = absurd (cc second)
 same_kinds (Some a) (Some b) k l first second e = ap Some (same_by a b e)
 
 -- ---- along a connection chain
-module _ {tree : PackageTree ℕ} {name : List ℕ} {parts : InstanceParts} (flat : IsFlat tree name parts) (used : ℕ → Bool)
+module _ {tree : PackageTree ℕ} {name : List ℕ} {parts : InstanceParts} (flat : IsFlat tree name parts)
+    (used : ℕ → Bool)
     (is_use : IsUse tree parts.root used) (none : used_findings tree (shown_by tree parts) used ≡ []) where
   typed_by : (path : List ℕ) (p : ℕ) (o : Option (Implementation ℕ)) (f : Feature ℕ)
       → component_at tree parts.root path ≡ o

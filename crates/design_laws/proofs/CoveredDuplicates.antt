@@ -22,7 +22,8 @@ use Rattle.aadl_names.specs.DuplicatesByNamespace.{twice_in_first, member_entrie
 use Rattle.aadl_names.specs.DuplicatesByNamespace.{implementation_entry, twice_names}
 use Rattle.aadl_names.specs.PackageNameFaults.{behaviour_faults, unknown_reference, unknown_end}
 use Rattle.aadl_names.proofs.ListMembers.{is_here, among_all, from_all}
-use Rattle.design_laws.proofs.FaultCoverageRules.{Covered, covered_none, covered_append, covered_if, covered_each, Named}
+use Rattle.design_laws.proofs.FaultCoverageRules.{Covered, covered_none, covered_append, covered_if, covered_each}
+use Rattle.design_laws.proofs.FaultCoverageRules.{Named}
 use Rattle.design_laws.proofs.FaultCoverageRules.{named_append, named_map, named_filter_map, covered_twice}
 use Rattle.design_laws.proofs.CoveredNameFaults.{behaviour_has}
 use Rattle.design_laws.proofs.PossibleNameFaults.{of_identifier, of_identifiers, of_associations, of_variable, of_state}

@@ -83,7 +83,8 @@ connection_covered tree x c =
     (end_covered p.may_leave c.source c.name.at (p.directed_end_port tree x c.source))))
     (covered_back name (covered_back source
     (covered_front properties (end_covered p.may_enter c.target c.name.at (p.directed_end_port tree x c.target))))))
-    (covered_wrong (p.is_own (p.directed_end_port tree x c.source) && p.is_own (p.directed_end_port tree x c.target)) c.name.at
+    (covered_wrong (p.is_own (p.directed_end_port tree x c.source) && p.is_own (p.directed_end_port tree x c.target))
+    c.name.at
     (of_connection c)))
     (covered_back name (covered_back source (covered_back target (list_covered holders.Connection c.properties))))
 

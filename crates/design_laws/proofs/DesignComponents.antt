@@ -138,7 +138,8 @@ module _ {tree : PackageTree ℕ} {name : List ℕ} {parts : InstanceParts} (fla
   is_small b is = small_of (first_annex x) b refl is
 
 -- ---- components
-module _ {tree : PackageTree ℕ} {name : List ℕ} {parts : InstanceParts} (flat : IsFlat tree name parts) (used : ℕ → Bool)
+module _ {tree : PackageTree ℕ} {name : List ℕ} {parts : InstanceParts} (flat : IsFlat tree name parts)
+    (used : ℕ → Bool)
     (is_use : IsUse tree parts.root used) (none : used_findings tree (shown_by tree parts) used ≡ [])
     (rate : ℕ) (clean : root_findings tree parts.root rate ≡ []) (threads : flat_map (thread_findings tree parts.root)
     (map (thread_at tree parts.root) parts.threads) ≡ []) (named : AreNamed tree)
@@ -216,7 +217,8 @@ module _ {tree : PackageTree ℕ} {name : List ℕ} {parts : InstanceParts} (fla
       ))) in
       omega (arith, same, few)
 
-  differ_by : (p q : List ℕ) (m n : ℕ) → number_at_path tree parts.root p ≡ Some m → number_at_path tree parts.root q ≡ Some n
+  differ_by : (p q : List ℕ) (m n : ℕ) → number_at_path tree parts.root p ≡ Some m
+      → number_at_path tree parts.root q ≡ Some n
       → ThreadIs tree parts.root p
       → ThreadIs tree parts.root q
       → spelled_path tree parts.root p ≡ spelled_path tree parts.root q → p ≡ q

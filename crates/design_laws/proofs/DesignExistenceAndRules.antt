@@ -14,7 +14,8 @@ use Rattle.design_laws.specs.InstanceDesigns.{IsDesignOf}
 use Rattle.design_laws.proofs.InstanceBehaviours.{ThreadLaw}
 use Rattle.design_laws.proofs.AcceptedInstances.{has_design, one_design}
 
-pub keeps : ThreadLaw → (tree : PackageTree ℕ) (s : ShownInstance) → AreNamed tree → ∥ IsShown tree s ∥₁ → NothingFound tree s
+pub keeps : ThreadLaw → (tree : PackageTree ℕ) (s : ShownInstance) → AreNamed tree → ∥ IsShown tree s ∥₁
+    → NothingFound tree s
     → (design : DesignParts)
     → IsDesignOf tree s design → IsDesign design
 unfolding IsAcyclic

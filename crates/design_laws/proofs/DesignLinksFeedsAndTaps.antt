@@ -39,10 +39,12 @@ use Rattle.design_laws.proofs.ChainEndPortsInDesigns.{IsComponentAt}
 use Rattle.design_laws.proofs.CarriedChainsInDesigns.{not_root, end_goes_in, link_joins, feed_joins, tap_joins, link_of}
 use Rattle.design_laws.proofs.CarriedChainsInDesigns.{feed_of, tap_of, link_is, feed_is, tap_is, in_kind_is}
 use Rattle.design_laws.proofs.LinkFeedAndTapRules.{link_keeps, feed_keeps, tap_keeps}
-use Rattle.design_laws.proofs.LinkOrderAndRootPortNames.{InPort, other_target, targets_rise, one_port, other_name, one_named}
+use Rattle.design_laws.proofs.LinkOrderAndRootPortNames.{InPort, other_target, targets_rise, one_port, other_name}
+use Rattle.design_laws.proofs.LinkOrderAndRootPortNames.{one_named}
 use Rattle.design_laws.proofs.UniqueChainStarts.{one_start}
 
-module _ {tree : PackageTree ℕ} {name : List ℕ} {parts : InstanceParts} (flat : IsFlat tree name parts) (used : ℕ → Bool)
+module _ {tree : PackageTree ℕ} {name : List ℕ} {parts : InstanceParts} (flat : IsFlat tree name parts)
+    (used : ℕ → Bool)
     (is_use : IsUse tree parts.root used) (none : used_findings tree (shown_by tree parts) used ≡ [])
     (named : AreNamed tree)
     (links_found : flat_map (link_findings tree (map (thread_at tree parts.root) parts.threads)
@@ -242,7 +244,8 @@ module _ {tree : PackageTree ℕ} {name : List ℕ} {parts : InstanceParts} (fla
           feed_kind_is a f x ∙ (kinds ∙ sym (feed_kind_is b g y));
     }
 
-    apart_by : (e : CarriedChain) (f : Feed) → FeedIs e f → (d : CarriedChain) (l : Link) → LinkIs d l → model.IsApart f l
+    apart_by : (e : CarriedChain) (f : Feed) → FeedIs e f → (d : CarriedChain) (l : Link) → LinkIs d l
+        → model.IsApart f l
     apart_by e f x d l y same =
         let first = ap (λ (k : Feed). model.port_place k.target.0 k.in_port) x.is in
         let second = ap (λ (k : Link). model.port_place k.target.0 k.in_port) y.is in

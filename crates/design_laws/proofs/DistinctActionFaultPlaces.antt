@@ -12,7 +12,8 @@ use Rattle.aadl_names.specs.declared.name_roles.Usage.TheVariants.{Set, Send}
 use Rattle.aadl_names.specs.NameUseFaults.{NameRoles, expression_uses, again_as, loop_again, with_loop, action_uses}
 use Rattle.aadl_names.specs.NameUseFaults.{actions_uses, mores_uses, elsifs_uses, otherwise_uses, block_uses}
 use Rattle.aadl_names.proofs.ListMembers.{is_here}
-use Rattle.design_laws.proofs.DistinctFaultPlaces.{OnePerPlace, clear_none, clear_one, clear_front, clear_back, clear_tail}
+use Rattle.design_laws.proofs.DistinctFaultPlaces.{OnePerPlace, clear_none, clear_one, clear_front, clear_back}
+use Rattle.design_laws.proofs.DistinctFaultPlaces.{clear_tail}
 use Rattle.design_laws.proofs.DistinctFaultPlaces.{clear_append, clear_three, clear_four}
 use Rattle.design_laws.proofs.DistinctExpressionFaultPlaces.{use_clear, expression_clear}
 

@@ -24,7 +24,8 @@ use Rattle.aadl_names.specs.NameUseFaults.{NameRoles}
 use Rattle.aadl_names.specs.PackageNameFaults.{is_among, known_in, state_uses, guard_uses, effect_uses, transition_uses}
 use Rattle.aadl_names.specs.PackageNameFaults.{behaviour_faults}
 use Rattle.aadl_names.proofs.ListMembers.{is_here}
-use Rattle.design_laws.proofs.DistinctFaultPlaces.{OnePerPlace, clear_none, clear_one, clear_front, clear_back, clear_tail}
+use Rattle.design_laws.proofs.DistinctFaultPlaces.{OnePerPlace, clear_none, clear_one, clear_front, clear_back}
+use Rattle.design_laws.proofs.DistinctFaultPlaces.{clear_tail}
 use Rattle.design_laws.proofs.DistinctFaultPlaces.{clear_append, clear_flat, clear_unless, clear_four, clear_turned}
 use Rattle.design_laws.proofs.DistinctExpressionFaultPlaces.{expression_clear}
 use Rattle.design_laws.proofs.DistinctActionFaultPlaces.{block_clear}

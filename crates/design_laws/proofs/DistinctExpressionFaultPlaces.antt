@@ -13,7 +13,8 @@ use Rattle.aadl_names.specs.NameUseFaults.{NameRoles, allows, use_as, uses, read
 use Rattle.aadl_names.specs.NameUseFaults.{term_uses, factors_uses, sum_uses, terms_uses, relation_uses}
 use Rattle.aadl_names.specs.NameUseFaults.{expression_uses, relations_uses}
 use Rattle.aadl_names.proofs.ListMembers.{is_here}
-use Rattle.design_laws.proofs.DistinctFaultPlaces.{OnePerPlace, clear_none, clear_one, clear_front, clear_back, clear_tail}
+use Rattle.design_laws.proofs.DistinctFaultPlaces.{OnePerPlace, clear_none, clear_one, clear_front, clear_back}
+use Rattle.design_laws.proofs.DistinctFaultPlaces.{clear_tail}
 use Rattle.design_laws.proofs.DistinctFaultPlaces.{clear_append, clear_unless}
 
 by_role : (usage : Usage) (x : Identifier ℕ) (o : Option Role) → OnePerPlace (identifier_parts x) (use_as usage x o)
@@ -21,7 +22,8 @@ by_role usage x None = clear_one (identifier_parts x) (Unknown x.spelling x.at) 
 by_role usage x (Some role) =
     clear_unless (allows usage role) (clear_one (identifier_parts x) (WrongKind x.at) (is_here x.at))
 
-pub use_clear : (known : NameRoles) (usage : Usage) (x : Identifier ℕ) → OnePerPlace (identifier_parts x) (uses known usage x)
+pub use_clear : (known : NameRoles) (usage : Usage) (x : Identifier ℕ)
+    → OnePerPlace (identifier_parts x) (uses known usage x)
 use_clear known usage x = by_role usage x (known x.spelling)
 
 mutual
@@ -59,7 +61,8 @@ mutual
   relation_clear known (e.compared x operator y) = clear_append (sum_clear known x)
       (clear_tail {p = plain (e.relation_mark operator)} (sum_clear known y))
 
-  pub expression_clear : (known : NameRoles) (x : e.Expression ℕ) → OnePerPlace (e.expression_parts x) (expression_uses known x)
+  pub expression_clear : (known : NameRoles) (x : e.Expression ℕ)
+      → OnePerPlace (e.expression_parts x) (expression_uses known x)
   expression_clear known (e.expression first rest) =
       clear_append (relation_clear known first) (relations_clear known rest)
 

@@ -29,19 +29,22 @@ clear_one parts f there = record {
   single = λ r g h a b e. sym (only_here f g a) ∙ only_here f h b;
 }
 
-pub clear_front : {a : List (SpellingPart ℕ)} (b : List (SpellingPart ℕ)) {fs : List PackageFault} → OnePerPlace a fs → OnePerPlace (a ++ b) fs
+pub clear_front : {a : List (SpellingPart ℕ)} (b : List (SpellingPart ℕ)) {fs : List PackageFault} → OnePerPlace a fs
+    → OnePerPlace (a ++ b) fs
 clear_front {a} b {fs} c = record {
   inside = λ f h. in_front a b (place_of f) (c.inside f h);
   single = λ r f g h k e. c.single (rise_front a b r) f g h k e;
 }
 
-pub clear_back : (a : List (SpellingPart ℕ)) {b : List (SpellingPart ℕ)} {fs : List PackageFault} → OnePerPlace b fs → OnePerPlace (a ++ b) fs
+pub clear_back : (a : List (SpellingPart ℕ)) {b : List (SpellingPart ℕ)} {fs : List PackageFault} → OnePerPlace b fs
+    → OnePerPlace (a ++ b) fs
 clear_back a {b} {fs} c = record {
   inside = λ f h. in_back a b (place_of f) (c.inside f h);
   single = λ r f g h k e. c.single (rise_back a b r) f g h k e;
 }
 
-pub clear_tail : {p : SpellingPart ℕ} {b : List (SpellingPart ℕ)} {fs : List PackageFault} → OnePerPlace b fs → OnePerPlace (p ∷ b) fs
+pub clear_tail : {p : SpellingPart ℕ} {b : List (SpellingPart ℕ)} {fs : List PackageFault} → OnePerPlace b fs
+    → OnePerPlace (p ∷ b) fs
 clear_tail {p} {b} {fs} c = clear_back (p ∷ []) c
 
 pub clear_section : (s : Section) (ps : List (SpellingPart ℕ)) {fs : List PackageFault} → OnePerPlace ps fs
@@ -78,7 +81,8 @@ pub clear_append : {a b : List (SpellingPart ℕ)} {fs gs : List PackageFault} �
     → OnePerPlace (a ++ b) (fs ++ gs)
 clear_append {a} {b} {fs} {gs} c d = both_clear a b fs gs c d
 
-pub clear_flat : {V : Type 0} (f : V → List (SpellingPart ℕ)) (g : V → List PackageFault) → ((v : V) → OnePerPlace (f v) (g v))
+pub clear_flat : {V : Type 0} (f : V → List (SpellingPart ℕ)) (g : V → List PackageFault)
+    → ((v : V) → OnePerPlace (f v) (g v))
     → (vs : List V)
     → OnePerPlace (flat_map f vs) (flat_map g vs)
 clear_flat f g each [] = clear_none []
@@ -102,7 +106,8 @@ module _ {parts : List (SpellingPart ℕ)} where
   pub clear_three : (a b c : List PackageFault) → OnePerPlace parts (a ++ (b ++ c)) → OnePerPlace parts (a ++ b ++ c)
   clear_three a b c h = subst (OnePerPlace parts) (sym (append_assoc a b c)) h
 
-  pub clear_four : (a b c d : List PackageFault) → OnePerPlace parts (a ++ (b ++ (c ++ d))) → OnePerPlace parts (a ++ b ++ c ++ d)
+  pub clear_four : (a b c d : List PackageFault) → OnePerPlace parts (a ++ (b ++ (c ++ d)))
+      → OnePerPlace parts (a ++ b ++ c ++ d)
   clear_four a b c d h = clear_three (a ++ b) c d (clear_three a b (c ++ d) h)
 
 module _ (a b c d : List PackageFault) (f : PackageFault) where
@@ -121,7 +126,8 @@ module _ (a b c d : List PackageFault) (f : PackageFault) where
   turned_by (inr h) = middle_by (Contains-append_cases b (c ++ d) f h)
 
 -- the second and the third of four lists exchanged
-pub clear_turned : {parts : List (SpellingPart ℕ)} (a b c d : List PackageFault) → OnePerPlace parts (a ++ (c ++ (b ++ d)))
+pub clear_turned : {parts : List (SpellingPart ℕ)} (a b c d : List PackageFault)
+    → OnePerPlace parts (a ++ (c ++ (b ++ d)))
     → OnePerPlace parts (a ++ (b ++ (c ++ d)))
 clear_turned a b c d h =
     clear_fewer (λ f there. turned_by a b c d f (Contains-append_cases a (b ++ (c ++ d)) f there)) h

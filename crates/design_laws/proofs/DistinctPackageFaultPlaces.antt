@@ -4,7 +4,8 @@ use Rattle.std.specs.Prelude.{flat_map}
 use Rattle.std.proofs.lemmas.List.Elements.{Contains-append_left}
 use Rattle.aadl_tree.specs.declared.mark.Mark.TheVariants as k
 use Rattle.aadl_tree.specs.Terminals.{mark, PlainTerminal}
-use Rattle.aadl_tree.specs.SpellingParts.{SpellingPart, token, plain, parts_if, behind, feature_section, subcomponent_section}
+use Rattle.aadl_tree.specs.SpellingParts.{SpellingPart, token, plain, parts_if, behind, feature_section}
+use Rattle.aadl_tree.specs.SpellingParts.{subcomponent_section}
 use Rattle.aadl_tree.specs.SpellingParts.{connection_section, property_section}
 use Rattle.aadl_tree.specs.Names.{Identifier, Reference, identifier_parts, qualifier_parts, name_parts, reference_parts}
 use Rattle.aadl_tree.specs.Values.{associations_parts}
@@ -19,7 +20,8 @@ use Rattle.aadl_names.specs.QualifiedNameSpellings.{spelled_reference, spelled_i
 use Rattle.aadl_names.specs.PackageNameFaults.{behaviour_faults, reference_at, unknown_reference, unknown_end}
 use Rattle.aadl_names.proofs.ListMembers.{is_here}
 use Rattle.aadl_names.specs.proof.PlaceOrder.{places_of}
-use Rattle.design_laws.proofs.DistinctFaultPlaces.{OnePerPlace, clear_none, clear_one, clear_front, clear_back, clear_tail}
+use Rattle.design_laws.proofs.DistinctFaultPlaces.{OnePerPlace, clear_none, clear_one, clear_front, clear_back}
+use Rattle.design_laws.proofs.DistinctFaultPlaces.{clear_tail}
 use Rattle.design_laws.proofs.DistinctFaultPlaces.{clear_section, clear_append, clear_flat}
 use Rattle.design_laws.proofs.PossibleNameFaults.{of_feature, of_subcomponent, of_connection, of_annex, none_of}
 use Rattle.design_laws.proofs.PossibleNameFaults.{of_type, of_implementation, of_declaration, possible}
@@ -65,7 +67,8 @@ connection_clear x =
     (clear_front (plain k.Semicolon ∷ []) (properties_clear x.properties)))))))
 
 -- ---- declarations
-heading_clear : (kind : PlainTerminal) (name : List ℕ) (at : ℕ) → OnePerPlace (token kind (at ∷ []) ∷ []) (Twice name at ∷ [])
+heading_clear : (kind : PlainTerminal) (name : List ℕ) (at : ℕ)
+    → OnePerPlace (token kind (at ∷ []) ∷ []) (Twice name at ∷ [])
 heading_clear kind name at = clear_one (token kind (at ∷ []) ∷ []) (Twice name at) (is_here at)
 
 no_transitions : (x : AnnexTree ℕ) → OnePerPlace (transitions_of x) []
@@ -96,7 +99,8 @@ implementation_clear tree x =
     (clear_flat annex_parts (of_annex (behaviour_faults tree x))
     (annex_clear (behaviour_faults tree x) (behaviour_clear tree x)) x.annexes)))))))
 
-declaration_clear : (tree : PackageTree ℕ) (x : Declaration ℕ) → OnePerPlace (declaration_parts x) (of_declaration tree x)
+declaration_clear : (tree : PackageTree ℕ) (x : Declaration ℕ)
+    → OnePerPlace (declaration_parts x) (of_declaration tree x)
 declaration_clear tree (type x) = type_clear x
 declaration_clear tree (implementation x) = implementation_clear tree x
 

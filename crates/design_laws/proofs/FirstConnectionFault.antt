@@ -35,7 +35,8 @@ record Told (P : Type 0) : Type 0 where
   answer : Bool
   tells : IsTrue answer ↔ P
 
-second_by : (wires : List ConnectionPorts) (k : ℕ) (o : Option NumberedPort) → target_in wires k ≡ o → Told (IsDuplicate wires k)
+second_by : (wires : List ConnectionPorts) (k : ℕ) (o : Option NumberedPort) → target_in wires k ≡ o
+    → Told (IsDuplicate wires k)
 second_by wires k None e = record { answer = false; tells = no_second wires k e }
 second_by wires k (Some target) e =
     record {
@@ -59,7 +60,8 @@ module _ (tree : PackageTree ℕ) (root : ℕ) (sound : ArePermitted tree) (keys
         );
       }
 
-  by_target : (n : ℕ) (wire : ConnectionPorts) (s : NumberedPort) (o : Option NumberedPort) → wire.source ≡ Some s → wire.target ≡ o
+  by_target : (n : ℕ) (wire : ConnectionPorts) (s : NumberedPort) (o : Option NumberedPort) → wire.source ≡ Some s
+      → wire.target ≡ o
       → Told (IsOnChain tree root n wire)
   by_target n wire s None e f = record { answer = false; tells = no_target tree root n wire f }
   by_target n wire s (Some t) e f =
@@ -70,7 +72,8 @@ module _ (tree : PackageTree ℕ) (root : ℕ) (sound : ArePermitted tree) (keys
         tells = ways_tell tree root n wire s t a.answer b.answer e f a.tells b.tells;
       }
 
-  by_source : (n : ℕ) (wire : ConnectionPorts) (o : Option NumberedPort) → wire.source ≡ o → Told (IsOnChain tree root n wire)
+  by_source : (n : ℕ) (wire : ConnectionPorts) (o : Option NumberedPort) → wire.source ≡ o
+      → Told (IsOnChain tree root n wire)
   by_source n wire None e = record { answer = false; tells = no_source tree root n wire e }
   by_source n wire (Some s) e = by_target n wire s wire.target e refl
 

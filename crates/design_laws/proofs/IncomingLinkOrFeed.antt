@@ -12,7 +12,8 @@ use Rattle.aadl_chains.specs.proof.TracedChains.{carried_chain, IsGiver}
 use Rattle.aadl_chains.proofs.WalkResults.{crossing_from}
 use Rattle.aadl_chains.proofs.CarriedChainsByWalks.{link_from, link_met, feed_met}
 use Rattle.aadl_chains.proofs.TracedChains.{traces_nothing, traces_itself, traces_root, traces_none_over, ends_by}
-use Rattle.aadl_chains.specs.proof.UpwardWalks.{WalkEnd, Crossing, nowhere, at_root, crosses, walk_back, OneEach, IsThreadPort}
+use Rattle.aadl_chains.specs.proof.UpwardWalks.{WalkEnd, Crossing, nowhere, at_root, crosses, walk_back, OneEach}
+use Rattle.aadl_chains.specs.proof.UpwardWalks.{IsThreadPort}
 use Rattle.design_laws.proofs.OutPortSources.{Gives, gives}
 
 -- the connection into a port
@@ -77,7 +78,8 @@ module _ (tree : PackageTree ℕ) (root : ℕ) (sound : ArePermitted tree) (one 
         let f = crossing_from tree root sound to.path to.port c is in
         by_giver (gives tree root sound one keys order (c.sub ∷ c.path) f.number c.port f.stands f.goes_out)
 
-  by_climb : (r : WalkEnd) → walk_back tree root None to.path to.port ≡ r → HasIncoming tree root to ⊎ HasNoIncoming tree root to
+  by_climb : (r : WalkEnd) → walk_back tree root None to.path to.port ≡ r
+      → HasIncoming tree root to ⊎ HasNoIncoming tree root to
   by_climb nowhere e = inr (traces_nothing tree root sound one no_thread to e)
   by_climb (at_root None q) e = inr (traces_itself tree root sound one no_thread to q e)
   by_climb (at_root (Some k) q) e =

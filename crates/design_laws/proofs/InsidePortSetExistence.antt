@@ -10,7 +10,8 @@ use Rattle.aadl_uses.specs.PortsOfConnections.{connection_ports_at}
 use Rattle.aadl_uses.specs.proof.ContainmentOrders.{IsOrder}
 use Rattle.aadl_chains.specs.declared.port_set.PortAt.{PortAt}
 use Rattle.aadl_chains.specs.proof.PortSets.{with_port}
-use Rattle.aadl_chains.specs.proof.PortsJoinedInside.{is_thread_at, inner_end, outer_end, declaration_port, joined_by, AreJoined}
+use Rattle.aadl_chains.specs.proof.PortsJoinedInside.{is_thread_at, inner_end, outer_end, declaration_port, joined_by}
+use Rattle.aadl_chains.specs.proof.PortsJoinedInside.{AreJoined}
 use Rattle.aadl_chains.specs.proof.PortsJoinedInside.{IsJoined, IsInside}
 use Rattle.aadl_chains.proofs.JoinedInsideByConnection.{one_joined, none_joined, FrontJoined, none_yet, one_more}
 use Rattle.aadl_chains.proofs.JoinedInsideByConnection.{all_joined, thread_joined}
@@ -40,14 +41,17 @@ module _ (tree : PackageTree ℕ) (d : Direction) where
       record {
         new = j.new;
         are =
-            one_more tree d n i wire old f.new j.new thread e (Contains-from_slice_get (connection_ports_at tree n) i wire e)
+            one_more tree d n i wire old f.new j.new thread e
+            (Contains-from_slice_get (connection_ports_at tree n) i wire e)
             j.is f.are;
       }
 
-  some_wire : (n i : ℕ) → i < length (connection_ports_at tree n) → (wire : ConnectionPorts) × (slice_get (connection_ports_at tree n) i ≡ Some wire)
+  some_wire : (n i : ℕ) → i < length (connection_ports_at tree n)
+      → (wire : ConnectionPorts) × (slice_get (connection_ports_at tree n) i ≡ Some wire)
   some_wire n i lt = slice_get-some (connection_ports_at tree n) i lt
 
-  fronts : (n i : ℕ) (old : List PortAt) → is_thread_at tree n ≡ false → i ≤ length (connection_ports_at tree n) → Front n i old
+  fronts : (n i : ℕ) (old : List PortAt) → is_thread_at tree n ≡ false → i ≤ length (connection_ports_at tree n)
+      → Front n i old
   fronts n zero old thread most = record { new = old; are = none_yet tree d n old }
   fronts n (suc i) old thread most =
       let w = some_wire n i (omega arith) in
@@ -62,7 +66,11 @@ module _ (tree : PackageTree ℕ) (d : Direction) where
   by_thread n old true e = record { new = old; are = thread_joined tree d n old e }
   by_thread n old false e =
       let f = fronts n (length (connection_ports_at tree n)) old e (omega arith) in
-      record { new = f.new; are = all_joined tree d n (length (connection_ports_at tree n)) old f.new (omega arith) f.are }
+      record {
+        new = f.new;
+        are = all_joined tree d n (length (connection_ports_at tree n)) old f.new (omega arith)
+            f.are;
+      }
 
   -- ---- declarations in an order
   record Known (keys : List ℕ) (at : ℕ) : Type 0 where

@@ -14,7 +14,8 @@ use Rattle.std.proofs.Math.Logic.{∥∥₁_elim}
 use Rattle.pals_base.specs.BehaviourRules.{IsAcyclic}
 use Rattle.design_laws.proofs.InstancesFromParts.{of_shown, to_shown}
 
-pub have_rules : ThreadLaw → (tree : PackageTree ℕ) (s : ShownInstance) → AreNamed tree → IsShown tree s → NothingFound tree s
+pub have_rules : ThreadLaw → (tree : PackageTree ℕ) (s : ShownInstance) → AreNamed tree → IsShown tree s
+    → NothingFound tree s
     → All (HasRules tree) s.threads
 have_rules law tree s named i nothing =
     let there = to_shown (NothingFound tree) tree s i nothing in

@@ -105,7 +105,8 @@ root_system name (implementation y) x is passes =
     subst (λ (z : Implementation ℕ). is_system z.category ≡ true) e (parts (is_system y.category)
     (same_name name (spelled_implementation y.name)) passes).0
 
-pub root_is : {tree : PackageTree ℕ} {name : List ℕ} {parts : InstanceParts} → IsFlat tree name parts → (x : Implementation ℕ)
+pub root_is : {tree : PackageTree ℕ} {name : List ℕ} {parts : InstanceParts} → IsFlat tree name parts
+    → (x : Implementation ℕ)
     → implementation_at tree parts.root ≡ Some x → is_system x.category ≡ true
 root_is {tree} {name} {parts} flat x is =
     let f = first_is (is_root name) 0 parts.root tree.declarations flat.root in
@@ -139,7 +140,8 @@ thread_by {tree} {name} {parts} flat (s ∷ path) x e thread =
       seen = component_is tree parts.root s path n stands ∙ e;
     })
 
-pub thread_is : {tree : PackageTree ℕ} {name : List ℕ} {parts : InstanceParts} → IsFlat tree name parts → (path : List ℕ)
+pub thread_is : {tree : PackageTree ℕ} {name : List ℕ} {parts : InstanceParts} → IsFlat tree name parts
+    → (path : List ℕ)
     → IsThreadAt tree parts.root path → ThreadIs tree parts.root path
 thread_is flat path t = thread_by flat path t.0 t.1.0 t.1.1
 
@@ -153,7 +155,8 @@ ThreadLaw =
     → is_thread x.category ≡ true → flat_map port_findings (ports_of tree x) ≡ []
     → threads.implementation_findings tree x ≡ [] → Behaves tree x
 
-module _ {tree : PackageTree ℕ} {name : List ℕ} {parts : InstanceParts} (flat : IsFlat tree name parts) (used : ℕ → Bool)
+module _ {tree : PackageTree ℕ} {name : List ℕ} {parts : InstanceParts} (flat : IsFlat tree name parts)
+    (used : ℕ → Bool)
     (is_use : IsUse tree parts.root used) (none : used_findings tree (shown_by tree parts) used ≡ []) where
   ports_by : (n m : ℕ) (x : Implementation ℕ) (d : Option (Declaration ℕ)) → used n ≡ true
       → slice_get tree.declarations n ≡ Some (implementation x) → type_number tree x ≡ Some m

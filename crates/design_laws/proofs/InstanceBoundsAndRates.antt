@@ -29,7 +29,8 @@ use Rattle.aadl_names.specs.RecognisedProperties.{recognised, list_faults}
 use Rattle.aadl_names.specs.NameResolution.{implementation_in, implementation_at, subcomponents_of, type_in}
 use Rattle.aadl_names.specs.NameResolution.{type_numbered, type_number, referred, target_of, is_root}
 use Rattle.aadl_names.specs.PackageNameFaults.{may_contain, names_faults, subcomponent_faults, connection_faults}
-use Rattle.aadl_names.specs.PackageNameFaults.{heading_faults, variables_faults, stray_faults, port_faults, outer_faults}
+use Rattle.aadl_names.specs.PackageNameFaults.{heading_faults, variables_faults, stray_faults, port_faults}
+use Rattle.aadl_names.specs.PackageNameFaults.{outer_faults}
 use Rattle.aadl_names.specs.PackageNameFaults.{annex_faults, is_same_number, package_faults}
 use Rattle.aadl_names.specs.PackageNameFaults as naming
 use Rattle.aadl_uses.specs.ContainmentAndUse.{sub_at, below, number_at_path}
@@ -120,7 +121,8 @@ type_properties tree root m t none is =
     (append_is_nil_right _ l front)
 
 -- ---- some association
-module _ {tree : PackageTree ℕ} {name : List ℕ} {parts : InstanceParts} (flat : IsFlat tree name parts) (used : ℕ → Bool)
+module _ {tree : PackageTree ℕ} {name : List ℕ} {parts : InstanceParts} (flat : IsFlat tree name parts)
+    (used : ℕ → Bool)
     (is_use : IsUse tree parts.root used) (none : used_findings tree (shown_by tree parts) used ≡ []) where
   -- ---- the properties that an implementation in use and its type give
   module _ (p : PropertyName) (n : ℕ) (x : Implementation ℕ) (in_use : used n ≡ true)

@@ -37,11 +37,14 @@ use Rattle.design_laws.specs.InstanceDesigns.{chain_adaptor}
 use Rattle.design_laws.proofs.MatchedLists.{Zipped}
 use Rattle.design_laws.proofs.ChainEndPortsInDesigns.{IsComponentAt, in_seen, rate_at}
 use Rattle.design_laws.proofs.CarriedChainsInDesigns.{rated_fits, thread_end, root_end, start_goes_out, end_goes_in}
-use Rattle.design_laws.proofs.CarriedChainsInDesigns.{link_joins, feed_joins, tap_joins, connection_is, adaptor_is, node_of}
-use Rattle.design_laws.proofs.CarriedChainsInDesigns.{link_of, feed_of, tap_of, is_target, in_kind_is, is_source, out_kind_is}
+use Rattle.design_laws.proofs.CarriedChainsInDesigns.{link_joins, feed_joins, tap_joins, connection_is, adaptor_is}
+use Rattle.design_laws.proofs.CarriedChainsInDesigns.{node_of}
+use Rattle.design_laws.proofs.CarriedChainsInDesigns.{link_of, feed_of, tap_of, is_target, in_kind_is, is_source}
+use Rattle.design_laws.proofs.CarriedChainsInDesigns.{out_kind_is}
 use Rattle.design_laws.proofs.CarriedChainsInDesigns.{rate_is}
 
-module _ {tree : PackageTree ℕ} {name : List ℕ} {parts : InstanceParts} (flat : IsFlat tree name parts) (used : ℕ → Bool)
+module _ {tree : PackageTree ℕ} {name : List ℕ} {parts : InstanceParts} (flat : IsFlat tree name parts)
+    (used : ℕ → Bool)
     (is_use : IsUse tree parts.root used) (none : used_findings tree (shown_by tree parts) used ≡ [])
     (design : DesignParts) (sits : Zipped (IsComponentAt tree parts.root) parts.threads design.components) where
   -- the type of the target, as the checks use it

@@ -43,7 +43,8 @@ place_by_port m n a b e lt = omega (arith, e, lt)
 one_place : (m n a b : ℕ) → a < PORTS → b < PORTS → PORTS * m + a ≡ PORTS * n + b → (m ≡ n) × (a ≡ b)
 one_place m n a b first second e = (omega (arith, first, second, e), omega (arith, first, second, e))
 
-module _ {tree : PackageTree ℕ} {name : List ℕ} {parts : InstanceParts} (flat : IsFlat tree name parts) (design : DesignParts)
+module _ {tree : PackageTree ℕ} {name : List ℕ} {parts : InstanceParts} (flat : IsFlat tree name parts)
+    (design : DesignParts)
     (sits : Zipped (IsComponentAt tree parts.root) parts.threads design.components) where
   -- an in port of a thread
   pub record InPort (p : Port) : Type 0 where

@@ -16,10 +16,12 @@ use Rattle.aadl_lex.proofs.TokensAsWritten.{words_of}
 use Rattle.aadl_tree.specs.declared.mark.Mark.{Mark}
 use Rattle.aadl_tree.specs.declared.mark.Mark.TheVariants as k
 use Rattle.aadl_tree.specs.KeywordsAndSymbols.{keyword_of, symbol_of}
-use Rattle.aadl_tree.specs.Terminals.{PlainTerminal, word, whole, real, quoted, unread, mark, other, word_kind, symbol_kind}
+use Rattle.aadl_tree.specs.Terminals.{PlainTerminal, word, whole, real, quoted, unread, mark, other, word_kind}
+use Rattle.aadl_tree.specs.Terminals.{symbol_kind}
 use Rattle.aadl_tree.specs.Terminals.{class_kind, PlacedTerminal, spots_from, placed_terminals, inside_behind}
 use Rattle.aadl_tree.specs.SpellingParts.{Section, feature_section, subcomponent_section, connection_section}
-use Rattle.aadl_tree.specs.SpellingParts.{property_section, extra_kinds, SpellingPart, token, may, plain, parts_if, behind}
+use Rattle.aadl_tree.specs.SpellingParts.{property_section, extra_kinds, SpellingPart, token, may, plain, parts_if}
+use Rattle.aadl_tree.specs.SpellingParts.{behind}
 use Rattle.aadl_tree.specs.SpellingParts.{HaveKinds, Written}
 use Rattle.aadl_tree.specs.Names.{Identifier, Identifiers, identifier_parts, identifiers_parts, name_parts, identifiers}
 use Rattle.aadl_tree.specs.Names.{listed_in}
@@ -82,12 +84,14 @@ IsWordPart (may extra) = Unit {0}
 record AreWords (parts : List (SpellingPart ℕ)) : Type 0 where
   each : AllByRecursion IsWordPart parts
 
-kinds_passed : (ks : List PlainTerminal) (ss rest : List PlacedTerminal) → HaveKinds ks ss rest → AllByRecursion IsWordSpot ss
+kinds_passed : (ks : List PlainTerminal) (ss rest : List PlacedTerminal) → HaveKinds ks ss rest
+    → AllByRecursion IsWordSpot ss
     → AllByRecursion IsWordSpot rest
 kinds_passed [] ss rest have h = subst (AllByRecursion IsWordSpot) have h
 kinds_passed (k ∷ ks) ss rest have h = kinds_passed ks have.1 rest have.4 (subst (AllByRecursion IsWordSpot) have.2 h).1
 
-written_words : (parts : List (SpellingPart ℕ)) (ss rest : List PlacedTerminal) → Written parts ss rest → AllByRecursion IsWordSpot ss
+written_words : (parts : List (SpellingPart ℕ)) (ss rest : List PlacedTerminal) → Written parts ss rest
+    → AllByRecursion IsWordSpot ss
     → AllByRecursion IsWordPart parts
 written_words [] ss rest w h = tt
 written_words (token kind places ∷ parts) ss rest w h =
@@ -271,5 +275,6 @@ has_words text tree given =
     let words = recursion_from_All (IsWordAt text) ts (words_of text ts given.lexed) in
     package_words tree (record {
       each =
-          written_words (package_parts tree) (placed_terminals text ts) [] given.written (spots_words false text ts words);
+          written_words (package_parts tree) (placed_terminals text ts) [] given.written
+          (spots_words false text ts words);
     })

@@ -26,13 +26,15 @@ use Rattle.aadl_chains.proofs.TracedChains.{Descending, descend_first, descend_m
 
 -- no connection chain leads to a port
 abbrev pub NoneLeads : PackageTree ℕ → ℕ → Port → Type 0
-NoneLeads tree root end = (cs : List ConnectionAt) (from : Port) → IsStart tree root from → Leads tree root cs from end → ⊥
+NoneLeads tree root end = (cs : List ConnectionAt) (from : Port) → IsStart tree root from → Leads tree root cs from end
+    → ⊥
 
 -- one does, from a thread
 abbrev pub Gives : PackageTree ℕ → ℕ → Port → Type 0
 Gives tree root end = ((from : Port) × IsGiver tree root end from) ⊎ NoneLeads tree root end
 
-pub thread_here : (tree : PackageTree ℕ) (root : ℕ) (path : List ℕ) (here : ℕ) → number_at_path tree root path ≡ Some here
+pub thread_here : (tree : PackageTree ℕ) (root : ℕ) (path : List ℕ) (here : ℕ)
+    → number_at_path tree root path ≡ Some here
     → is_thread_at tree here ≡ true → IsThreadAt tree root path
 thread_here tree root path here stands thread = by (implementation_at tree here) refl
   where
@@ -59,7 +61,8 @@ module _ (tree : PackageTree ℕ) (root : ℕ) (sound : ArePermitted tree) (one 
 
   by_into : (fuel : ℕ) → Ends fuel → (end : Port) (path : List ℕ) (here out : ℕ) → rank keys here < suc fuel
       → is_thread_at tree here ≡ false
-      → Descending tree root end path here out → (o : Option (ℕ × NumberedPort)) → connection_into tree here (Own out) ≡ o
+      → Descending tree root end path here out → (o : Option (ℕ × NumberedPort))
+      → connection_into tree here (Own out) ≡ o
       → Gives tree root end
   by_into fuel rest end path here out less thread d None e =
       inr (descend_none tree root sound one end path here out thread e d)
@@ -84,11 +87,13 @@ module _ (tree : PackageTree ℕ) (root : ℕ) (sound : ArePermitted tree) (one 
       by_thread fuel (ends fuel) end path here out less d (is_thread_at tree here) refl
 
   -- from an out port of the component at a path
-  pub gives : (path : List ℕ) (here out : ℕ) → number_at_path tree root path ≡ Some here → is_in_at tree here out ≡ false
+  pub gives : (path : List ℕ) (here out : ℕ) → number_at_path tree root path ≡ Some here
+      → is_in_at tree here out ≡ false
       → Gives tree root (record { path = path; port = out })
   gives path here out stands goes_out =
       let turned : reverse (reverse path) ≡ path = reverse-reverse path in
       subst (λ (p : List ℕ). Gives tree root (record { path = p; port = out })) turned
       (ends (suc (rank keys here)) (record { path = reverse (reverse path); port = out }) (reverse path) here out
       (omega arith)
-      (descend_first tree root sound one (reverse path) here out (ap (number_at_path tree root) turned ∙ stands) goes_out))
+      (descend_first tree root sound one (reverse path) here out (ap (number_at_path tree root) turned ∙ stands)
+      goes_out))

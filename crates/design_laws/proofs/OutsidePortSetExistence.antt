@@ -33,7 +33,8 @@ module _ (tree : PackageTree ℕ) (root : ℕ) (d : Direction) (ins : List PortA
     new : List PortAt
     is : IsLed tree root d ins n wire old new
 
-  by_port : (n : ℕ) (wire : ConnectionPorts) (old : List PortAt) (o : Option PortAt) → led_by old ins tree root d n wire ≡ o
+  by_port : (n : ℕ) (wire : ConnectionPorts) (old : List PortAt) (o : Option PortAt)
+      → led_by old ins tree root d n wire ≡ o
       → Leads n wire old
   by_port n wire old None e = record { new = old; is = none_led tree root d ins all old n wire e }
   by_port n wire old (Some port) e =
@@ -67,7 +68,11 @@ module _ (tree : PackageTree ℕ) (root : ℕ) (d : Direction) (ins : List PortA
       record {
         new = f.new;
         are =
-            inl (used, all_led tree root d ins all n (length (connection_ports_at tree n)) old f.new (omega arith) f.are);
+            inl (
+              used,
+              all_led tree root d ins all n (length (connection_ports_at tree n)) old f.new (omega arith)
+                  f.are,
+            );
       }
   by_use n old (inr never) = record { new = old; are = inr (never, refl) }
 

@@ -24,7 +24,8 @@ use Rattle.aadl_names.specs.PackageNameFaults as p
 use Rattle.aadl_uses.specs.Recursion.{IsRecursive}
 use Rattle.aadl_chains.specs.ChainFaults.{IsEndFault}
 use Rattle.aadl_instance.specs.Faults.{FoundIn, Found, IsFault}
-use Rattle.design_laws.proofs.ListsWithoutMemoryFault.{NoneIsMemory, none, both, each, either, kind, kinds, unknown, wrong}
+use Rattle.design_laws.proofs.ListsWithoutMemoryFault.{NoneIsMemory, none, both, each, either, kind, kinds, unknown}
+use Rattle.design_laws.proofs.ListsWithoutMemoryFault.{wrong}
 use Rattle.design_laws.proofs.ListsWithoutMemoryFault.{twice_named}
 use Rattle.design_laws.proofs.AnnexesWithoutMemoryFault.{behaviour_named}
 

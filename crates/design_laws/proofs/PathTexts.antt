@@ -25,7 +25,8 @@ use Rattle.aadl_uses.specs.ThreadLocations.{name_at, names_along, dotted_names, 
 use Rattle.aadl_uses.proofs.PathOrder.{never_before}
 use Rattle.design_laws.specs.proof.PackageNames.{IsNamed, HasWords, NamesDiffer}
 use Rattle.design_laws.proofs.PairwiseDistinctNames.{one_name, Differs}
-use Rattle.design_laws.proofs.ElementAndPairwiseProperties.{pairs_at, pairs_first, pairs_second, pairs_unmapped, all_true}
+use Rattle.design_laws.proofs.ElementAndPairwiseProperties.{pairs_at, pairs_first, pairs_second, pairs_unmapped}
+use Rattle.design_laws.proofs.ElementAndPairwiseProperties.{all_true}
 use Rattle.design_laws.proofs.SoundInstanceParts.{declared_at}
 
 -- ---- words have no dots

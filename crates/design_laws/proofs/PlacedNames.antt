@@ -9,7 +9,8 @@ use Rattle.list_lemmas.proofs.Elements.{AllByRecursion-append, AllByRecursion-we
 use Rattle.list_lemmas.proofs.PairwiseProperties.{Pairs, pairs_append}
 use Rattle.aadl_tree.specs.declared.mark.Mark.{Mark}
 use Rattle.aadl_tree.specs.declared.mark.Mark.TheVariants as k
-use Rattle.aadl_tree.specs.SpellingParts.{SpellingPart, Section, section_mark, empty_section, plain, may, behind, parts_if}
+use Rattle.aadl_tree.specs.SpellingParts.{SpellingPart, Section, section_mark, empty_section, plain, may, behind}
+use Rattle.aadl_tree.specs.SpellingParts.{parts_if}
 use Rattle.aadl_tree.specs.Names.{Identifier, Identifiers, identifier_parts, identifiers_parts}
 use Rattle.aadl_tree.specs.Annexes.{declared_parts}
 use Rattle.aadl_tree.specs.Declarations.{section_parts}
@@ -84,7 +85,8 @@ placed_back a b xs h =
       inside = AllByRecursion-weaker (IsIn b) (IsIn (a ++ b)) (λ x. in_back a b x.at) xs h.inside;
     }
 
-pub placed_tail : (a : SpellingPart ℕ) (b : List (SpellingPart ℕ)) (xs : List (Identifier ℕ)) → Placed b xs → Placed (a ∷ b) xs
+pub placed_tail : (a : SpellingPart ℕ) (b : List (SpellingPart ℕ)) (xs : List (Identifier ℕ)) → Placed b xs
+    → Placed (a ∷ b) xs
 placed_tail a b xs h = placed_back (a ∷ []) b xs h
 
 pub placed_section : (s : Section) (ps : List (SpellingPart ℕ)) (xs : List (Identifier ℕ)) → Placed ps xs
@@ -92,7 +94,8 @@ pub placed_section : (s : Section) (ps : List (SpellingPart ℕ)) (xs : List (Id
 placed_section s [] xs h = placed_tail (may (empty_section s)) [] xs h
 placed_section s (p ∷ ps) xs h = placed_tail (plain (section_mark s)) (p ∷ ps) xs h
 
-pub placed_append : (a b : List (SpellingPart ℕ)) (xs ys : List (Identifier ℕ)) → Rise (a ++ b) → Placed a xs → Placed b ys
+pub placed_append : (a b : List (SpellingPart ℕ)) (xs ys : List (Identifier ℕ)) → Rise (a ++ b) → Placed a xs
+    → Placed b ys
     → Placed (a ++ b) (xs ++ ys)
 placed_append a b xs ys r g h = record {
   rising = pairs_append Before xs ys g.rising h.rising

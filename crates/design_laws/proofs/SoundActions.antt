@@ -82,7 +82,8 @@ sent_is_set None may = may
 sent_is_set (Some e) may = sent_sets e.meaning may
 
 to_entry : (b : BehaviourParts) (loops around : ℕ) (o : Option DeclaredName) (kind : Option Kind) (e : plain.Expression)
-    → ((k : DeclaredName) → o ≡ Some k → FitsMeaning b loops k.meaning k.kind) → may_set o ≡ true → HasKind b loops kind e
+    → ((k : DeclaredName) → o ≡ Some k → FitsMeaning b loops k.meaning k.kind) → may_set o ≡ true
+    → HasKind b loops kind e
     → fits kind (kind_of o) ≡ true
     → is_sound (given_to e o) b loops around ≡ true
 to_entry b loops around None kind e fit may has same = absurd (false≢true may)

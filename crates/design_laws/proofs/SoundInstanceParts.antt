@@ -28,7 +28,8 @@ use Rattle.model_violations.specs.ConnectionsAndCarriers.{carries}
 use Rattle.model_violations.specs.ChainFindings.{link_findings, feed_findings, tap_findings}
 use Rattle.model_violations.specs.UsedDeclarations.{IsUse, uses_type, type_used}
 use Rattle.model_violations.specs.DeclarationFindings.{type_findings, implementation_findings, declaration_findings}
-use Rattle.model_violations.specs.Violations.{ShownInstance, rates_of, carriers_of, chain_findings, used_findings, findings}
+use Rattle.model_violations.specs.Violations.{ShownInstance, rates_of, carriers_of, chain_findings, used_findings}
+use Rattle.model_violations.specs.Violations.{findings}
 use Rattle.aadl_tree.specs.Annexes.{AnnexTree}
 use Rattle.aadl_names.specs.BehaviourAnnexes as names
 use Rattle.aadl_names.specs.DuplicatesByNamespace.{twice_names}

@@ -30,7 +30,8 @@ use Rattle.annex_resolve.specs.FindingRecords.{found_if}
 use Rattle.annex_resolve.specs.IncompleteStateCycles.{is_on_cycle}
 use Rattle.annex_resolve.specs.BehavioursAndFindings.{declared, state_number, trigger_of, effect_of, edge_of}
 use Rattle.annex_resolve.specs.BehavioursAndFindings.{guard_types, effect_findings, transition_findings}
-use Rattle.annex_resolve.specs.BehavioursAndFindings.{breaks_dispatch, guard_case_of, departure_of, guard_cases_from, is_otherwise}
+use Rattle.annex_resolve.specs.BehavioursAndFindings.{breaks_dispatch, guard_case_of, departure_of, guard_cases_from}
+use Rattle.annex_resolve.specs.BehavioursAndFindings.{is_otherwise}
 use Rattle.annex_resolve.specs.BehavioursAndFindings.{is_guarded, is_open, lacks_otherwise, state_rules, cycles_of}
 use Rattle.annex_resolve.proofs.StateReachability.{way_reaches}
 use Rattle.design_laws.specs.proof.FittingAnnexNames.{FitsScope, is_declared}
@@ -56,7 +57,8 @@ edge_sound : (b : BehaviourParts) (scope : Scope) (states : List StateAt) → Fi
     → is_edge b (edge_of scope states t) ≡ true
 edge_sound b scope states fit count t known none =
     let p = append_is_nil (guard_types scope t.guard) (effect_findings scope t.effect) none in
-    let there : (nat_lt (state_number states t.source.spelling) (length b.states) && nat_lt (state_number states t.target.spelling) (length b.states)) ≡ true =
+    let there : (nat_lt (state_number states t.source.spelling) (length b.states)
+    && nat_lt (state_number states t.target.spelling) (length b.states)) ≡ true =
     subst (λ n. (nat_lt (state_number states t.source.spelling) n && nat_lt (state_number states t.target.spelling) n)
     ≡ true) (sym count) known in
     and_from (nat_lt (state_number states t.source.spelling) (length b.states)
@@ -112,7 +114,8 @@ module _ (scope : Scope) (states : List StateAt) where
       → is_open (slice_get (ways ts) (length (ways ts) - 1)) ≡ false → ends_unguarded (edges ts) ≡ true
   unguarded [] none shut = absurd (false≢true (sym shut))
   unguarded (t ∷ ts) none shut =
-      let count : length (ways ts) ≡ length ts = length-map (map (departure_of states) ts) (λ (leg : Departure). leg.way)
+      let count : length (ways ts) ≡ length ts =
+      length-map (map (departure_of states) ts) (λ (leg : Departure). leg.way)
       ∙ length-map ts (departure_of states) in
       let at : length (ways (t ∷ ts)) - 1 ≡ length ts = omega (arith, count) in
       last_open false t ts none (subst (λ n. is_open (slice_get (ways (t ∷ ts)) n) ≡ false) at shut)
@@ -142,7 +145,8 @@ module _ (b : BehaviourParts) (scope : Scope) (states : List StateAt) (ts : List
   ways_are : (n : ℕ) → guard_cases_from n (map (departure_of states) ts)
       ≡ map (λ (leg : Departure). leg.way) (map (departure_of states) (leave n))
   ways_are n =
-      ap (map (λ (leg : Departure). leg.way)) (filter-map (λ (leg : Departure). nat_eq leg.source n) (departure_of states) ts)
+      ap (map (λ (leg : Departure). leg.way)) (filter-map (λ (leg : Departure). nat_eq leg.source n)
+      (departure_of states) ts)
 
   complete_is : (n : ℕ) (s : StateAt) → slice_get states n ≡ Some s → is_complete b n ≡ s.complete
   complete_is n s is =
@@ -179,7 +183,8 @@ module _ (b : BehaviourParts) (scope : Scope) (states : List StateAt) (ts : List
       → is_on_cycle b n ≡ false
   state_no_cycle n s is within none open' =
       let first = found_if (breaks_dispatch b n) s.at DISPATCH_COUNT s.name in
-      let second = found_if (lacks_otherwise (guard_cases_from n (map (departure_of states) ts))) s.at NO_OTHERWISE s.name in
+      let second = found_if (lacks_otherwise (guard_cases_from n (map (departure_of states) ts))) s.at NO_OTHERWISE
+      s.name in
       let third = found_if (unwrap_or (slice_get (cycles_of b) n) false) s.at CYCLE_WITHOUT_COMPLETE s.name in
       let p = append_is_nil first (cond s.complete [] (second ++ third)) none in
       let rest =
@@ -193,7 +198,8 @@ module _ (b : BehaviourParts) (scope : Scope) (states : List StateAt) (ts : List
   state_of n within =
       slice_get-some states n (subst (λ k. n < k) (ap length is_states ∙ length-map states declared) within)
 
-  pub all_have_ways : flat_map (state_rules b (map (departure_of states) ts) (cycles_of b)) (enumerate_from 0 states) ≡ []
+  pub all_have_ways : flat_map (state_rules b (map (departure_of states) ts) (cycles_of b)) (enumerate_from 0 states)
+      ≡ []
       → list_all (has_ways b) (upwards 0 (length b.states)) ≡ true
   all_have_ways none = list_all_upwards (has_ways b) 0 (length b.states) (λ n low high.
       let s = state_of n (omega (arith, high)) in

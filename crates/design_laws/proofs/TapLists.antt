@@ -48,7 +48,8 @@ module _ (tree : PackageTree ℕ) (root : ℕ) (sound : ArePermitted tree) (one 
     abbrev found : Port → CarriedChain
     found from = record { from = from; to = record { path = []; port = port }; declaration = root; connection = k }
 
-    there : (ends : CarriedChain) (s p : ℕ) → connection_into tree root (Own port) ≡ Some (ends.connection, Inner s p) → (cs : List _)
+    there : (ends : CarriedChain) (s p : ℕ) → connection_into tree root (Own port) ≡ Some (ends.connection, Inner s p)
+        → (cs : List _)
         → Leads tree root cs ends.from (record { path = s ∷ []; port = p })
         → Leads tree root cs ends.from (record { path = t ∷ []; port = q })
     there ends s p e cs leads =
@@ -88,7 +89,8 @@ module _ (tree : PackageTree ℕ) (root : ℕ) (sound : ArePermitted tree) (one 
         record {
           taps = x.taps;
           are =
-              taps_skip tree root paths port x.taps (no_tap_over tree root sound one no_thread port k t q is none) x.are;
+              taps_skip tree root paths port x.taps (no_tap_over tree root sound one no_thread port k t q is none)
+              x.are;
         }
 
   by_inner : (port : ℕ) → is_in_at tree root port ≡ false → Tapped port → (k : ℕ) (source : NumberedPort)

@@ -45,7 +45,8 @@ use Rattle.design_laws.proofs.EmptyFindingLists.{is_right}
 abbrev pub HasKind : BehaviourParts → ℕ → Option Kind → plain.Expression → Type 0
 HasKind b loops kind e = (k : Kind) × (kind ≡ Some k) × (allows (kinds_of e b loops) k ≡ true)
 
-pub is_integer : (b : BehaviourParts) (loops at : ℕ) (kind : Option Kind) (e : plain.Expression) → HasKind b loops kind e
+pub is_integer : (b : BehaviourParts) (loops at : ℕ) (kind : Option Kind) (e : plain.Expression)
+    → HasKind b loops kind e
     → misfit at (Some Integer) kind ≡ [] → (kinds_of e b loops).integer ≡ true
 is_integer b loops at kind e (Integer, is, h) m = h
 is_integer b loops at kind e (Boolean, is, h) m =
@@ -66,7 +67,8 @@ multiplied multiply.Divide l r e f = and_from l.integer r.integer e f
 multiplied multiply.Mod l r e f = and_from l.integer r.integer e f
 multiplied multiply.Rem l r e f = and_from l.integer r.integer e f
 
-summed : (s : Sign) (l r : Kinds) → l.integer ≡ true → r.integer ≡ true → (operator_kinds (sign_op s) l r).integer ≡ true
+summed : (s : Sign) (l r : Kinds) → l.integer ≡ true → r.integer ≡ true
+    → (operator_kinds (sign_op s) l r).integer ≡ true
 summed signs.Plus l r e f = and_from l.integer r.integer e f
 summed signs.Minus l r e f = and_from l.integer r.integer e f
 
@@ -99,7 +101,8 @@ compared_equal b loops at k m x y (Boolean, is, h) (Integer, os, g) f =
     absurd (false≢true (is_right (fits (Some Integer) (Some Boolean)) at BAD_TYPE []
     (subst (λ w. misfit at w (Some Integer) ≡ []) is (subst (λ w. misfit at k w ≡ []) os f))))
 
-ordered_sides : (b : BehaviourParts) (loops at to : ℕ) (k m : Option Kind) (x y : plain.Expression) → HasKind b loops k x
+ordered_sides : (b : BehaviourParts) (loops at to : ℕ) (k m : Option Kind) (x y : plain.Expression)
+    → HasKind b loops k x
     → HasKind b loops m y
     → misfit at (Some Integer) k ++ misfit to (Some Integer) m ≡ []
     → numbers_at (kinds_of x b loops) (kinds_of y b loops) ≡ true

@@ -41,7 +41,8 @@ module _ {tree : PackageTree ℕ} {name : List ℕ} {parts : InstanceParts} (fla
   no_second x second =
       not_found flat 4 (TwoSources x.name.spelling x.name.at) (inr (inr (inl (refl, inr (x, second, refl)))))
 
-  no_later : (n i j : ℕ) (s : NumberedPort) → IsInUse tree parts.root n → target_in (connection_ports_at tree n) i ≡ Some s
+  no_later : (n i j : ℕ) (s : NumberedPort) → IsInUse tree parts.root n
+      → target_in (connection_ports_at tree n) i ≡ Some s
       → target_in (connection_ports_at tree n) j ≡ Some s → i < j → ⊥
   no_later n i j s in_use first second lt =
       let link = linked_by tree (implementation_at tree n) j s second in

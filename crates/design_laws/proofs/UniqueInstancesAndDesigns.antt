@@ -54,7 +54,8 @@ one_list tree s a b x y =
     (λ z. x.same z ∙ (ap (λ (f : ℕ → Bool). filter (ties goes_before z) (findings tree s f)) used ∙ sym (y.same z)))
 
 -- a package whose instance model has no violations
-pub no_list : (tree : PackageTree ℕ) (name : List ℕ) (design : DesignParts) (parts : InstanceParts) (list : List Violation)
+pub no_list : (tree : PackageTree ℕ) (name : List ℕ) (design : DesignParts) (parts : InstanceParts)
+    (list : List Violation)
     → IsDesignIn tree name design → IsFlat tree name parts → AreViolations tree (shown_by tree parts) list → list ≡ []
 no_list tree name design parts list d flat all =
     let same = one_instance tree name d.parts parts d.flat flat in

@@ -4,7 +4,8 @@ use Rattle.std.proofs.Math.Nat.{div-mul-le_self, le-div_iff_mul-le}
 use Rattle.pals_base.specs.declared.period_bound_and_releases.Gamma.{Gamma}
 use Rattle.pals_base.specs.PeriodBoundAndReleases.{step_period, sent_steps}
 use Rattle.exact_bound.specs.proof.ExactBounds.{sender, message_period, IsPlatform, IsLongEnough}
-use Rattle.exact_bound.specs.proof.ExactBounds.{HasTime, DesignsAreExact, StepsHaveTimeExactly, OneLessIsEnough, TwoLessIsNot}
+use Rattle.exact_bound.specs.proof.ExactBounds.{HasTime, DesignsAreExact, StepsHaveTimeExactly, OneLessIsEnough}
+use Rattle.exact_bound.specs.proof.ExactBounds.{TwoLessIsNot}
 use Rattle.exact_bound.specs.proof.ExactBounds.{NoBoundIsBetter}
 use Rattle.exact_bound.proofs.SenderTimes.{senders_are_exact}
 
@@ -46,7 +47,8 @@ needs_time g apart platform has =
 
 period_of_steps : (g : Gamma) (t k : ℕ) → IsPlatform g → 1 ≤ k → HasTime g (step_period t k) → k * g.alpha_max ≤ t
 period_of_steps g t k platform some has =
-    let fits : g.alpha_max * k ≤ t = (le-div_iff_mul-le {k = k} {x = g.alpha_max} {y = t} some).0 (needs_time g (t / k) platform has) in
+    let fits : g.alpha_max * k ≤ t = (le-div_iff_mul-le {k = k} {x = g.alpha_max} {y = t} some).0
+    (needs_time g (t / k) platform has) in
     grind arith
 
 steps_of_period : (g : Gamma) (t k : ℕ) → 1 ≤ k → k * g.alpha_max ≤ t → HasTime g (step_period t k)

@@ -47,14 +47,16 @@ some_period g zero s platform between = absurd (no_period g s platform between)
 some_period g (suc t) s platform between = omega arith
 
 -- ---- the earliest message and the latest start of its round
-late_enough : (g : Gamma) (t : ℕ) (s : Sender) → IsPlatform g → ArrivesBetween g t s → 2 * g.eps - 1 ≤ s.offset + g.mu_min
+late_enough : (g : Gamma) (t : ℕ) (s : Sender) → IsPlatform g → ArrivesBetween g t s
+    → 2 * g.eps - 1 ≤ s.offset + g.mu_min
 late_enough g t s platform between =
     let round : ℕ = g.eps in
     let a : ℕ = alarm t round in
     let late : g.eps ≤ a = late_alarm t round (some_period g t s platform between) in
     let some = platform.skew in let range = platform.network in
     let sent : ℕ = a + s.offset + 1 - g.eps in
-    let apart : a + g.eps - 1 < sent + g.mu_min = between.after round 0 sent (a + s.offset) (sent + g.mu_min) (a + g.eps - 1) a
+    let apart : a + g.eps - 1 < sent + g.mu_min =
+    between.after round 0 sent (a + s.offset) (sent + g.mu_min) (a + g.eps - 1) a
     (record {
       clock = record { slow = omega arith; fast = omega arith };
       due = omega arith;

@@ -10,7 +10,8 @@ use Rattle.list_lemmas.proofs.Elements.{Contains-head, Contains-cons}
 use Rattle.pals_base.specs.declared.basic_types.PortValue.{PortValue}
 use Rattle.pals_base.specs.declared.basic_types.PortValue.TheVariants.{Absent, Present}
 use Rattle.pals_base.specs.declared.allowed_adaptors.Adaptor.{Adaptor}
-use Rattle.pals_base.specs.declared.allowed_adaptors.Adaptor.TheVariants.{Repeat, First, Last, At, Latest, Max, Min, Average}
+use Rattle.pals_base.specs.declared.allowed_adaptors.Adaptor.TheVariants.{Repeat, First, Last, At, Latest, Max, Min}
+use Rattle.pals_base.specs.declared.allowed_adaptors.Adaptor.TheVariants.{Average}
 use Rattle.pals_base.specs.Adaptors.{adapt, groups, joined, spread, present, of_present, latest_of}
 use Rattle.input_adaptors.proofs.Extremes.{Contains-from_present, IsLeast-joined, IsGreatest-joined}
 use Rattle.input_adaptors.proofs.TupleLengthsAndGroups.{adapt-faster, adapt-slower}

@@ -13,7 +13,8 @@ use Rattle.list_lemmas.proofs.ElementPositions.{get_or-replicate_constant}
 use Rattle.pals_base.specs.declared.basic_types.PortValue.{PortValue}
 use Rattle.pals_base.specs.declared.basic_types.PortValue.TheVariants.{Absent}
 use Rattle.pals_base.specs.declared.allowed_adaptors.Adaptor.{Adaptor}
-use Rattle.pals_base.specs.declared.allowed_adaptors.Adaptor.TheVariants.{Repeat, First, Last, At, Latest, Max, Min, Average}
+use Rattle.pals_base.specs.declared.allowed_adaptors.Adaptor.TheVariants.{Repeat, First, Last, At, Latest, Max, Min}
+use Rattle.pals_base.specs.declared.allowed_adaptors.Adaptor.TheVariants.{Average}
 use Rattle.pals_base.specs.Adaptors.{adapt, spread, placed}
 use Rattle.pals_base.specs.AllowedAdaptors.{is_allowed, may_spread, may_join}
 use Rattle.input_adaptors.specs.proof.PlacesAndGroupValues.{TakesPlace}

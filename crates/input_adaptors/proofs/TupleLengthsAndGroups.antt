@@ -12,7 +12,8 @@ use Rattle.std.proofs.Math.Nat.{div-add-mod, mod-eq_of_lt}
 use Rattle.pals_base.specs.declared.basic_types.PortValue.{PortValue}
 use Rattle.pals_base.specs.declared.basic_types.PortValue.TheVariants.{Absent}
 use Rattle.pals_base.specs.declared.allowed_adaptors.Adaptor.{Adaptor}
-use Rattle.pals_base.specs.declared.allowed_adaptors.Adaptor.TheVariants.{Repeat, First, Last, At, Latest, Max, Min, Average}
+use Rattle.pals_base.specs.declared.allowed_adaptors.Adaptor.TheVariants.{Repeat, First, Last, At, Latest, Max, Min}
+use Rattle.pals_base.specs.declared.allowed_adaptors.Adaptor.TheVariants.{Average}
 use Rattle.pals_base.specs.Adaptors.{adapt, groups, joined, spread, placed}
 use Rattle.pals_base.specs.AllowedAdaptors.{is_allowed, divides_or_divided}
 use Rattle.input_adaptors.specs.proof.PlacesAndGroupValues.{group_at}

@@ -36,7 +36,8 @@ use Rattle.pals_model.proofs.StepsKeepKinds.{frames_fit, initial_fits}
 use Rattle.pals_model.proofs.AdaptorsKeepKinds.{absent_fits}
 use Rattle.pals_model.proofs.RoundsKeepKinds.{cut_fits}
 use Rattle.pals_runs.specs.declared.plant_pairs.Pair.{Pair}
-use Rattle.plant_fuse.specs.FusedComposition.{ArePairs, is_to_plant, is_to_controller, Inputs, inputs_to, outputs_in, left_by}
+use Rattle.plant_fuse.specs.FusedComposition.{ArePairs, is_to_plant, is_to_controller, Inputs, inputs_to, outputs_in}
+use Rattle.plant_fuse.specs.FusedComposition.{left_by}
 use Rattle.plant_fuse.specs.FusedComposition.{left_before, round_tuple, message_on, messages_before, from_round}
 use Rattle.plant_fuse.specs.FusedComposition.{value_on, value_read, vector_of, frame_before, IsFused}
 use Rattle.plant_fuse.specs.FusedReport.{fused_part}
@@ -99,7 +100,8 @@ module _ (design : DesignParts) (pairs : List Pair) (env : Env) (ins : Inputs) (
         let fits = tuple_fits link.source.0 link.out_port round past in
         either_fits (TupleFits kind) (is_to_plant pairs link) tuple
         (if is_to_controller pairs link then tuple else cut sent tuple) fits
-        (either_fits (TupleFits kind) (is_to_controller pairs link) tuple (cut sent tuple) fits (cut_fits kind sent tuple fits))
+        (either_fits (TupleFits kind) (is_to_controller pairs link) tuple (cut sent tuple) fits
+        (cut_fits kind sent tuple fits))
 
     messages_fit : (round : ℕ) → round * 128 ≤ m → MessagesFit design (messages_before design pairs ins round)
     messages_fit zero past number link is =

@@ -35,9 +35,11 @@ use Rattle.pals_model.proofs.AdaptorsKeepKinds.{absent_fits}
 use Rattle.pals_model.proofs.RoundsKeepKinds.{cut_fits}
 use Rattle.pals_runs.specs.declared.replica_faults.VoteFault.{VoteFault}
 use Rattle.triple_vote.specs.Votes.{same_port, vote, votes}
-use Rattle.triple_vote.specs.VotedComposition.{is_replicated, copies_of, receivers_in, VotedConfiguration, frame_at, heard_by, first_frame}
+use Rattle.triple_vote.specs.VotedComposition.{is_replicated, copies_of, receivers_in, VotedConfiguration, frame_at}
+use Rattle.triple_vote.specs.VotedComposition.{heard_by, first_frame}
 use Rattle.triple_vote.specs.VotedComposition.{first_tuple, voted_opening, steps_in, replica_steps, tuple_at, is_fault}
-use Rattle.triple_vote.specs.VotedComposition.{fault_or, own_message, sent_to, vote_of, receives_on, next_voted, voted_composition}
+use Rattle.triple_vote.specs.VotedComposition.{fault_or, own_message, sent_to, vote_of, receives_on, next_voted}
+use Rattle.triple_vote.specs.VotedComposition.{voted_composition}
 use Rattle.triple_vote.specs.VotedComposition.{voted_tap_by, voted_tap}
 use Rattle.triple_vote.proofs.ListTablesAndSearches.{found}
 use Rattle.triple_vote.proofs.ReplicaRounds.{has_first, has_three}
@@ -280,7 +282,8 @@ module _ (design : DesignParts) (env : Env) (replicated : List Bool) (rules : Is
     unfolding voted_composition
     rounds_keep zero = opening_keeps
     rounds_keep (suc round) =
-        next_keeps (voted_composition design env replicated faults round) round (rounds_keep round) (faults round) (fit round)
+        next_keeps (voted_composition design env replicated faults round) round (rounds_keep round) (faults round)
+        (fit round)
 
 pub voted_fit : VotesFit
 voted_fit design env replicated faults rounds rules given fit =
@@ -288,7 +291,8 @@ voted_fit design env replicated faults rounds rules given fit =
     record {
       frames = λ node c is_c.
           All-weaker (Stands c.behaviour) (FrameFits c.behaviour) (λ frame stands'. stands'.1)
-          (slice_index_or (voted_composition design env replicated faults rounds).frames node []) (keeps.frames node c is_c);
+          (slice_index_or (voted_composition design env replicated faults rounds).frames node [])
+          (keeps.frames node c is_c);
       received = keeps.received;
     }
 

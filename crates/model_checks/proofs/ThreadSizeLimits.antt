@@ -24,9 +24,11 @@ is_found : (o : Option (Implementation ℕ)) (x y : Implementation ℕ) → o �
     → is_thread y.category ≡ true → is_thread x.category ≡ true
 is_found o x y here there thread = let same : y ≡ x = cc in subst (λ z. is_thread z.category ≡ true) same thread
 
-within_by : {tree : PackageTree ℕ} {name : List ℕ} {parts : InstanceParts} → IsFlat tree name parts → (s : ℕ) (path : List ℕ)
+within_by : {tree : PackageTree ℕ} {name : List ℕ} {parts : InstanceParts} → IsFlat tree name parts
+    → (s : ℕ) (path : List ℕ)
     → IsThreadAt tree parts.root (s ∷ path)
-    → (o : Option ℕ) → number_at_path tree parts.root path ≡ o → IsWithinLimits tree (thread_at tree parts.root (s ∷ path))
+    → (o : Option ℕ) → number_at_path tree parts.root path ≡ o
+    → IsWithinLimits tree (thread_at tree parts.root (s ∷ path))
 within_by {tree} {name} {parts} flat s path at None stands =
     let none : component_at tree parts.root (s ∷ path) ≡ None =
     ap (λ o. option_and_then (implementation_at tree) (option_and_then (λ m. below tree m s) o)) stands in

@@ -8,7 +8,8 @@ use Rattle.component_checks.specs.ThreadRatesAndFindings.{greatest_rate, thread_
 use Rattle.model_violations.specs.ConnectionsAndCarriers.{carries}
 use Rattle.model_violations.specs.UsedDeclarations.{has, type_used}
 use Rattle.model_violations.specs.DeclarationFindings.{declarations_findings}
-use Rattle.model_violations.specs.Violations.{ShownInstance, rates_of, carriers_of, chain_findings, used_findings, findings}
+use Rattle.model_violations.specs.Violations.{ShownInstance, rates_of, carriers_of, chain_findings, used_findings}
+use Rattle.model_violations.specs.Violations.{findings}
 
 -- ---- predicates that agree on all numbers are equal
 same_test : {A : Type 0} (p q : A → Bool) → ((x : A) → p x ≡ q x) → p ≡ q

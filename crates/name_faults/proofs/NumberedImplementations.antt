@@ -69,7 +69,8 @@ module _ (tree : PackageTree ℕ) (n : ℕ) (x : Implementation ℕ) (stands : S
   inner_direction s p = ap (λ t. direction_in (features_of (type_numbered tree t)) p) (type_below_is s)
 
 -- the findings from the ports that a connection joins
-module _ (tree : PackageTree ℕ) (x : Implementation ℕ) (c : Connection ℕ) (w : ConnectionPorts) (is : w ≡ ports_of_connection tree x c) where
+module _ (tree : PackageTree ℕ) (x : Implementation ℕ) (c : Connection ℕ) (w : ConnectionPorts)
+    (is : w ≡ ports_of_connection tree x c) where
   pub joined : (old new : Option PackageFault) (source target : Option (NumberedPort × Option Direction))
       → source ≡ option_map (with_direction tree x) w.source
       → target ≡ option_map (with_direction tree x) w.target → new ≡ found old (joined_faults c source target)

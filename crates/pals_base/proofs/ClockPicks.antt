@@ -13,7 +13,8 @@ take-picked (r ∷ later) answers fewer n same = ap (λ as'. r ∷ as') same
 pub take-picks : (readings targets : List ℕ) (n : ℕ) → take n (picks readings targets) ≡ picks readings (take n targets)
 take-picks readings targets zero = refl
 take-picks readings [] (suc n) = refl
-take-picks readings (t ∷ ts) (suc n) = take-picked (remaining_from readings t) _ _ n (take-picks (remaining_from readings t) ts n)
+take-picks readings (t ∷ ts) (suc n) = take-picked (remaining_from readings t) _ _ n
+    (take-picks (remaining_from readings t) ts n)
 
 -- ---- in order
 -- from an index on, no reading is below the one before it
@@ -25,7 +26,8 @@ rises_from_less : (less from : ℕ) (xs : List ℕ) → less ≤ from → Rises 
 rises_from_less less from [] below h = tt
 rises_from_less less from (x ∷ xs) below h = (omega (arith, h.0), h.1)
 
-rises-reached : (from : ℕ) (readings : List ℕ) (target : ℕ) → Rises from readings → Rises from (remaining_from readings target)
+rises-reached : (from : ℕ) (readings : List ℕ) (target : ℕ) → Rises from readings
+    → Rises from (remaining_from readings target)
 rises-reached from [] target h = tt
 rises-reached from (r ∷ later) target h =
     elim (ltb r target) as (λ b. Rises from (cond b (remaining_from later target) (r ∷ later))) [
@@ -41,7 +43,8 @@ rises-picked from (r ∷ later) answers h after = (h.0, after r (omega arith, h.
 rises-picks : (from : ℕ) (readings targets : List ℕ) → Rises from readings → Rises from (picks readings targets)
 rises-picks from readings [] h = tt
 rises-picks from readings (t ∷ ts) h =
-    rises-picked from (remaining_from readings t) (picks (remaining_from readings t) ts) (rises-reached from readings t h)
+    rises-picked from (remaining_from readings t) (picks (remaining_from readings t) ts)
+    (rises-reached from readings t h)
     (λ r. rises-picks r (remaining_from readings t) ts)
 
 rises_at : (from : ℕ) (xs : List ℕ) (j d : ℕ) → Rises from xs → j < length xs → from ≤ get_or xs j d
@@ -80,7 +83,8 @@ BeginsAtLeast target (r ∷ rs) = target ≤ r
 begins-reached : (readings : List ℕ) (target : ℕ) → BeginsAtLeast target (remaining_from readings target)
 begins-reached [] target = tt
 begins-reached (r ∷ later) target =
-    (elim (ltb r target) as (λ b. ltb r target ≡ b → BeginsAtLeast target (cond b (remaining_from later target) (r ∷ later))) [
+    (elim (ltb r target) as (λ b. ltb r target ≡ b
+    → BeginsAtLeast target (cond b (remaining_from later target) (r ∷ later))) [
       | true ↦ λ _. begins-reached later target
       | false ↦ λ test. ltb-false r target test
     ]) refl
@@ -96,5 +100,6 @@ pub picks_at_least : (readings targets : List ℕ) (i : ℕ) → i < length (pic
     → get_or targets i 0 ≤ get_or (picks readings targets) i 0
 picks_at_least readings [] i within = absurd (omega arith)
 picks_at_least readings (t ∷ ts) i within =
-    first_pick t (remaining_from readings t) (picks (remaining_from readings t) ts) ts i (begins-reached readings t) within
+    first_pick t (remaining_from readings t) (picks (remaining_from readings t) ts) ts i (begins-reached readings t)
+    within
     (picks_at_least (remaining_from readings t) ts)

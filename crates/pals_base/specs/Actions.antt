@@ -5,7 +5,8 @@ use Rattle.pals_base.specs.declared.frames.Frame.{Frame}
 use Rattle.pals_base.specs.declared.basic_types.PortValue.{PortValue}
 use Rattle.pals_base.specs.declared.basic_types.PortValue.TheVariants.{Present}
 use Rattle.pals_base.specs.ExpressionValues.{eval, on_value, is_true}
-use Rattle.pals_base.specs.ExpressionAndActionTrees.{Action, Assign, Emit, If, For, Actions, Nothing, Do, Branches, NoBranch, Where}
+use Rattle.pals_base.specs.ExpressionAndActionTrees.{Action, Assign, Emit, If, For, Actions, Nothing, Do, Branches}
+use Rattle.pals_base.specs.ExpressionAndActionTrees.{NoBranch, Where}
 use Rattle.pals_base.specs.ForRanges.{numbers}
 
 -- the variables, and the values of the out ports in this step so far

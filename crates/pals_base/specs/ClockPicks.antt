@@ -16,4 +16,5 @@ picked (reading ∷ later) answers = reading ∷ answers
 -- reading that is. It ends at the first target without such a reading.
 abbrev pub picks : List ℕ → List ℕ → List ℕ
 picks readings [] = []
-picks readings (target ∷ targets) = picked (remaining_from readings target) (picks (remaining_from readings target) targets)
+picks readings (target ∷ targets) = picked (remaining_from readings target)
+    (picks (remaining_from readings target) targets)

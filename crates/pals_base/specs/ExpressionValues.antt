@@ -8,7 +8,8 @@ use Rattle.pals_base.specs.declared.behaviour.Op.TheVariants.{Add, Sub, Mul, Quo
 use Rattle.pals_base.specs.declared.behaviour.Op.TheVariants.{And, Or, Xor, AndThen, OrElse}
 use Rattle.pals_base.specs.Arithmetic.{sum_of, difference_of, product_of, quotient_of, remainder_of, modulus_of}
 use Rattle.pals_base.specs.Arithmetic.{negation_of, magnitude_of}
-use Rattle.pals_base.specs.ExpressionAndActionTrees.{Expression, Literal, Variable, PortRead, Fresh, Neg, Abs, Not, Chain, Operands}
+use Rattle.pals_base.specs.ExpressionAndActionTrees.{Expression, Literal, Variable, PortRead, Fresh, Neg, Abs, Not}
+use Rattle.pals_base.specs.ExpressionAndActionTrees.{Chain, Operands}
 use Rattle.pals_base.specs.ExpressionAndActionTrees.{NoMore, Then}
 
 -- continues with a value; the result is the first trap

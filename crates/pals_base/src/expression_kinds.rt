@@ -1,7 +1,8 @@
 //! The types that an expression may have.
 ghost use Rattle.std.specs.Prelude.{◌≡◌, option_copied};
 ghost use Rattle.pals_base.specs.proof.TreeViews.{tree_of, operands_along};
-ghost use Rattle.pals_base.specs.TypingRules.{may_be, only, allows, literal_kinds, port_kinds, variable_kinds, operator_kinds};
+ghost use Rattle.pals_base.specs.TypingRules.{may_be, only, allows, literal_kinds, port_kinds, variable_kinds};
+ghost use Rattle.pals_base.specs.TypingRules.{operator_kinds};
 ghost use Rattle.pals_base.specs.TypingRules.{kinds_of, kinds_along};
 
 use crate::behaviour::{BehaviourParts, Expr, Kind, Op, Operand, PortDecl};

@@ -1,7 +1,8 @@
 //! The minimum period that the bounds allow, and the times in a round at which a node may send each step's
 //! outputs. All times are nanoseconds. The results are exact for all arguments. The functions do not allocate.
 ghost use Rattle.std.specs.Prelude.{◌≡◌, ◌/◌};
-ghost use Rattle.pals_base.specs.PeriodBoundAndReleases.{backoff, least_period, step_period, sent_steps, release_offset};
+ghost use Rattle.pals_base.specs.PeriodBoundAndReleases.{backoff, least_period, step_period, sent_steps};
+ghost use Rattle.pals_base.specs.PeriodBoundAndReleases.{release_offset};
 
 use crate::basic_types::Nanos;
 

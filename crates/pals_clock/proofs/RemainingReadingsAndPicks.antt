@@ -12,7 +12,8 @@ pub reached_none : (left : List ℕ) (target : ℕ) → All (λ r. r < target) l
 reached_none [] target below = refl
 reached_none (r ∷ later) target below =
     let first : r < target = below 0 0 (omega arith) in
-    let rest : remaining_from later target ≡ [] = reached_none later target (λ k d within. below (suc k) d (omega arith)) in
+    let rest : remaining_from later target ≡ [] =
+    reached_none later target (λ k d within. below (suc k) d (omega arith)) in
     grind (arith, common_steps)
 
 -- ---- the first that is not below

@@ -36,7 +36,8 @@ components_same f g k (c ∷ cs) same =
     (components_same f g (k + 1) cs (λ node within. same node (omega arith)))
 
 taps_same : (design : DesignParts) (f g : ℕ → Option Part) (k : ℕ) (taps : List Tap)
-    → All (λ (tap : Tap). f tap.source.0 ≡ g tap.source.0) taps → tap_lines_from design f k taps ≡ tap_lines_from design g k taps
+    → All (λ (tap : Tap). f tap.source.0 ≡ g tap.source.0) taps
+    → tap_lines_from design f k taps ≡ tap_lines_from design g k taps
 taps_same design f g k [] same = refl
 taps_same design f g k (tap ∷ taps) same =
     ap₂ (λ a b. a ++ b) (ap (tap_lines design k tap) (same 0 tap (omega arith)))

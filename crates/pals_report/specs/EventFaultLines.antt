@@ -29,7 +29,8 @@ event_fault_words design (NoSuchMessage link round) =
     codes "NoSuchMessage" ∷ link_word design link.0 ∷ decimal round ∷ []
 event_fault_words design (NotDue node alarm reading) =
     codes "NotDue" ∷ node_word design node.0 ∷ decimal alarm ∷ decimal reading ∷ []
-event_fault_words design (TooSoon subject earliest) = codes "TooSoon" ∷ subject_words design subject ++ decimal earliest ∷ []
+event_fault_words design (TooSoon subject earliest) =
+    codes "TooSoon" ∷ subject_words design subject ++ decimal earliest ∷ []
 event_fault_words design Memory = codes "Memory" ∷ []
 
 abbrev pub event_fault_line : DesignParts → ℕ → EventFault → List ℕ

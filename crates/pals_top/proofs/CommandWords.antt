@@ -6,7 +6,8 @@ use Rattle.std.specs.List.{list_all}
 use Rattle.std.proofs.lemmas.Bool.{eqb-true, true≢false}
 use Rattle.std.proofs.lemmas.Slice.Eq.{bytes_eq-Decides}
 use Rattle.pals_runs.specs.declared.commands.Command.{Command}
-use Rattle.pals_top.specs.CommandWords.{is_plain, is_flag, flags, plain_words, rooted_command, plain_command, command_by}
+use Rattle.pals_top.specs.CommandWords.{is_plain, is_flag, flags, plain_words, rooted_command, plain_command}
+use Rattle.pals_top.specs.CommandWords.{command_by}
 use Rattle.pals_top.specs.CommandWords.{command_of_words}
 
 -- ---- flags
@@ -116,7 +117,8 @@ module _ (a b c : List ℕ) (ea : is_flag a ≡ false) (eb : is_flag b ≡ false
       unflagged (is_flag a) (is_flag b) (is_flag c) a b c ea eb ec
       ∙ plain_by (is_plain a) (is_plain b) (is_plain c) (plain_command (a ∷ b ∷ c ∷ [])) pa pb pc
 
-  pub form_unplain : (is_plain a ≡ false) ⊎ ((is_plain b ≡ false) ⊎ (is_plain c ≡ false)) → command_of_words (a ∷ b ∷ c ∷ []) ≡ None
+  pub form_unplain : (is_plain a ≡ false) ⊎ ((is_plain b ≡ false) ⊎ (is_plain c ≡ false))
+      → command_of_words (a ∷ b ∷ c ∷ []) ≡ None
   form_unplain some =
       unflagged (is_flag a) (is_flag b) (is_flag c) a b c ea eb ec
       ∙ unplain_by (is_plain a) (is_plain b) (is_plain c) (plain_command (a ∷ b ∷ c ∷ [])) some

@@ -78,7 +78,8 @@ module _ (design : DesignParts) (scenario : Scenario) (programs : List CodeParts
   stopped_says why t sent a law steps tells says =
       let run : t.run ≡ run_of design scenario =
       stop_run (opens design scenario programs) t scenario.events why tells.lines tells.runs in
-      let rows : lines_text (common_lines t) ≡ report design scenario.env (finished_by_all (run_of design scenario) t.state) =
+      let rows : lines_text (common_lines t) ≡ report design scenario.env
+      (finished_by_all (run_of design scenario) t.state) =
       law (run_of design scenario) programs scenario.events why t sent (rules_of design scenario rules kept) tells in
       inr (inl (
         says.0,

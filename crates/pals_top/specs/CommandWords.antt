@@ -76,7 +76,8 @@ trace_command word root = if bytes_eq word (codes "run") then Some (Run root tru
 
 abbrev pub flag_command : List ℕ → List (List ℕ) → Option Command
 flag_command flag (word ∷ root ∷ []) =
-    if bytes_eq flag (codes "--loose") then loose_command word root else if bytes_eq flag (codes "--trace") then trace_command
+    if bytes_eq flag (codes "--loose") then loose_command word root else if bytes_eq flag (codes "--trace") then
+    trace_command
     word root else None
 flag_command flag _ = None
 
@@ -87,7 +88,8 @@ command_by plain _ = None
 
 -- The command that the words are. No plain word begins with `-`.
 abbrev pub command_of_words : List (List ℕ) → Option Command
-command_of_words words = if list_all is_plain (plain_words words) then command_by (plain_words words) (flags words) else None
+command_of_words words = if list_all is_plain (plain_words words) then command_by (plain_words words) (flags words)
+    else None
 
 -- what the form of a command keeps: the numbers of a ring are within their limits
 abbrev pub IsWithinRingLimits : Command → Type 0

@@ -12,7 +12,8 @@ use Rattle.pals_top.specs.declared.status.TheConstants.{DONE}
 -- votes
 pub record IsVoted (design : DesignParts) (scenario : Scenario) (status : ℕ) (text : List ℕ) : Type 0 where
   pub status_is : status ≡ DONE
-  pub text_is : text ≡ voted_report design scenario.env (replicated_in design scenario.replicas) (faults_of scenario.faults)
+  pub text_is : text ≡ voted_report design scenario.env (replicated_in design scenario.replicas)
+      (faults_of scenario.faults)
       scenario.rounds
   -- if no two replicas are at fault towards one reader in one round, they are the composition's, with each line of a
   -- replicated component three times

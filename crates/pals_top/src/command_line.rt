@@ -1,7 +1,8 @@
 //! The words of the command line.
 ghost use Rattle.std.specs.Prelude.{◌≡◌, [], ◌∷◌, true};
 ghost use Rattle.std.specs.List.{list_all};
-ghost use Rattle.pals_top.specs.CommandWords.{command_of_words, plain_command, rooted_command, is_flag, is_plain, is_digit, is_number};
+ghost use Rattle.pals_top.specs.CommandWords.{command_of_words, plain_command, rooted_command, is_flag, is_plain};
+ghost use Rattle.pals_top.specs.CommandWords.{is_digit, is_number};
 ghost use Rattle.pals_top.specs.CommandWords.{value_of, number_in, IsRead};
 ghost use Rattle.pals_top.specs.proof.FlaggedAndRunCommands.{flagged_command};
 

@@ -151,7 +151,8 @@ module _ (design : DesignParts) (env : Env) (rounds : ℕ) (ins : Inputs) (sound
         (brought_tuple design (values_at env round) (comp design env round).messages c.rate) i
         (λ s.
         value_alone design env ins c.rate step s
-        ∙ ap₂ (λ q k. slice_index_or (brought_tuple design (values_at env q) (messages_before design [] ins q) c.rate s) k
+        ∙ ap₂ (λ q k. slice_index_or (brought_tuple design (values_at env q) (messages_before design [] ins q) c.rate
+        s) k
         Absent) quotient place
         ∙ ap (λ ms. slice_index_or (brought_tuple design (values_at env round) ms c.rate s) i Absent) messages)
         (sources_of design node c)
@@ -271,7 +272,8 @@ module _ (design : DesignParts) (env : Env) (rounds : ℕ) (ins : Inputs) (sound
         let own = own_steps design env link.source.0 round c in
         let within : link.out_port < length c.behaviour.outs =
         subst (λ o. link.out_port < outs_in o) at.1 rules.source.port_is in
-        let shown : slice_index_or own.tuples link.out_port [] ≡ column link.out_port (left round messages frames link.source.0 c at.1) =
+        let shown : slice_index_or own.tuples link.out_port []
+        ≡ column link.out_port (left round messages frames link.source.0 c at.1) =
         get_or_from_slice_get own.tuples link.out_port _ []
         (slice_get-columns (length c.behaviour.outs) (left round messages frames link.source.0 c at.1)
         link.out_port within) in

@@ -30,7 +30,8 @@ use Rattle.pals_model.specs.Composition.{Configuration, no_frame}
 use Rattle.pals_model.specs.DesignRules.{IsDesign}
 use Rattle.pals_model.proofs.ShapeLaws.{length-outputs}
 use Rattle.pals_runs.specs.declared.plant_pairs.Pair.{Pair}
-use Rattle.plant_fuse.specs.FusedComposition.{ArePairs, is_to_plant, is_to_controller, Inputs, inputs_to, outputs_in, left_by}
+use Rattle.plant_fuse.specs.FusedComposition.{ArePairs, is_to_plant, is_to_controller, Inputs, inputs_to, outputs_in}
+use Rattle.plant_fuse.specs.FusedComposition.{left_by}
 use Rattle.plant_fuse.specs.FusedComposition.{left_before, round_tuple, message_on, messages_before, from_round}
 use Rattle.plant_fuse.specs.FusedComposition.{value_on, value_read, vector_of, IsFused}
 use Rattle.plant_fuse.specs.proof.SolutionConfiguration.{first_rounds, frame_of, fused}
@@ -164,9 +165,11 @@ module _ (design : DesignParts) (pairs : List Pair) (env : Env) (rounds : ℕ) (
     same_brought s =
         let quotient : step / c.rate ≡ rounds = div-mul-add rounds c.rate i below in
         let place : step % c.rate ≡ i = mod-mul-add rounds c.rate i below in
-        ap₂ (λ q k. slice_index_or (brought_tuple design (values_at env q) (messages_before design pairs ins q) c.rate s) k
+        ap₂ (λ q k. slice_index_or (brought_tuple design (values_at env q) (messages_before design pairs ins q) c.rate
+        s) k
         Absent) quotient place
-        ∙ ap (λ ms. slice_index_or (brought_tuple design (values_at env rounds) ms c.rate s) i Absent) (sym messages_are)
+        ∙ ap (λ ms. slice_index_or (brought_tuple design (values_at env rounds) ms c.rate s) i Absent)
+        (sym messages_are)
 
     module _ (number : ℕ) (link : Link) (is_link : slice_get design.links number ≡ Some link)
         (target : link.target.0 ≡ node) where
@@ -193,7 +196,8 @@ module _ (design : DesignParts) (pairs : List Pair) (env : Env) (rounds : ℕ) (
           before_suc design ins link.source.0 link.out_port (suc n * c.rate) (n * k + (k - 1)) place
           ∙ sym (ap (λ (m : List PortValue). slice_index_or m (k - 1) Absent)
           (get_or-map_some (message_on design pairs ins n) design.links number link [] is_link
-          ∙ ap (λ b. if b then round_tuple design ins link.source.0 link.out_port n else if is_to_controller pairs link then
+          ∙ ap (λ b. if b then round_tuple design ins link.source.0 link.out_port n else if is_to_controller pairs link
+          then
           round_tuple design ins link.source.0 link.out_port n else cut (sent_steps design.gamma design.period k)
           (round_tuple design ins link.source.0 link.out_port n)) back)
           ∙ get_or-map_upwards (λ j. left_by design ins link.source.0 link.out_port (n * k + j)) k (k - 1) Absent

@@ -39,10 +39,12 @@ made_more b from vectors rows to v is = record {
 module _ (round : RoundInputs) (pair_member : PairMember) (rows : List (List PortValue)) (row : List PortValue) (n : ℕ)
     (size : length rows ≡ n) where
   plant_more : map (plant_vector round pair_member (rows ++ row ∷ [])) (upwards 0 (n + 1))
-      ≡ map (plant_vector round pair_member rows) (upwards 0 n) ++ side_vector round pair_member n (row_before rows n) ∷ []
+      ≡ map (plant_vector round pair_member rows) (upwards 0 n)
+      ++ side_vector round pair_member n (row_before rows n) ∷ []
   plant_more =
       map_upwards_more (plant_vector round pair_member (rows ++ row ∷ [])) n
-      ∙ ap₂ (λ (vs : List (List PortValue)) (last : Option (List PortValue)). vs ++ side_vector round pair_member n last ∷ [])
+      ∙ ap₂ (λ (vs : List (List PortValue)) (last : Option (List PortValue)). vs
+      ++ side_vector round pair_member n last ∷ [])
       (map_upwards_same (plant_vector round pair_member (rows ++ row ∷ [])) (plant_vector round pair_member rows) 0 n
       (λ k above below. ap (side_vector round pair_member k) (row_before_more rows row k (omega (arith, below, size)))))
       (row_before_more rows row n (omega (arith, size)))
@@ -51,8 +53,10 @@ module _ (round : RoundInputs) (pair_member : PairMember) (rows : List (List Por
       ≡ map (controller_vector round pair_member rows) (upwards 0 n) ++ side_vector round pair_member n (Some row) ∷ []
   controller_more =
       map_upwards_more (controller_vector round pair_member (rows ++ row ∷ [])) n
-      ∙ ap₂ (λ (vs : List (List PortValue)) (last : List PortValue). vs ++ side_vector round pair_member n (Some last) ∷ [])
-      (map_upwards_same (controller_vector round pair_member (rows ++ row ∷ [])) (controller_vector round pair_member rows) 0 n
+      ∙ ap₂ (λ (vs : List (List PortValue)) (last : List PortValue). vs
+      ++ side_vector round pair_member n (Some last) ∷ [])
+      (map_upwards_same (controller_vector round pair_member (rows ++ row ∷ []))
+      (controller_vector round pair_member rows) 0 n
       (λ k above below. ap (λ (r : List PortValue). side_vector round pair_member k (Some r))
       (get_or_append_left rows (row ∷ []) [] k (omega (arith, below, size)))))
       (get_or_push rows row [] n size)
@@ -96,8 +100,10 @@ module _ (round : RoundInputs) (plant controller : PairMember) (n : ℕ) (p c : 
       → rows_c ≡ c.rows ++ step_c w ∷ [] → to_c ≡ (fire controller.component.behaviour c.to w).frame
       → AreMade round plant controller (n + 1) (work p.from rows_p to_p) (work c.from rows_c to_c)
   both_more v w rows_p rows_c to_p to_c v_is w_is a b d e =
-      let one : work p.from (p.rows ++ step_p v ∷ []) (fire plant.component.behaviour p.to v).frame ≡ work p.from rows_p to_p = ap₂ (work p.from) (sym a) (sym b) in
-      let two : work c.from (c.rows ++ step_c w ∷ []) (fire controller.component.behaviour c.to w).frame ≡ work c.from rows_c to_c = ap₂ (work c.from) (sym d) (sym e) in
+      let one : work p.from (p.rows ++ step_p v ∷ []) (fire plant.component.behaviour p.to v).frame
+      ≡ work p.from rows_p to_p = ap₂ (work p.from) (sym a) (sym b) in
+      let two : work c.from (c.rows ++ step_c w ∷ []) (fire controller.component.behaviour c.to w).frame
+      ≡ work c.from rows_c to_c = ap₂ (work c.from) (sym d) (sym e) in
       subst (λ (x : Work). AreMade round plant controller (n + 1) x (work c.from rows_c to_c)) one
       (subst (AreMade round plant controller (n + 1)
       (work p.from (p.rows ++ step_p v ∷ []) (fire plant.component.behaviour p.to v).frame)) two

@@ -174,7 +174,8 @@ module _ (round : RoundInputs) (pairs : List Pair) (are : ArePairs round.design.
                   ∙ ap₂ cut (ap (λ (s : StageSize). s.sent) room
                   ∙ ap (sent_steps design.gamma design.period) (sym (ap rate_in is_c))) (sym tuple)
                   ∙ sym
-                  (ap (λ b. if b then tuple_in design at vs link else if is_to_controller pairs link then tuple_in design at vs
+                  (ap (λ b. if b then tuple_in design at vs link else if is_to_controller pairs link then tuple_in
+                  design at vs
                   link else cut (sent_steps design.gamma design.period (rate_of design node))
                   (tuple_in design at vs link)) (outside_back design pairs are link not)
                   ∙ ap (λ b. if b then tuple_in design at vs link else cut

@@ -79,10 +79,12 @@ pair_is_run round parts next stages pair plant controller plant_stage controller
           controller_is run.controller_shows at_c at_cs;
       made =
           subst (λ (s : PairMember). AreMade round s
-          (pair_member design pair.controller.0 pair.plant.0 controller.wired.component.now) plant.wired.component.now.rate
+          (pair_member design pair.controller.0 pair.plant.0 controller.wired.component.now)
+          plant.wired.component.now.rate
           p_work c_work)
           (seat_is design parts pair.plant.0 pair.controller.0 plant plant_is)
-          (subst (λ (s : PairMember). AreMade round (member_of_pair plant) s plant.wired.component.now.rate p_work c_work)
+          (subst (λ (s : PairMember). AreMade round (member_of_pair plant) s plant.wired.component.now.rate p_work
+          c_work)
           (seat_is design parts pair.controller.0 pair.plant.0 controller controller_is) run.made);
     }
 

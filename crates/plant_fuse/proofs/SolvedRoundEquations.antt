@@ -40,7 +40,8 @@ use Rattle.plant_fuse.specs.proof.PairSteps.{plant_vector, controller_vector}
 use Rattle.plant_fuse.specs.proof.RoundWork.{pair_member, rows_of, HasWork, IsRun, AreRun}
 use Rattle.plant_fuse.proofs.FunctionTables.{table, table_at, table_same}
 use Rattle.plant_fuse.proofs.PairLinkEnds.{read_from_target}
-use Rattle.plant_fuse.proofs.PartnersAndPairLinks.{some_stands, pair_at, to_plant_forth, to_plant_back, to_controller_back}
+use Rattle.plant_fuse.proofs.PartnersAndPairLinks.{some_stands, pair_at, to_plant_forth, to_plant_back}
+use Rattle.plant_fuse.proofs.PartnersAndPairLinks.{to_controller_back}
 use Rattle.plant_fuse.proofs.PartnersAndPairLinks.{to_controller_forth, to_alone_back, to_alone_forth}
 
 -- ---- inputs depend only on outputs
@@ -56,7 +57,8 @@ module _ (design : DesignParts) (pairs : List Pair) (values : List PortValue) (b
       ≡ link_by design pairs values before other rate step number o
   link_same rate step number None = refl
   link_same rate step number (Some link) =
-      ap₂ (λ x y. if is_to_plant pairs link then x else if is_to_controller pairs link then y else rounds.brought design values
+      ap₂ (λ x y. if is_to_plant pairs link then x else if is_to_controller pairs link then y else rounds.brought
+      design values
       before rate step (source.Link number))
       (before_same number link step) (same link.source.0 link.out_port step)
 
@@ -118,7 +120,8 @@ module _ (round : RoundInputs) (pairs : List Pair) (are : ArePairs round.design.
         let forth = to_alone_forth design pairs are node link none (target link refl) in
         let here = rounds.brought design round.values.now before c.rate step (source.Link number) in
         sym
-        (ap (λ b. if b then left_before_by design before left number link step else if is_to_controller pairs link then left
+        (ap (λ b. if b then left_before_by design before left number link step else if is_to_controller pairs link then
+        left
         link.source.0 link.out_port step else here) back
         ∙ ap (λ b. if b then left link.source.0 link.out_port step else here) forth)
 
@@ -184,7 +187,8 @@ module _ (round : RoundInputs) (pairs : List Pair) (are : ArePairs round.design.
           | false ↦ λ other. refl
         ]) from
         ∙ sym
-        (ap (λ t. if t then left_before_by design before left number link step else if is_to_controller pairs link then left
+        (ap (λ t. if t then left_before_by design before left number link step else if is_to_controller pairs link then
+        left
         link.source.0 link.out_port step else here) back
         ∙ ap (λ t. if b then left_before_by design before left number link step else if t then left link.source.0
         link.out_port step else here) forth)
@@ -192,7 +196,8 @@ module _ (round : RoundInputs) (pairs : List Pair) (are : ArePairs round.design.
     plant_value : (step : ℕ) (s : PortSource)
         → ((number : ℕ) (link : Link) → s ≡ source.Link number → slice_get design.links number ≡ Some link
         → link.target.0 ≡ pair.plant.0)
-        → side_value round (pair_member design pair.plant.0 pair.controller.0 r.p) step (row_before r.c_work.rows step) s
+        → side_value round (pair_member design pair.plant.0 pair.controller.0 r.p) step (row_before r.c_work.rows step)
+        s
         ≡ read r.p.rate step s
     plant_value step source.Nothing target = refl
     plant_value step (source.Feed feed root) target = refl
@@ -200,7 +205,8 @@ module _ (round : RoundInputs) (pairs : List Pair) (are : ArePairs round.design.
         by (slice_get design.links number) (λ link there. target number link refl there)
       where
         by : (o : Option Link) → ((link : Link) → o ≡ Some link → link.target.0 ≡ pair.plant.0)
-            → from_link round (pair_member design pair.plant.0 pair.controller.0 r.p) step (row_before r.c_work.rows step)
+            → from_link round (pair_member design pair.plant.0 pair.controller.0 r.p) step
+            (row_before r.c_work.rows step)
             number o ≡ link_by design pairs round.values.now before left r.p.rate step number o
         by None known = refl
         by (Some link) known = plant_if number link step (known link refl) (nat_eq link.source.0 pair.controller.0) refl
@@ -223,14 +229,16 @@ module _ (round : RoundInputs) (pairs : List Pair) (are : ArePairs round.design.
           | false ↦ λ other. refl
         ]) from
         ∙ sym
-        (ap (λ t. if t then left_before_by design before left number link step else if is_to_controller pairs link then left
+        (ap (λ t. if t then left_before_by design before left number link step else if is_to_controller pairs link then
+        left
         link.source.0 link.out_port step else here) back
         ∙ ap (λ t. if t then left link.source.0 link.out_port step else here) forth)
 
     controller_value : (step : ℕ) (s : PortSource)
         → ((number : ℕ) (link : Link) → s ≡ source.Link number → slice_get design.links number ≡ Some link
         → link.target.0 ≡ pair.controller.0)
-        → side_value round (pair_member design pair.controller.0 pair.plant.0 r.c) step (Some (row_at r.p_work.rows step)) s
+        → side_value round (pair_member design pair.controller.0 pair.plant.0 r.c) step
+        (Some (row_at r.p_work.rows step)) s
         ≡ read r.c.rate step s
     controller_value step source.Nothing target = refl
     controller_value step (source.Feed feed root) target = refl
@@ -238,7 +246,8 @@ module _ (round : RoundInputs) (pairs : List Pair) (are : ArePairs round.design.
         by (slice_get design.links number) (λ link there. target number link refl there)
       where
         by : (o : Option Link) → ((link : Link) → o ≡ Some link → link.target.0 ≡ pair.controller.0)
-            → from_link round (pair_member design pair.controller.0 pair.plant.0 r.c) step (Some (row_at r.p_work.rows step))
+            → from_link round (pair_member design pair.controller.0 pair.plant.0 r.c) step
+            (Some (row_at r.p_work.rows step))
             number o ≡ link_by design pairs round.values.now before left r.c.rate step number o
         by None known = refl
         by (Some link) known = controller_if number link step (known link refl) (nat_eq link.source.0 pair.plant.0) refl
@@ -253,16 +262,19 @@ module _ (round : RoundInputs) (pairs : List Pair) (are : ArePairs round.design.
         (side_value round (pair_member design pair.plant.0 pair.controller.0 r.p) step (row_before r.c_work.rows step))
         (read r.p.rate step) (plant_value step) (upwards 0 (length r.p.behaviour.ins)))
 
-    controller_vectors : map (controller_vector round (pair_member design pair.controller.0 pair.plant.0 r.c) r.p_work.rows)
+    controller_vectors : map (controller_vector round (pair_member design pair.controller.0 pair.plant.0 r.c)
+        r.p_work.rows)
         (upwards 0 r.p.rate) ≡ vectors_of pair.controller.0 r.c
     controller_vectors =
         ap (λ n. map (controller_vector round (pair_member design pair.controller.0 pair.plant.0 r.c) r.p_work.rows)
         (upwards 0 n)) rates
-        ∙ map_upwards_same (controller_vector round (pair_member design pair.controller.0 pair.plant.0 r.c) r.p_work.rows)
+        ∙ map_upwards_same (controller_vector round (pair_member design pair.controller.0 pair.plant.0 r.c)
+        r.p_work.rows)
         (vector_by design pairs round.values.now before left pair.controller.0 r.c) 0 r.c.rate
         (λ step above below.
         each_source design pair.controller.0
-        (side_value round (pair_member design pair.controller.0 pair.plant.0 r.c) step (Some (row_at r.p_work.rows step)))
+        (side_value round (pair_member design pair.controller.0 pair.plant.0 r.c) step
+        (Some (row_at r.p_work.rows step)))
         (read r.c.rate step) (controller_value step) (upwards 0 (length r.c.behaviour.ins)))
 
   -- ---- the steps of each component

@@ -25,7 +25,8 @@ use Rattle.pals_model.specs.ComponentInputs.{source_of, brought_tuple, values_at
 use Rattle.pals_model.specs.PortKindsAndRates.{rate_of, rate_in}
 use Rattle.pals_model.specs.DesignRules.{IsDesign}
 use Rattle.pals_runs.specs.declared.plant_pairs.Pair.{Pair}
-use Rattle.plant_fuse.specs.FusedComposition.{ArePairs, is_to_plant, is_to_controller, Inputs, inputs_to, outputs_in, left_by}
+use Rattle.plant_fuse.specs.FusedComposition.{ArePairs, is_to_plant, is_to_controller, Inputs, inputs_to, outputs_in}
+use Rattle.plant_fuse.specs.FusedComposition.{left_by}
 use Rattle.plant_fuse.specs.FusedComposition.{left_before, round_tuple, message_on, messages_before, from_round}
 use Rattle.plant_fuse.specs.FusedComposition.{value_on, value_read, vector_of, reads}
 use Rattle.plant_fuse.proofs.FunctionTables.{get_upwards_same, table_at, table_past, table_same}
@@ -97,7 +98,8 @@ module _ (design : DesignParts) (pairs : List Pair) (sound : IsDesign design) (a
     same_from_round : (rate step : ℕ) (source : PortSource) → step / rate * 128 ≤ m
         → from_round design pairs env v rate step source ≡ from_round design pairs env w rate step source
     same_from_round rate step source past =
-        ap (λ messages. slice_index_or (brought_tuple design (values_at env (step / rate)) messages rate source) (step % rate)
+        ap (λ messages. slice_index_or (brought_tuple design (values_at env (step / rate)) messages rate source)
+        (step % rate)
         Absent) (same_messages (step / rate) past)
 
     same_before : (node port step : ℕ) → ((k : ℕ) → k < step → rank design pairs node k < m)

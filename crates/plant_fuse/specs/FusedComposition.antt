@@ -107,7 +107,8 @@ messages_before design pairs ins (suc round) = map (message_on design pairs ins 
 -- as in the composition: the step's place of the vectors of its round
 abbrev pub from_round : DesignParts → List Pair → Env → Inputs → ℕ → ℕ → PortSource → PortValue
 from_round design pairs env ins rate step source =
-    slice_index_or (brought_tuple design (values_at env (step / rate)) (messages_before design pairs ins (step / rate)) rate
+    slice_index_or (brought_tuple design (values_at env (step / rate)) (messages_before design pairs ins (step / rate))
+    rate
     source) (step % rate) Absent
 
 -- a plant reads on a link from its controller what the controller's step before left; a controller reads on a link

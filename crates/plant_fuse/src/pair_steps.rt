@@ -3,7 +3,8 @@ ghost use Rattle.std.specs.Prelude.{◌≡◌, ◌<◌, ◌≤◌, OnOk, length}
 ghost use Rattle.std.specs.Option.{option_copied};
 ghost use Rattle.sync_product.specs.proof.ProductSizes.{frame_size, frame_size_of, part_size, stage_size};
 ghost use Rattle.sync_product.specs.proof.ProductSizes.{stage_size_of};
-ghost use Rattle.plant_fuse.specs.proof.PairSteps.{member_of_pair, from_partner, side_value, side_vector, row_before, AreMade};
+ghost use Rattle.plant_fuse.specs.proof.PairSteps.{member_of_pair, from_partner, side_value, side_vector, row_before};
+ghost use Rattle.plant_fuse.specs.proof.PairSteps.{AreMade};
 ghost use Rattle.plant_fuse.specs.proof.PairSteps.{work, FitsSteps, AreSidesRun};
 
 use pals_base::tuples::place;

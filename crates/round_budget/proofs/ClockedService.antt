@@ -28,7 +28,11 @@ Keeps g reached s = Delayed g s × KeepsBounds g reached s
 -- one step, where the processor is free less than the skew after it is in the timetable
 one_kept : (g : Gamma) (cost : Release → ℕ) (reached : ReachTimes) (free late : ℕ) (x : Release) → 1 ≤ g.eps
     → late < free + g.eps → IsReachedInTime g reached x → begins free x + cost x ≤ x.time + g.alpha_max
-    → Keeps g reached (record { release = x; begin = begins_by reached late x; done = begins_by reached late x + cost x })
+    → Keeps g reached (record {
+      release = x;
+      begin = begins_by reached late x;
+      done = begins_by reached late x + cost x;
+    })
 one_kept g cost reached free late x some behind near here =
     let slow = near.slow in
     let done : begins_by reached late x + cost x < x.time + g.eps + g.alpha_max = omega arith in

@@ -28,7 +28,8 @@ pub respond_in_time : (design : DesignParts) (codes : List CodeParts) (nanos : �
     → IsDesign design → 1 ≤ nanos
     → IsWithinBudget design codes nanos members → RespondInTime design codes nanos members
 respond_in_time design codes nanos members sound some budgeted =
-    let weighed : (rounds : ℕ) (count : Release → ℕ) → AreAtMost codes members count → AreInTime design (budget design members rounds nanos count) =
+    let weighed : (rounds : ℕ) (count : Release → ℕ) → AreAtMost codes members count
+    → AreInTime design (budget design members rounds nanos count) =
     λ rounds count most. record {
       responses = responses_fit design codes nanos members rounds count sound budgeted most;
       rounds = rounds_are_apart design codes nanos members rounds count sound budgeted most;

@@ -100,7 +100,8 @@ serve_later t round cost same free (x ∷ xs) =
     let begin : max (x.time + round * t) (free + round * t) ≡ max x.time free + round * t =
     add-max-add_right x.time free (round * t) in
     let one = same x in
-    let done : max (x.time + round * t) (free + round * t) + cost (later t round x) ≡ max x.time free + cost x + round * t = omega (arith, begin, one) in
+    let done : max (x.time + round * t) (free + round * t) + cost (later t round x)
+    ≡ max x.time free + cost x + round * t = omega (arith, begin, one) in
     ap₂ (λ s ss. s ∷ ss)
     (served_at_later (later t round x) _ _ _ _ begin done)
     (ap (λ f. serve cost f (map (later t round) xs)) done ∙ serve_later t round cost same (max x.time free + cost x) xs)
@@ -148,7 +149,8 @@ module _ (design : DesignParts) (codes : List CodeParts) (nanos : ℕ) (members 
   release_later : (round node step : ℕ)
       → release_of design round node step ≡ later t round (release_of design 0 node step)
   release_later round node step =
-      let time : alarm t round + step * step_period t (rate_of design node) ≡ alarm t 0 + step * step_period t (rate_of design node) + round * t = omega arith in
+      let time : alarm t round + step * step_period t (rate_of design node)
+      ≡ alarm t 0 + step * step_period t (rate_of design node) + round * t = omega arith in
       ap (λ k. let x : Release = record { node = node; round = round; step = step; time = k } in x) time
 
   of_later : (round node : ℕ) (ks : List ℕ)

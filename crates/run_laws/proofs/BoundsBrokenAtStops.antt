@@ -58,7 +58,8 @@ transit_by run clocks journal s number round reading InTransit rules x next fits
     let due = of.2 in
     let late = fits.2 in
     let bound = b.late in
-    let own : alarm run.design.period round + max (backoff run.design.gamma) ((plan.sent_steps - 1) * plan.step_period + run.design.gamma.alpha_max) < at = omega arith in
+    let own : alarm run.design.period round + max (backoff run.design.gamma)
+    ((plan.sent_steps - 1) * plan.step_period + run.design.gamma.alpha_max) < at = omega arith in
     subst (λ (l : Link). alarm run.design.period round
     + max (backoff run.design.gamma)
     (((plan_of run.design l.source.0).sent_steps - 1) * (plan_of run.design l.source.0).step_period

@@ -31,7 +31,8 @@ does_not run clocks s node reading action ended d =
     let plan = plan_of run.design node.0 in
     let left = (clock_at clocks node.0).left in
     let same : action ≡ ended.0 = same_Some action ended.0 (sym d.next ∙ ended.1) in
-    let here : remaining_from left (target plan action) ≡ left = stands left (target plan action) d.at d.shows.0 d.shows.1 in
+    let here : remaining_from left (target plan action) ≡ left =
+    stands left (target plan action) d.at d.shows.0 d.shows.1 in
     let none : left ≡ [] = sym here ∙ ap (λ a. remaining_from left (target plan a)) same ∙ ended.2 in
     let both : None ≡ Some d.at = ap (λ l. slice_get l 0) (sym none) ∙ d.shows.0 in
     absurd (cc)

@@ -16,7 +16,8 @@ use Rattle.pals_runs.specs.declared.journal.JournalEntry.{JournalEntry}
 use Rattle.pals_runs.specs.declared.journal.JournalEntry.TheVariants as entry
 use Rattle.pals_runs.specs.JournalLines.{node_word, link_word, reading_word, arrived_word, cause_word, spaced}
 use Rattle.pals_runs.specs.JournalLines.{stop_words, entry_words}
-use Rattle.run_laws.specs.LineForms.{LineForm, ArriveLine, StartLine, StepLine, FinishLine, SendLine, DropLine, RepeatLine}
+use Rattle.run_laws.specs.LineForms.{LineForm, ArriveLine, StartLine, StepLine, FinishLine, SendLine, DropLine}
+use Rattle.run_laws.specs.LineForms.{RepeatLine}
 use Rattle.run_laws.specs.LineForms.{EarlyLine, MissedLine, is_there, form_of_words, form_of, named, read, at_end}
 use Rattle.run_laws.specs.LineForms.{with_result, with_cause, with_step}
 use Rattle.run_laws.specs.proof.EntryLines.{stop_form, entry_form, LinesHaveForms, EntriesHaveLines}
@@ -89,7 +90,8 @@ named_is : (name : List ℕ) (round : ℕ) (rest : List (List ℕ)) (go : List �
     → named (name ∷ decimal round ∷ rest) go ≡ go name round rest
 named_is name round rest go within = ap (option_and_then (λ r. go name r rest)) (round_is round within)
 
-read_is : (reading : Option ℕ) (rest : List (List ℕ)) (go : Option ℕ → List (List ℕ) → Option LineForm) → IsReading reading
+read_is : (reading : Option ℕ) (rest : List (List ℕ)) (go : Option ℕ → List (List ℕ) → Option LineForm)
+    → IsReading reading
     → read (reading_word reading ∷ rest) go ≡ go reading rest
 read_is reading rest go within = ap (option_and_then (λ r. go r rest)) (reading_is reading within)
 

@@ -34,7 +34,8 @@ use Rattle.run_laws.specs.JournalReadings.{last_of, latest}
 use Rattle.run_laws.specs.NodeActions.{upcoming}
 use Rattle.pals_clock.specs.declared.clock.Clocks.{Clocks}
 use Rattle.pals_clock.specs.declared.clock.Clocks.TheVariants.{Meet, Lists}
-use Rattle.run_laws.specs.Runs.{no_clock, clock_at, Shows, Does, KeepsTo, Picks, HaveFreshClocks, Runs, opens, picks_for, goes_on}
+use Rattle.run_laws.specs.Runs.{no_clock, clock_at, Shows, Does, KeepsTo, Picks, HaveFreshClocks, Runs, opens}
+use Rattle.run_laws.specs.Runs.{picks_for, goes_on}
 use Rattle.run_laws.proofs.MissedLinks.{missed_link}
 use Rattle.run_laws.proofs.NodePicksAndRunReplay.{many_clocks}
 

@@ -163,7 +163,8 @@ event_shows run front s (Arrive link round reading) in_time =
 event_shows run front s (Drop link round) in_time = absurd in_time
 event_shows run front s (Repeat link round) in_time = absurd in_time
 
-pub times : (run : Run) (journal : List JournalEntry) (s : BusState) → History run journal s → All (ShowsTime run) journal
+pub times : (run : Run) (journal : List JournalEntry) (s : BusState) → History run journal s
+    → All (ShowsTime run) journal
 times run journal s opens = All-nil (ShowsTime run)
 times run journal s (goes_on {journal = before} {s = t} e history step in_time) =
     All-append (ShowsTime run) before (entries run t e) (times run before t history)

@@ -296,7 +296,8 @@ send_passes run front s node reading rules read may going all =
     refl (its_line run.design x))
 
 -- ---- Arrive
-pub arrive_rules : (run : Run) (front : List JournalEntry) (s : BusState) (link : LinkNo) (round : ℕ) (reading : Option ℕ)
+pub arrive_rules : (run : Run) (front : List JournalEntry) (s : BusState) (link : LinkNo) (round : ℕ)
+    (reading : Option ℕ)
     → IsDesign run.design → ArrivesInTime run front s link.0 round reading
     → is_allowed run s (Arrive link round reading) ≡ true → s.stop ≡ None
     → link.0 < length run.design.links
@@ -451,7 +452,8 @@ over_is run s many (inr done) =
     over_by s.stop (list_all (λ (n : NodeState). is_done n.phase) s.nodes) (inr (tests_done run s many done))
 
 -- ---- the whole
-pub first_has_form : (design : DesignParts) (journal : List JournalEntry) → IsDesign design → All (IsEntryIn design) journal
+pub first_has_form : (design : DesignParts) (journal : List JournalEntry) → IsDesign design
+    → All (IsEntryIn design) journal
     → FirstHasForm (map (entry_line design) journal)
 first_has_form design [] rules fit = tt
 first_has_form design (e ∷ es) rules fit =

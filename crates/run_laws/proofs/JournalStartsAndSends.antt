@@ -227,8 +227,14 @@ rounds_are_shown run clocks journal s k rules (picks_for {clocks = before} j run
 rounds_are_shown run clocks journal s k rules (goes_on {journal = before} {s = t} e runs keeps step) =
     let old = rounds_are_shown run clocks before t k rules runs in
     let grows = counts_after run clocks t e k (runs_agree run clocks before t rules runs) keeps step.allowed in
-    let first : length (starts k (before ++ entries run t e)) ≡ length (starts k before) + length (starts k (entries run t e)) = ap length (flat_map-append (start_in k) before (entries run t e)) ∙ length-append (starts k before) (starts k (entries run t e)) in
-    let second : length (sends k (before ++ entries run t e)) ≡ length (sends k before) + length (sends k (entries run t e)) = ap length (flat_map-append (send_in k) before (entries run t e)) ∙ length-append (sends k before) (sends k (entries run t e)) in
+    let first : length (starts k (before ++ entries run t e))
+    ≡ length (starts k before) + length (starts k (entries run t e)) =
+    ap length (flat_map-append (start_in k) before (entries run t e))
+    ∙ length-append (starts k before) (starts k (entries run t e)) in
+    let second : length (sends k (before ++ entries run t e))
+    ≡ length (sends k before) + length (sends k (entries run t e)) =
+    ap length (flat_map-append (send_in k) before (entries run t e))
+    ∙ length-append (sends k before) (sends k (entries run t e)) in
     subst (λ u. IsShown u (before ++ entries run t e) k) (sym step.state) (
       first ∙ ap (λ x. x + length (starts k (entries run t e))) old.0 ∙ sym grows.count,
       second ∙ ap (λ x. x + length (sends k (entries run t e))) old.1 ∙ sym grows.sends,

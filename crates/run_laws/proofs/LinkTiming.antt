@@ -55,7 +55,8 @@ use Rattle.run_laws.specs.Runs.{Takes, KeepsTo, Runs, opens, picks_for, goes_on}
 use Rattle.run_laws.specs.proof.LinkTiming.{early_on, view, LinksAreTimed}
 use Rattle.run_laws.proofs.NodePicksAndRunReplay.{runs_agree}
 use Rattle.run_laws.proofs.JournalStartsAndSends.{rounds_are_shown, stop_shows}
-use Rattle.run_laws.proofs.LinkTimingPreservation.{goes_start, goes_send, goes_arrive, slot_after, taken_after, arrived_at}
+use Rattle.run_laws.proofs.LinkTimingPreservation.{goes_start, goes_send, goes_arrive, slot_after, taken_after}
+use Rattle.run_laws.proofs.LinkTimingPreservation.{arrived_at}
 use Rattle.run_laws.proofs.MissedLinks.{full_slot}
 use Rattle.run_laws.proofs.MeetingReadings.{no_fall}
 use Rattle.run_laws.proofs.EventReadings.{does_read, start_tells, arrive_tells, event_tells, later, latest_after}
@@ -192,7 +193,8 @@ send_timed run s node reading at journal number link rules agree is may shows ti
     (message_from (plan_of run.design node.0) n link.out_port) in
     let count = keeps_at (λ (k : NodeState). k.count) s node.0 link.target.0 m refl in
     let slot = keeps_at (λ (k : NodeState). slot_at k link.in_port) s node.0 link.target.0 m refl in
-    let flight : flight_at t number ≡ (if nat_eq link.source.0 node.0 then flight_at s number ++ copy ∷ [] else flight_at s number)
+    let flight : flight_at t number ≡ (if nat_eq link.source.0 node.0 then flight_at s number
+    ++ copy ∷ [] else flight_at s number)
     =
     numbered_at (λ (numbered : ℕ × Link). flight_after_send run s node reading numbered.0 numbered.1)
     run.design.links number link [] is in

@@ -35,7 +35,8 @@ use Rattle.run_laws.specs.ListRunEndsAndStops.{IsOver, PicksAll, ListStop}
 use Rattle.run_laws.specs.proof.ListRunEndsAndStops.{EndsAreTimely, DoneArePicked, EndedPicksEnd, ListsStop}
 use Rattle.run_laws.proofs.NodeActions.{IsPlan, length-targets, sized, size}
 use Rattle.run_laws.proofs.TargetPicks.{picks_end}
-use Rattle.run_laws.proofs.NodePicksAndRunReplay.{runs_agree, nodes_pick, next_target, plan_rules, node_agrees, readings_are_picks}
+use Rattle.run_laws.proofs.NodePicksAndRunReplay.{runs_agree, nodes_pick, next_target, plan_rules, node_agrees}
+use Rattle.run_laws.proofs.NodePicksAndRunReplay.{readings_are_picks}
 use Rattle.run_laws.proofs.JournalStartsAndSends.{rounds_are_shown}
 use Rattle.run_laws.proofs.LinkTimingPreservation.{due_if_sent, sent_of}
 use Rattle.run_laws.proofs.LinkTiming.{links_timed}
@@ -248,7 +249,8 @@ picked_most (r ∷ rs) answers n most = omega arith
 picks_most : (readings ts : List ℕ) → length (picks readings ts) ≤ length ts
 picks_most readings [] = omega arith
 picks_most readings (t ∷ ts) =
-    picked_most (remaining_from readings t) (picks (remaining_from readings t) ts) (length ts) (picks_most (remaining_from readings t) ts)
+    picked_most (remaining_from readings t) (picks (remaining_from readings t) ts) (length ts)
+    (picks_most (remaining_from readings t) ts)
 
 all_done : (plan : Plan) (rounds done : ℕ) (n : NodeState) → IsPlan plan → Follows plan done n → n.phase ≡ Done
     → n.count ≡ rounds → done ≡ rounds * (plan.rate + 1)

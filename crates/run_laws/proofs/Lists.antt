@@ -27,8 +27,12 @@ count_without {X} p q xs x found =
     split_at_first p xs x (slice_get_within xs at x is) in
     let whole : count_by q xs ≡ count_by q (before_first p xs ++ (x ∷ after_first p xs)) =
     ap (count_by q) (parts ∙ ap (λ y. before_first p xs ++ (y ∷ after_first p xs)) one) in
-    let left : count_by q (before_first p xs ++ after_first p xs) ≡ count_by q (before_first p xs) + count_by q (after_first p xs) = sum_by-append f (before_first p xs) (after_first p xs) in
-    let right : count_by q (before_first p xs ++ (x ∷ after_first p xs)) ≡ count_by q (before_first p xs) + count_by q (x ∷ after_first p xs) = sum_by-append f (before_first p xs) (x ∷ after_first p xs) in
+    let left : count_by q (before_first p xs ++ after_first p xs)
+    ≡ count_by q (before_first p xs) + count_by q (after_first p xs) =
+    sum_by-append f (before_first p xs) (after_first p xs) in
+    let right : count_by q (before_first p xs ++ (x ∷ after_first p xs))
+    ≡ count_by q (before_first p xs) + count_by q (x ∷ after_first p xs) =
+    sum_by-append f (before_first p xs) (x ∷ after_first p xs) in
     let here : count_by q (x ∷ after_first p xs) ≡ cond (q x) 1 0 + count_by q (after_first p xs) =
     sum_by-cons f x (after_first p xs) in
     omega arith

@@ -58,10 +58,12 @@ module _ (run : Run) (w : World) (bus : BusState) (since ready : List ℕ) (sent
         let one : Stands g plan (node_at bus k) (reading_at w k) w.time (since_at w k) (ready_at w k) (sendings w k) =
         subst (λ (n : NodeState). Stands g plan n (reading_at w k) w.time (since_at w k) (ready_at w k) (sendings w k))
         (sym (changes.nodes k other)) before in
-        let two : Stands g plan (node_at bus k) (reading_at w k) w.time (slice_index_or since k 0) (ready_at w k) (sendings w k) =
+        let two : Stands g plan (node_at bus k) (reading_at w k) w.time (slice_index_or since k 0) (ready_at w k)
+        (sendings w k) =
         subst (λ s. Stands g plan (node_at bus k) (reading_at w k) w.time s (ready_at w k) (sendings w k))
         (sym (changes.since_stays k other)) one in
-        let three : Stands g plan (node_at bus k) (reading_at w k) w.time (slice_index_or since k 0) (slice_index_or ready k 0) (sendings w k) =
+        let three : Stands g plan (node_at bus k) (reading_at w k) w.time (slice_index_or since k 0)
+        (slice_index_or ready k 0) (sendings w k) =
         subst (λ r. Stands g plan (node_at bus k) (reading_at w k) w.time (slice_index_or since k 0) r (sendings w k))
         (sym (changes.ready_stays k other)) two in
         subst (λ m. Stands g plan (node_at bus k) (reading_at w k) w.time (slice_index_or since k 0)
@@ -80,9 +82,11 @@ module _ (run : Run) (w : World) (bus : BusState) (since ready : List ℕ) (sent
       let one : Stands g plan (node_at bus node) (reading_at w node) w.time at_since at_ready moments =
       subst (λ (n : NodeState). Stands g plan n (reading_at w node) w.time at_since at_ready moments)
       (sym is_node) stands in
-      let two : Stands g plan (node_at bus node) (reading_at w node) w.time (slice_index_or since node 0) at_ready moments =
+      let two : Stands g plan (node_at bus node) (reading_at w node) w.time (slice_index_or since node 0) at_ready
+      moments =
       subst (λ s. Stands g plan (node_at bus node) (reading_at w node) w.time s at_ready moments) (sym is_since) one in
-      let three : Stands g plan (node_at bus node) (reading_at w node) w.time (slice_index_or since node 0) (slice_index_or ready node 0) moments =
+      let three : Stands g plan (node_at bus node) (reading_at w node) w.time (slice_index_or since node 0)
+      (slice_index_or ready node 0) moments =
       subst (λ r. Stands g plan (node_at bus node) (reading_at w node) w.time (slice_index_or since node 0) r moments)
       (sym is_ready) two in
       subst (λ l. Stands g plan (node_at bus node) (reading_at w node) w.time (slice_index_or since node 0)

@@ -45,7 +45,8 @@ use Rattle.run_laws.specs.JournalReadings.{listed, if_at, act_in, acts}
 use Rattle.run_laws.specs.NodeActions.{upcoming, Follows}
 use Rattle.pals_clock.specs.declared.clock.Clocks.{Clocks}
 use Rattle.pals_clock.specs.declared.clock.Clocks.TheVariants.{Meet, Lists}
-use Rattle.run_laws.specs.Runs.{no_clock, clock_at, Does, Begins, Takes, KeepsTo, Picks, AreFresh, HaveFreshClocks, Runs, opens}
+use Rattle.run_laws.specs.Runs.{no_clock, clock_at, Does, Begins, Takes, KeepsTo, Picks, AreFresh, HaveFreshClocks}
+use Rattle.run_laws.specs.Runs.{Runs, opens}
 use Rattle.run_laws.specs.Runs.{picks_for, goes_on}
 use Rattle.run_laws.specs.proof.ListPicks.{IsPicked}
 use Rattle.run_laws.specs.PicksAndJournalLines.{picks_of, IsPrefix}
@@ -199,7 +200,9 @@ step_goes run clocks s node reading round step Waiting k shown rules agree does 
     subst (λ q. next_in (plan_of run.design node.0) (node_at s node.0) q ≡ Some (action.Step round step)) is
     does.next in cc)
 step_goes run clocks s node reading round step (Running i) k shown rules agree does is told tells =
-    absurd (let both : next_in (plan_of run.design node.0) (node_at s node.0) (Running i) ≡ Some (action.Step round step) = subst (λ q. next_in (plan_of run.design node.0) (node_at s node.0) q ≡ Some (action.Step round step)) is does.next in cc)
+    absurd (let both : next_in (plan_of run.design node.0) (node_at s node.0) (Running i)
+    ≡ Some (action.Step round step) = subst (λ q. next_in (plan_of run.design node.0) (node_at s node.0) q
+    ≡ Some (action.Step round step)) is does.next in cc)
 step_goes run clocks s node reading round step (Between steps) k shown rules agree does is told tells = λ before.
     let n = node_at s node.0 in
     let plan = plan_of run.design node.0 in
@@ -363,7 +366,8 @@ abbrev HasIn : Run → Clocks → ℕ → BusState → List JournalEntry → Typ
 HasIn run Meet node s journal = Unit {0}
 HasIn run (Lists clocks) node s journal = Has run clocks node (node_at s node) (acts node journal)
 
-begins_picked : (run : Run) (clocks : Clocks) (node : ℕ) → HaveFreshClocks run clocks → node < length run.design.components
+begins_picked : (run : Run) (clocks : Clocks) (node : ℕ) → HaveFreshClocks run clocks
+    → node < length run.design.components
     → HasIn run clocks node (opening run) []
 begins_picked run Meet node begin within = tt
 begins_picked run (Lists clocks) node begin within = opening_picks run clocks node begin within

@@ -18,7 +18,8 @@ some_copy (c ∷ cs) zero round copy is of =
     omega arith
 some_copy (c ∷ cs) (suc place) round copy is of = let rest = some_copy cs place round copy is of in omega arith
 
-pub only_by : (c : FlightCopy) (cs : List FlightCopy) (place round : ℕ) (copy : FlightCopy) (b : Bool) → is_of round c ≡ b
+pub only_by : (c : FlightCopy) (cs : List FlightCopy) (place round : ℕ) (copy : FlightCopy) (b : Bool)
+    → is_of round c ≡ b
     → slice_get cs place ≡ Some copy → is_of round copy ≡ true → one_if (is_of round c) + copies round cs ≤ 1
     → (copies round cs ≤ 1 → oldest round cs ≡ Some copy)
     → cond b (Some c) (oldest round cs) ≡ Some copy

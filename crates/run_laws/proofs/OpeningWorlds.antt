@@ -45,7 +45,8 @@ none_once slot flight count sent round no_message none_flies none_started none_s
     let not_taken : one_if (taken count round) ≡ 0 =
     one_of_false (taken count round) (le-ltb (round + 1) count (omega arith)) in
     let unsent : one_if (nat_lt round sent) ≡ 0 = one_of_false (nat_lt round sent) (le-ltb round sent (omega arith)) in
-    let all : copies round flight + one_if (waits count slot round) + one_if (taken count round) ≡ one_if (nat_lt round sent) = omega arith in
+    let all : copies round flight + one_if (waits count slot round) + one_if (taken count round)
+    ≡ one_if (nat_lt round sent) = omega arith in
     all
 
 pub not_running : (step : ℕ) → Waiting ≡ Running step → ⊥

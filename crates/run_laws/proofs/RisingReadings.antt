@@ -91,7 +91,9 @@ arrive_rises run front link round reading Early at is most =
     let j = (link_at run.design link.0).target.0 in
     let e = entry.Arrive link round reading Early in
     let shown : unwrap_or reading 0 ≡ at = ap (λ o. unwrap_or o 0) is in
-    let here : latest run.design j (front ++ e ∷ []) ≡ cond (nat_eq j j) (unwrap_or reading 0) (latest run.design j front) = latest_after run.design j front (e ∷ []) in
+    let here : latest run.design j (front ++ e ∷ [])
+    ≡ cond (nat_eq j j) (unwrap_or reading 0) (latest run.design j front) =
+    latest_after run.design j front (e ∷ []) in
     let both : cond (nat_eq j j) (unwrap_or reading 0) (latest run.design j front) ≤ at =
     either_below (nat_eq j j) (unwrap_or reading 0) (latest run.design j front) at (omega arith) most in (
       line_rises run front e j at reading refl is most,

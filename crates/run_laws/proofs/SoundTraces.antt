@@ -161,7 +161,8 @@ pub stop_line : (same : Bool) → cond same None (Some rule.Stop) ≡ None → s
 stop_line true none = refl
 stop_line false none = absurd (cc)
 
-pub follow_by : (run : Run) (front : List JournalEntry) (bus : BusState) (readings : List ℕ) (owed : Option JournalEntry)
+pub follow_by : (run : Run) (front : List JournalEntry) (bus : BusState) (readings : List ℕ)
+    (owed : Option JournalEntry)
     (e : JournalEntry) → let a : Audit = record { bus = bus; readings = readings; owed = owed } in
     IsDesign run.design → IsEntryIn run.design e → KeepsUp run front a → line_broken run a (Some e) ≡ None
     → KeepsUp run (front ++ e ∷ []) (audit_after run a e)
@@ -239,7 +240,8 @@ done_at (n ∷ ns) zero all =
 done_at (n ∷ ns) (suc k) all =
     done_at ns k (and_parts (is_done n.phase) (list_all (λ (m : NodeState). is_done m.phase) ns) all).1
 
-pub over_or : (run : Run) (s : BusState) → (s.stop ≢ None) ⊎ (list_all (λ (n : NodeState). is_done n.phase) s.nodes ≡ true)
+pub over_or : (run : Run) (s : BusState)
+    → (s.stop ≢ None) ⊎ (list_all (λ (n : NodeState). is_done n.phase) s.nodes ≡ true)
     → IsStoppedOrDone run s
 over_or run s (inl stands) = inl stands
 over_or run s (inr all) = inr (λ node within. done_at s.nodes node all)

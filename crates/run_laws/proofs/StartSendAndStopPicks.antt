@@ -38,7 +38,8 @@ use Rattle.run_laws.specs.Runs.{no_clock, clock_at, Does, Takes, KeepsTo, Picks,
 use Rattle.run_laws.specs.PicksAndJournalLines.{picks_of, IsPickFor}
 use Rattle.run_laws.proofs.TargetPicks.{pick_at}
 use Rattle.run_laws.proofs.ProgressByEvent.{action_is}
-use Rattle.run_laws.proofs.NodePicksAndRunReplay.{runs_agree, many_clocks, nodes_pick, next_target, acting_by, plan_rules, held_of}
+use Rattle.run_laws.proofs.NodePicksAndRunReplay.{runs_agree, many_clocks, nodes_pick, next_target, acting_by}
+use Rattle.run_laws.proofs.NodePicksAndRunReplay.{plan_rules, held_of}
 use Rattle.run_laws.proofs.NodePicksAndRunReplay.{node_agrees}
 use Rattle.run_laws.proofs.JournalStartsAndSends.{rounds_are_shown, stop_shows}
 use Rattle.run_laws.proofs.MissedLinks.{missed_link}

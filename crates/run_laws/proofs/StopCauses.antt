@@ -309,7 +309,8 @@ ended_still run before later s j k many picks ended =
     let t = target (plan_of run.design j) picks.action in
     let new = standing_at (clock_at before j) (remaining_from (clock_at before j).left t) in
     let own = target (plan_of run.design k) ended.0 in
-    let left : remaining_from (clock_at later k).left own ≡ [] = ap (λ cs. remaining_from (clock_at cs k).left own) picks.clocks_are
+    let left : remaining_from (clock_at later k).left own ≡ [] =
+    ap (λ cs. remaining_from (clock_at cs k).left own) picks.clocks_are
     ∙ elim (cases_eq k j) [
       | inl same ↦
           let action : picks.action ≡ ended.0 =

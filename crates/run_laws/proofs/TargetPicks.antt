@@ -17,16 +17,19 @@ use Rattle.run_laws.specs.proof.ListPicks.{IsPicked}
 -- ---- the position of a clock
 idem_by : (r : ℕ) (later : List ℕ) (target : ℕ) (b : Bool) → nat_lt r target ≡ b
     → remaining_from (remaining_from later target) target ≡ remaining_from later target
-    → remaining_from (cond b (remaining_from later target) (r ∷ later)) target ≡ cond b (remaining_from later target) (r ∷ later)
+    → remaining_from (cond b (remaining_from later target) (r ∷ later)) target
+    ≡ cond b (remaining_from later target) (r ∷ later)
 idem_by r later target true is same = same
 idem_by r later target false is same = ap (λ b. cond b (remaining_from later target) (r ∷ later)) is
 
-pub reached_again : (left : List ℕ) (target : ℕ) → remaining_from (remaining_from left target) target ≡ remaining_from left target
+pub reached_again : (left : List ℕ) (target : ℕ)
+    → remaining_from (remaining_from left target) target ≡ remaining_from left target
 reached_again [] target = refl
 reached_again (r ∷ later) target = idem_by r later target (nat_lt r target) refl (reached_again later target)
 
 -- a clock whose current reading is at least a target has reached the target
-pub stands : (left : List ℕ) (target at : ℕ) → slice_get left 0 ≡ Some at → target ≤ at → remaining_from left target ≡ left
+pub stands : (left : List ℕ) (target at : ℕ) → slice_get left 0 ≡ Some at → target ≤ at
+    → remaining_from left target ≡ left
 stands [] target at is most = refl
 stands (r ∷ later) target at is most =
     let same : r ≡ at = cc in
@@ -92,7 +95,8 @@ does_next plan rounds clock n m shown p target at is first most follows =
     let within = slice_get_within ts p.done target is in
     let many : length (picks clock.readings (take p.done ts)) ≡ length (take p.done ts) = sym (ap length p.shown_are)
     ∙ p.count ∙ sym (length-take-le p.done ts (omega arith)) in
-    let pick : slice_get (remaining_from before target) 0 ≡ Some at = ap (λ l. slice_get l 0) (sym after ∙ sym left) ∙ first in
+    let pick : slice_get (remaining_from before target) 0 ≡ Some at =
+    ap (λ l. slice_get l 0) (sym after ∙ sym left) ∙ first in
     record {
       done = p.done + 1;
       follows = follows;
@@ -122,14 +126,16 @@ pick_at plan rounds clock n shown p target at is first most =
     let within = slice_get_within ts p.done target is in
     let many : length (picks clock.readings (take p.done ts)) ≡ length (take p.done ts) = sym (ap length p.shown_are)
     ∙ p.count ∙ sym (length-take-le p.done ts (omega arith)) in
-    let pick : slice_get (remaining_from before target) 0 ≡ Some at = ap (λ l. slice_get l 0) (sym after ∙ sym left) ∙ first in
+    let pick : slice_get (remaining_from before target) 0 ≡ Some at =
+    ap (λ l. slice_get l 0) (sym after ∙ sym left) ∙ first in
     let more : picks clock.readings (take (p.done + 1) ts) ≡ shown ++ at ∷ [] =
     ap (picks clock.readings) (take_next ts p.done target is)
     ∙ picks_more clock.readings (take p.done ts) target at many pick ∙ ap (λ xs. xs ++ at ∷ []) (sym p.shown_are) in
     let all_many : length (picks clock.readings (take (p.done + 1) ts)) ≡ length (take (p.done + 1) ts) = ap length more
     ∙ length-append shown (at ∷ []) ∙ ap (λ c. c + 1) p.count
     ∙ sym (length-take-le (p.done + 1) ts (omega arith)) in
-    let all : picks clock.readings ts ≡ (shown ++ at ∷ []) ++ picks (left_after clock.readings (take (p.done + 1) ts)) (drop (p.done + 1) ts) =
+    let all : picks clock.readings ts ≡ (shown ++ at ∷ [])
+    ++ picks (left_after clock.readings (take (p.done + 1) ts)) (drop (p.done + 1) ts) =
     ap (picks clock.readings) (sym (take-append-drop (p.done + 1) ts))
     ∙ picks_append clock.readings (take (p.done + 1) ts) (drop (p.done + 1) ts) all_many
     ∙ ap (λ xs. xs ++ picks (left_after clock.readings (take (p.done + 1) ts)) (drop (p.done + 1) ts)) more in

@@ -25,7 +25,8 @@ use Rattle.pals_runs.specs.declared.journal.JournalEntry.{JournalEntry}
 use Rattle.pals_runs.specs.declared.journal.JournalEntry.TheVariants as entry
 use Rattle.pals_runs.specs.JournalLines.{path_in, node_word, name_in, link_word, reading_word, arrived_word, cause_word}
 use Rattle.pals_runs.specs.JournalLines.{entry_words, spaced, entry_line}
-use Rattle.run_laws.specs.LineForms.{LineForm, ArriveLine, StartLine, StepLine, FinishLine, SendLine, DropLine, RepeatLine}
+use Rattle.run_laws.specs.LineForms.{LineForm, ArriveLine, StartLine, StepLine, FinishLine, SendLine, DropLine}
+use Rattle.run_laws.specs.LineForms.{RepeatLine}
 use Rattle.run_laws.specs.LineForms.{EarlyLine, MissedLine, is, is_there, spelled, number_up_to, round_in, reading_in}
 use Rattle.run_laws.specs.LineForms.{arrived_in, cause_in, named, at_end, read, with_result, with_cause, with_step}
 use Rattle.run_laws.specs.LineForms.{arrive_line, start_line, step_line, finish_line, send_line, drop_line, repeat_line}

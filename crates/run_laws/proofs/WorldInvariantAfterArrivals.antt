@@ -45,7 +45,8 @@ arrive_once_at : (count : ℕ) (tuple : List PortValue) (sent : ℕ) (flight : L
     → oldest round flight ≡ Some copy → IsOnce count None sent flight r
     → IsOnce count (Some tuple) sent (without_oldest round flight) r
 arrive_once_at count tuple sent flight round r copy last is_round found once =
-    let before : copies r flight + one_if (waits count None r) + one_if (taken count r) ≡ one_if (nat_lt r sent) = once in
+    let before : copies r flight + one_if (waits count None r) + one_if (taken count r) ≡ one_if (nat_lt r sent) =
+    once in
     let waited : one_if (waits count None r) ≡ 0 =
     one_of_false (waits count None r) (and_right (nat_eq count (r + 1)) false refl) in
     let fewer : copies r (without_oldest round flight) + one_if (is_of r copy) ≡ copies r flight =
@@ -56,7 +57,8 @@ arrive_once_at count tuple sent flight round r copy last is_round found once =
           let now : one_if (waits count (Some tuple) r) ≡ 1 =
           one_of_true (waits count (Some tuple) r)
           (and_from (nat_eq count (r + 1)) true (eq-eqb count (r + 1) (omega arith)) refl) in
-          let after : copies r (without_oldest round flight) + one_if (waits count (Some tuple) r) + one_if (taken count r) ≡ one_if (nat_lt r sent) = omega arith in
+          let after : copies r (without_oldest round flight) + one_if (waits count (Some tuple) r) + one_if
+          (taken count r) ≡ one_if (nat_lt r sent) = omega arith in
           after
       | inr other ↦
           let this : one_if (is_of r copy) ≡ 0 =
@@ -64,7 +66,8 @@ arrive_once_at count tuple sent flight round r copy last is_round found once =
           let now : one_if (waits count (Some tuple) r) ≡ 0 =
           one_of_false (waits count (Some tuple) r)
           (and_left (nat_eq count (r + 1)) true (ne_eqb count (r + 1) (λ e. other (omega arith)))) in
-          let after : copies r (without_oldest round flight) + one_if (waits count (Some tuple) r) + one_if (taken count r) ≡ one_if (nat_lt r sent) = omega arith in
+          let after : copies r (without_oldest round flight) + one_if (waits count (Some tuple) r) + one_if
+          (taken count r) ≡ one_if (nat_lt r sent) = omega arith in
           after
     ]
 
@@ -175,16 +178,21 @@ module _ (run : Run) (w : World) (rules : IsRunOf run) (keeps : KeepsTime run w)
             let was : IsOnce here.count None (sent_rounds (node_at w.bus source)) flight r =
             subst (λ o. IsOnce here.count o (sent_rounds (node_at w.bus source)) flight r) comes.empty
             (before.once r) in
-            let one : IsOnce here.count (Some tuple) (sent_rounds (node_at w.bus source)) (without_oldest round flight) r =
+            let one : IsOnce here.count (Some tuple) (sent_rounds (node_at w.bus source)) (without_oldest round flight)
+            r =
             arrive_once_at here.count tuple (sent_rounds (node_at w.bus source)) flight round r old.0 comes.last
             of_round old.1 was in
-            let two : IsOnce (node_at (bus_arrived Kept) target).count (Some tuple) (sent_rounds (node_at w.bus source)) (without_oldest round flight) r =
+            let two : IsOnce (node_at (bus_arrived Kept) target).count (Some tuple)
+            (sent_rounds (node_at w.bus source)) (without_oldest round flight) r =
             subst (λ k. IsOnce k (Some tuple) (sent_rounds (node_at w.bus source)) (without_oldest round flight) r)
             (sym (count_stays target)) one in
-            let three : IsOnce (node_at (bus_arrived Kept) target).count (Some tuple) (sent_rounds (node_at (bus_arrived Kept) source)) (without_oldest round flight) r =
+            let three : IsOnce (node_at (bus_arrived Kept) target).count (Some tuple)
+            (sent_rounds (node_at (bus_arrived Kept) source)) (without_oldest round flight) r =
             subst (λ k. IsOnce (node_at (bus_arrived Kept) target).count (Some tuple) k (without_oldest round flight) r)
             (sym (sent_stays source)) two in
-            let four : IsOnce (node_at (bus_arrived Kept) target).count (slot_at (node_at (bus_arrived Kept) target) port) (sent_rounds (node_at (bus_arrived Kept) source)) (without_oldest round flight) r =
+            let four : IsOnce (node_at (bus_arrived Kept) target).count
+            (slot_at (node_at (bus_arrived Kept) target) port) (sent_rounds (node_at (bus_arrived Kept) source))
+            (without_oldest round flight) r =
             subst (λ o. IsOnce (node_at (bus_arrived Kept) target).count o
             (sent_rounds (node_at (bus_arrived Kept) source)) (without_oldest round flight) r) (sym slot) three in
             subst (λ f. IsOnce (node_at (bus_arrived Kept) target).count
@@ -223,14 +231,21 @@ module _ (run : Run) (w : World) (rules : IsRunOf run) (keeps : KeepsTime run w)
       get_or-set_other w.bus.flights link.0 number (without_oldest round flight) [] other in
       record {
         once = λ r.
-            let was : IsOnce (node_at w.bus l.target.0).count (slot_at (node_at w.bus l.target.0) l.in_port) (sent_rounds (node_at w.bus l.source.0)) (flight_at w.bus number) r = before.once r in
-            let one : IsOnce (node_at (bus_arrived Kept) l.target.0).count (slot_at (node_at w.bus l.target.0) l.in_port) (sent_rounds (node_at w.bus l.source.0)) (flight_at w.bus number) r =
+            let was : IsOnce (node_at w.bus l.target.0).count (slot_at (node_at w.bus l.target.0) l.in_port)
+            (sent_rounds (node_at w.bus l.source.0)) (flight_at w.bus number) r = before.once r in
+            let one : IsOnce (node_at (bus_arrived Kept) l.target.0).count
+            (slot_at (node_at w.bus l.target.0) l.in_port) (sent_rounds (node_at w.bus l.source.0))
+            (flight_at w.bus number) r =
             subst (λ k. IsOnce k (slot_at (node_at w.bus l.target.0) l.in_port) (sent_rounds (node_at w.bus l.source.0))
             (flight_at w.bus number) r) (sym (count_stays l.target.0)) was in
-            let two : IsOnce (node_at (bus_arrived Kept) l.target.0).count (slot_at (node_at (bus_arrived Kept) l.target.0) l.in_port) (sent_rounds (node_at w.bus l.source.0)) (flight_at w.bus number) r =
+            let two : IsOnce (node_at (bus_arrived Kept) l.target.0).count
+            (slot_at (node_at (bus_arrived Kept) l.target.0) l.in_port) (sent_rounds (node_at w.bus l.source.0))
+            (flight_at w.bus number) r =
             subst (λ o. IsOnce (node_at (bus_arrived Kept) l.target.0).count o (sent_rounds (node_at w.bus l.source.0))
             (flight_at w.bus number) r) (sym (other_slot number within other)) one in
-            let three : IsOnce (node_at (bus_arrived Kept) l.target.0).count (slot_at (node_at (bus_arrived Kept) l.target.0) l.in_port) (sent_rounds (node_at (bus_arrived Kept) l.source.0)) (flight_at w.bus number) r =
+            let three : IsOnce (node_at (bus_arrived Kept) l.target.0).count
+            (slot_at (node_at (bus_arrived Kept) l.target.0) l.in_port)
+            (sent_rounds (node_at (bus_arrived Kept) l.source.0)) (flight_at w.bus number) r =
             subst (λ k. IsOnce (node_at (bus_arrived Kept) l.target.0).count
             (slot_at (node_at (bus_arrived Kept) l.target.0) l.in_port) k (flight_at w.bus number) r)
             (sym (sent_stays l.source.0)) two in

@@ -37,7 +37,8 @@ use Rattle.bus_machine.proofs.NodeEventLocalAgreement.{MaySend, may_send_of}
 use Rattle.bus_machine.proofs.StateChangeAgreement.{node_set, node_stays}
 use Rattle.bus_machine.proofs.NodeEventBusAgreement.{send_keeps}
 use Rattle.bus_machine.proofs.NodeReplacement.{keeps_at}
-use Rattle.run_laws.specs.proof.WorldInvariant.{KeepsDeadline, RunsSince, IsSentAt, IsOnce, copies, waits, taken, one_if}
+use Rattle.run_laws.specs.proof.WorldInvariant.{KeepsDeadline, RunsSince, IsSentAt, IsOnce, copies, waits, taken}
+use Rattle.run_laws.specs.proof.WorldInvariant.{one_if}
 use Rattle.run_laws.specs.proof.WorldInvariant.{KeepsLink, KeepsTime}
 use Rattle.run_laws.proofs.TimeArithmetic.{sent_prompt}
 use Rattle.run_laws.proofs.Lists.{count_more}
@@ -55,7 +56,8 @@ send_once : (count : ℕ) (slot : Option (List PortValue)) (sent : ℕ) (flight 
     (copy : FlightCopy) → copy.round ≡ sent
     → IsOnce count slot sent flight r → IsOnce count slot (suc sent) (flight ++ copy ∷ []) r
 send_once count slot sent flight r copy is once =
-    let before : copies r flight + one_if (waits count slot r) + one_if (taken count r) ≡ one_if (nat_lt r sent) = once in
+    let before : copies r flight + one_if (waits count slot r) + one_if (taken count r) ≡ one_if (nat_lt r sent) =
+    once in
     let more : copies r (flight ++ copy ∷ []) ≡ copies r flight + one_if (is_of r copy) =
     count_more (is_of r) flight copy in
     elim (cases_order r sent) [
@@ -64,7 +66,8 @@ send_once count slot sent flight r copy is once =
           let not_yet : one_if (nat_lt r sent) ≡ 0 = one_of_false (nat_lt r sent) (le-ltb r sent (omega arith)) in
           let now : one_if (nat_lt r (suc sent)) ≡ 1 =
           one_of_true (nat_lt r (suc sent)) (lt-ltb r (suc sent) (omega arith)) in
-          let after : copies r (flight ++ copy ∷ []) + one_if (waits count slot r) + one_if (taken count r) ≡ one_if (nat_lt r (suc sent)) = omega arith in
+          let after : copies r (flight ++ copy ∷ []) + one_if (waits count slot r) + one_if (taken count r)
+          ≡ one_if (nat_lt r (suc sent)) = omega arith in
           after
       | inr apart ↦
           let this : one_if (is_of r copy) ≡ 0 =
@@ -75,13 +78,15 @@ send_once count slot sent flight r copy is once =
                 let already : one_if (nat_lt r sent) ≡ 1 = one_of_true (nat_lt r sent) (lt-ltb r sent less) in
                 let still : one_if (nat_lt r (suc sent)) ≡ 1 =
                 one_of_true (nat_lt r (suc sent)) (lt-ltb r (suc sent) (omega arith)) in
-                let after : copies r (flight ++ copy ∷ []) + one_if (waits count slot r) + one_if (taken count r) ≡ one_if (nat_lt r (suc sent)) = omega arith in
+                let after : copies r (flight ++ copy ∷ []) + one_if (waits count slot r) + one_if (taken count r)
+                ≡ one_if (nat_lt r (suc sent)) = omega arith in
                 after
             | inr above ↦
                 let not_yet : one_if (nat_lt r sent) ≡ 0 = one_of_false (nat_lt r sent) (le-ltb r sent (omega arith)) in
                 let nor_now : one_if (nat_lt r (suc sent)) ≡ 0 =
                 one_of_false (nat_lt r (suc sent)) (le-ltb r (suc sent) (omega arith)) in
-                let after : copies r (flight ++ copy ∷ []) + one_if (waits count slot r) + one_if (taken count r) ≡ one_if (nat_lt r (suc sent)) = omega arith in
+                let after : copies r (flight ++ copy ∷ []) + one_if (waits count slot r) + one_if (taken count r)
+                ≡ one_if (nat_lt r (suc sent)) = omega arith in
                 after
           ]
     ]
@@ -166,7 +171,8 @@ module _ (run : Run) (w : World) (rules : IsRunOf run) (keeps : KeepsTime run w)
       omega arith in in_time
 
   phase_in_time : (p : Phase) → here.phase ≡ p
-      → KeepsDeadline w.time (phase_last run.design.gamma the_plan after (if is_held p then w.time else since_at w node.0)
+      → KeepsDeadline w.time (phase_last run.design.gamma the_plan after
+      (if is_held p then w.time else since_at w node.0)
       (after_send here.count run.rounds p))
   phase_in_time Waiting is = absurd (none-some may.steps (busy Waiting is))
   phase_in_time (Running step) is =
@@ -310,7 +316,9 @@ module _ (run : Run) (w : World) (rules : IsRunOf run) (keeps : KeepsTime run w)
       let some : 1 ≤ copies r (flight ++ new_copy number link ∷ []) =
       in_flight_counts r (flight ++ new_copy number link ∷ [])
       (subst (λ f. is_in_flight r f ≡ true) (flight_here number within from) flies) in
-      let more : copies r (flight ++ new_copy number link ∷ []) ≡ copies r flight + one_if (is_of r (new_copy number link)) = count_more (is_of r) flight (new_copy number link) in
+      let more : copies r (flight ++ new_copy number link ∷ [])
+      ≡ copies r flight + one_if (is_of r (new_copy number link)) =
+      count_more (is_of r) flight (new_copy number link) in
       elim (cases_lt 0 (copies r flight)) [
         | inl old ↦
             let u =
@@ -355,15 +363,19 @@ module _ (run : Run) (w : World) (rules : IsRunOf run) (keeps : KeepsTime run w)
         once = λ r.
             let zero_ : IsOnce n.count (slot_at n link.in_port) (round_of here) flight r =
             subst (λ k. IsOnce n.count (slot_at n link.in_port) k flight r) was (before.once r) in
-            let one : IsOnce n.count (slot_at n link.in_port) (suc (round_of here)) (flight ++ new_copy number link ∷ []) r =
+            let one : IsOnce n.count (slot_at n link.in_port) (suc (round_of here))
+            (flight ++ new_copy number link ∷ []) r =
             send_once n.count (slot_at n link.in_port) (round_of here) flight r (new_copy number link) refl zero_ in
-            let two : IsOnce m.count (slot_at n link.in_port) (suc (round_of here)) (flight ++ new_copy number link ∷ []) r =
+            let two : IsOnce m.count (slot_at n link.in_port) (suc (round_of here))
+            (flight ++ new_copy number link ∷ []) r =
             subst (λ k. IsOnce k (slot_at n link.in_port) (suc (round_of here)) (flight ++ new_copy number link ∷ []) r)
             (sym (count_stays link.target.0)) one in
-            let three : IsOnce m.count (slot_at m link.in_port) (suc (round_of here)) (flight ++ new_copy number link ∷ []) r =
+            let three : IsOnce m.count (slot_at m link.in_port) (suc (round_of here))
+            (flight ++ new_copy number link ∷ []) r =
             subst (λ o. IsOnce m.count o (suc (round_of here)) (flight ++ new_copy number link ∷ []) r)
             (sym (slots_stay link.target.0 link.in_port)) two in
-            let four : IsOnce m.count (slot_at m link.in_port) (sent_rounds (node_at bus_sent link.source.0)) (flight ++ new_copy number link ∷ []) r =
+            let four : IsOnce m.count (slot_at m link.in_port) (sent_rounds (node_at bus_sent link.source.0))
+            (flight ++ new_copy number link ∷ []) r =
             subst (λ k. IsOnce m.count (slot_at m link.in_port) k (flight ++ new_copy number link ∷ []) r)
             (sym now) three in
             subst (λ f. IsOnce m.count (slot_at m link.in_port) (sent_rounds (node_at bus_sent link.source.0)) f r)
@@ -392,7 +404,8 @@ module _ (run : Run) (w : World) (rules : IsRunOf run) (keeps : KeepsTime run w)
             let two : IsOnce m.count (slot_at m link.in_port) (sent_rounds (node_at w.bus link.source.0)) flight r =
             subst (λ o. IsOnce m.count o (sent_rounds (node_at w.bus link.source.0)) flight r)
             (sym (slots_stay link.target.0 link.in_port)) one in
-            let three : IsOnce m.count (slot_at m link.in_port) (sent_rounds (node_at bus_sent link.source.0)) flight r =
+            let three : IsOnce m.count (slot_at m link.in_port) (sent_rounds (node_at bus_sent link.source.0)) flight
+            r =
             subst (λ k. IsOnce m.count (slot_at m link.in_port) k flight r) (sym now) two in
             subst (λ f. IsOnce m.count (slot_at m link.in_port) (sent_rounds (node_at bus_sent link.source.0)) f r)
             (sym (flight_there number within from)) three;

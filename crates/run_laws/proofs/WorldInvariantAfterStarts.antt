@@ -71,7 +71,8 @@ source_lacks design (source.Feed f root) slot full = feed_lacks root (slice_get 
 source_lacks design (source.Link number) slot full =
     link_lacks design (slice_get design.links number) slot (λ link is. full number link refl is)
 
-pub missing_by : (b first : Bool) (o : Option ℕ) → b ≡ first → (first ≡ false → o ≡ None) → (if b then None else o) ≡ None
+pub missing_by : (b first : Bool) (o : Option ℕ) → b ≡ first → (first ≡ false → o ≡ None)
+    → (if b then None else o) ≡ None
 missing_by true first o is none = refl
 missing_by false first o is none = none (sym is)
 
@@ -93,9 +94,11 @@ module _ (run : Run) (w : World) (rules : IsRunOf run) (keeps : KeepsTime run w)
   full_slot node k number slot within is to port held some more due =
       let counts : (node_at w.bus (link_at run.design number).target.0).count ≡ (node_at w.bus node).count =
       ap (λ j. (node_at w.bus j).count) to in
-      let alarms : alarm run.design.period (node_at w.bus (link_at run.design number).target.0).count ≡ alarm run.design.period (node_at w.bus node).count = ap (alarm run.design.period) counts in
+      let alarms : alarm run.design.period (node_at w.bus (link_at run.design number).target.0).count
+      ≡ alarm run.design.period (node_at w.bus node).count = ap (alarm run.design.period) counts in
       let full = has_come run w rules keeps number is (omega arith) (omega arith) (omega arith) in
-      let same : slot_at (node_at w.bus (link_at run.design number).target.0) (link_at run.design number).in_port ≡ slot = ap₂ (λ j q. slot_at (node_at w.bus j) q) to port ∙ held in
+      let same : slot_at (node_at w.bus (link_at run.design number).target.0) (link_at run.design number).in_port
+      ≡ slot = ap₂ (λ j q. slot_at (node_at w.bus j) q) to port ∙ held in
       some_not_none slot (sym (ap (λ (o : Option (List PortValue)). is_some o) same) ∙ full)
 
   none_lacks : (node k : ℕ) (p : Input × Option (List PortValue)) → node < length run.design.components
@@ -143,7 +146,8 @@ pub start_once : (count : ℕ) (slot : Option (List PortValue)) (sent : ℕ) (fl
     → (0 < count → is_some slot ≡ true) → (count ≡ 0 → slot ≡ None)
     → IsOnce count slot sent flight round → IsOnce (count + 1) None sent flight round
 start_once count slot sent flight round full empty once =
-    let before : copies round flight + one_if (waits count slot round) + one_if (taken count round) ≡ one_if (nat_lt round sent) = once in
+    let before : copies round flight + one_if (waits count slot round) + one_if (taken count round)
+    ≡ one_if (nat_lt round sent) = once in
     let no_wait : one_if (waits (count + 1) None round) ≡ 0 =
     one_of_false (waits (count + 1) None round) (and_right (nat_eq (count + 1) (round + 1)) false refl) in
     elim (cases_order (round + 1) count) [
@@ -156,7 +160,8 @@ start_once count slot sent flight round full empty once =
           one_of_false (taken count round) (le-ltb (round + 1) count (omega arith)) in
           let now : one_if (taken (count + 1) round) ≡ 1 =
           one_of_true (taken (count + 1) round) (lt-ltb (round + 1) (count + 1) (omega arith)) in
-          let after : copies round flight + one_if (waits (count + 1) None round) + one_if (taken (count + 1) round) ≡ one_if (nat_lt round sent) = omega arith in
+          let after : copies round flight + one_if (waits (count + 1) None round) + one_if (taken (count + 1) round)
+          ≡ one_if (nat_lt round sent) = omega arith in
           after
       | inr apart ↦
           let waited : one_if (waits count slot round) ≡ 0 =
@@ -169,20 +174,23 @@ start_once count slot sent flight round full empty once =
                 one_of_true (taken count round) (lt-ltb (round + 1) count less) in
                 let now : one_if (taken (count + 1) round) ≡ 1 =
                 one_of_true (taken (count + 1) round) (lt-ltb (round + 1) (count + 1) (omega arith)) in
-                let after : copies round flight + one_if (waits (count + 1) None round) + one_if (taken (count + 1) round) ≡ one_if (nat_lt round sent) = omega arith in
+                let after : copies round flight + one_if (waits (count + 1) None round) + one_if
+                (taken (count + 1) round) ≡ one_if (nat_lt round sent) = omega arith in
                 after
             | inr more ↦
                 let not_yet : one_if (taken count round) ≡ 0 =
                 one_of_false (taken count round) (le-ltb (round + 1) count (omega arith)) in
                 let nor_now : one_if (taken (count + 1) round) ≡ 0 =
                 one_of_false (taken (count + 1) round) (le-ltb (round + 1) (count + 1) (omega arith)) in
-                let after : copies round flight + one_if (waits (count + 1) None round) + one_if (taken (count + 1) round) ≡ one_if (nat_lt round sent) = omega arith in
+                let after : copies round flight + one_if (waits (count + 1) None round) + one_if
+                (taken (count + 1) round) ≡ one_if (nat_lt round sent) = omega arith in
                 after
           ]
     ]
 
 -- before its first round a node has no message
-pub slot_empty : (run : Run) (link count : ℕ) (slot : Option (List PortValue)) → SlotAgrees run link count slot → count ≡ 0
+pub slot_empty : (run : Run) (link count : ℕ) (slot : Option (List PortValue)) → SlotAgrees run link count slot
+    → count ≡ 0
     → slot ≡ None
 slot_empty run link count None agrees first = refl
 slot_empty run link count (Some tuple) agrees first = let last = agrees.1 in absurd (omega arith)

@@ -74,7 +74,8 @@ pub under_way : (count : ℕ) (slot : Option (List PortValue)) (sent : ℕ) (fli
     → IsOnce count slot sent flight round → 1 ≤ copies round flight
     → IsMessageInFlight count slot sent flight round
 under_way count slot sent flight round once some =
-    let all : copies round flight + one_if (waits count slot round) + one_if (taken count round) ≡ one_if (nat_lt round sent) = once in
+    let all : copies round flight + one_if (waits count slot round) + one_if (taken count round)
+    ≡ one_if (nat_lt round sent) = once in
     let most = one_most (nat_lt round sent) in
     let one : 1 ≤ one_if (nat_lt round sent) = omega arith in
     let no_wait : one_if (waits count slot round) ≡ 0 = omega arith in
@@ -236,6 +237,7 @@ module _ (run : Run) (w : World) (rules : IsRunOf run) (keeps : KeepsTime run w)
       let is_sent : one_if (nat_lt round (rounds_sent_on run w.bus number)) ≡ 1 =
       one_of_true (nat_lt round (rounds_sent_on run w.bus number))
       (lt-ltb round (rounds_sent_on run w.bus number) sent) in
-      let all : copies round flight + one_if (waits n.count slot round) + one_if (taken n.count round) ≡ one_if (nat_lt round (rounds_sent_on run w.bus number)) = (keeps.links number within).once round in
+      let all : copies round flight + one_if (waits n.count slot round) + one_if (taken n.count round)
+      ≡ one_if (nat_lt round (rounds_sent_on run w.bus number)) = (keeps.links number within).once round in
       let one : 1 ≤ one_if (waits n.count slot round) = omega arith in
       (and_parts (nat_eq n.count (round + 1)) (is_some slot) (one_true (waits n.count slot round) one)).1

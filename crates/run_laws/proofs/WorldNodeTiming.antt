@@ -48,7 +48,8 @@ pub send_in_time : (t last : ℕ) (a : Option ℕ) (may : Bool) → may ≡ true
 send_in_time t last a true is in_time = right_in_time t last a in_time
 send_in_time t last a false is in_time = absurd (false≢true is)
 
-pub sends_in_time : (t last : ℕ) (may : Bool) → (may ≡ true → t ≤ last) → KeepsDeadline t (if may then Some last else None)
+pub sends_in_time : (t last : ℕ) (may : Bool) → (may ≡ true → t ≤ last)
+    → KeepsDeadline t (if may then Some last else None)
 sends_in_time t last true in_time = in_time refl
 sends_in_time t last false in_time = tt
 
@@ -61,7 +62,8 @@ phase_last g plan n since Holding = None
 phase_last g plan n since Done = None
 
 abbrev pub send_last : Gamma → Plan → NodeState → ℕ → Option ℕ
-send_last g plan n ready = if may_send plan n then Some (max ready (last_before (release_reading plan n) g.eps)) else None
+send_last g plan n ready = if may_send plan n then Some (max ready (last_before (release_reading plan n) g.eps)) else
+    None
 
 abbrev pub last_time : Gamma → Plan → NodeState → ℕ → ℕ → Option ℕ
 last_time g plan n since ready = lesser (phase_last g plan n since n.phase) (send_last g plan n ready)

@@ -74,7 +74,9 @@ module _ (run : Run) (w : World) (rules : IsRunOf run) (few : run.rounds ≤ ROU
         let most = alarms_small node within in
         let next : alarm run.design.period here.count ≡ alarm run.design.period (here.count - 1) + run.design.period =
         next_alarm run.design.period here.count round is in
-        let more : i * (plan_of run.design node).step_period ≤ (plan_of run.design node).rate * (plan_of run.design node).step_period = mul-le i _ (plan_of run.design node).rate _ (omega arith) (omega arith) in
+        let more : i * (plan_of run.design node).step_period ≤ (plan_of run.design node).rate *
+        (plan_of run.design node).step_period = mul-le i _ (plan_of run.design node).rate _ (omega arith)
+        (omega arith) in
         let all = fit.steps in
         omega arith
 

@@ -82,7 +82,8 @@ too_early run s (entry.Step node round step reading) =
     if is_before reading (step_alarm (plan_of run.design node.0) (node_at s node.0) step) then Some rule.Alarm else None
 too_early run s (entry.Finish node round) = None
 too_early run s (entry.Send node round reading) =
-    if is_before reading (release_reading (plan_of run.design node.0) (node_at s node.0)) then Some rule.Release else None
+    if is_before reading (release_reading (plan_of run.design node.0) (node_at s node.0)) then Some rule.Release else
+    None
 too_early run s (entry.Drop link round) = None
 too_early run s (entry.Repeat link round) = None
 too_early run s (entry.Stopped why) = stop_alarm run s why

@@ -1,6 +1,7 @@
 //! Laws of histories and of the traces that record them: a trace is judged sound if and only if it is the trace of
 //! a history that is over. Each law is the contract of a function with an empty body.
-ghost use Rattle.run_laws.specs.proof.HistoryAndTraceLaws.{HistoriesReplay, SoundAreTraces, SoundIsTrace, TracesAreSound};
+ghost use Rattle.run_laws.specs.proof.HistoryAndTraceLaws.{HistoriesReplay, SoundAreTraces, SoundIsTrace};
+ghost use Rattle.run_laws.specs.proof.HistoryAndTraceLaws.{TracesAreSound};
 ghost use Rattle.run_laws.specs.proof.RunTraces.{RunsAreHistories, RunsAreTraces};
 ghost use Rattle.run_laws.specs.proof.EntryLines.{ToldAreLines};
 

@@ -28,12 +28,16 @@ use Rattle.analysis_fields.specs.Processors.{first_unplaced, processors_in}
 use Rattle.analysis_fields.specs.Properties.{compare_of, variable_at, var_form, halted_form, one_part, two_parts}
 use Rattle.analysis_fields.specs.Properties.{form_of, role_in, rest_of, formula_in, property_in, with_property}
 use Rattle.analysis_fields.specs.Properties.{properties_in}
-use Rattle.analysis_fields.specs.ReplicasAndTheirFaults.{with_replica, replicas_in, copies_at, kind_at, with_fault_value}
-use Rattle.analysis_fields.specs.ReplicasAndTheirFaults.{replica_at, link_from, ends_of, fault_behind, fault_of, fault_from}
+use Rattle.analysis_fields.specs.ReplicasAndTheirFaults.{with_replica, replicas_in, copies_at, kind_at}
+use Rattle.analysis_fields.specs.ReplicasAndTheirFaults.{with_fault_value}
+use Rattle.analysis_fields.specs.ReplicasAndTheirFaults.{replica_at, link_from, ends_of, fault_behind, fault_of}
+use Rattle.analysis_fields.specs.ReplicasAndTheirFaults.{fault_from}
 use Rattle.analysis_fields.specs.ReplicasAndTheirFaults.{fault_in, with_fault, faults_in}
-use Rattle.scenario_laws.proofs.OutcomesWithoutMemoryFault.{IsNotMemory, ok, wrong, out, strange, lacking, bind, given_named, only}
+use Rattle.scenario_laws.proofs.OutcomesWithoutMemoryFault.{IsNotMemory, ok, wrong, out, strange, lacking, bind}
+use Rattle.scenario_laws.proofs.OutcomesWithoutMemoryFault.{given_named, only}
 use Rattle.scenario_laws.proofs.OutcomesWithoutMemoryFault.{through_named}
-use Rattle.scenario_laws.proofs.ValueFaultsExceptMemory.{elements_named, entries_named, whole_named, number_named, text_named}
+use Rattle.scenario_laws.proofs.ValueFaultsExceptMemory.{elements_named, entries_named, whole_named, number_named}
+use Rattle.scenario_laws.proofs.ValueFaultsExceptMemory.{text_named}
 use Rattle.scenario_laws.proofs.ValueFaultsExceptMemory.{port_value_named, node_at_named, link_at_named}
 
 -- ---- properties
@@ -198,14 +202,16 @@ with_fault_named design replicas faults d =
     let place = inside (codes "faults") (decimal (length faults)) in
     bind _ _ (fault_named design replicas place d) (λ f. only _ _ _ out ok)
 
-pub faults_named : (design : DesignParts) (replicas : List NodeNo) (d : Data) → IsNotMemory (faults_in design replicas d)
+pub faults_named : (design : DesignParts) (replicas : List NodeNo) (d : Data)
+    → IsNotMemory (faults_in design replicas d)
 unfolding faults_in
 faults_named design replicas d =
     bind _ _ (elements_named (codes "faults") d)
     (λ ds. through_named (with_fault design replicas) (with_fault_named design replicas) [] ds)
 
 -- ---- plants
-pair_named : (design : DesignParts) (all : List NamedPair) (entry : List ℕ × Data) → IsNotMemory (pair_in design all entry)
+pair_named : (design : DesignParts) (all : List NamedPair) (entry : List ℕ × Data)
+    → IsNotMemory (pair_in design all entry)
 unfolding pair_in
 pair_named design all entry =
     let place = inside (codes "plants") entry.0 in

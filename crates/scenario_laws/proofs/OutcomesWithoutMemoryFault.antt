@@ -45,7 +45,8 @@ pub given_named : {A : Type 0} (fault : ScenarioFault) (o : Option A) → IsNotM
 given_named fault None n = n
 given_named fault (Some x) n = ok
 
-pub only : {A : Type 0} (b : Bool) (fault : ScenarioFault) (next : Result A ScenarioFault) → IsNotMemory {A = A} (Err fault)
+pub only : {A : Type 0} (b : Bool) (fault : ScenarioFault) (next : Result A ScenarioFault)
+    → IsNotMemory {A = A} (Err fault)
     → IsNotMemory next → IsNotMemory (only_if b fault next)
 only true fault next n m = m
 only false fault next n m = n

@@ -24,8 +24,10 @@ use Rattle.scenario_json.specs.Traces.{with_line, trace_in}
 use Rattle.scenario_json.specs.Clocks.{last_of, with_reading, reading_list, with_clock, clock_lists, is_meet, clocks_in}
 use Rattle.scenario_json.specs.Events.{word_of, node_part, link_parts, with_number, pass_parts, event_of, usual_word}
 use Rattle.scenario_json.specs.Events.{event_from, event_in, with_event, events_in}
-use Rattle.scenario_laws.proofs.OutcomesWithoutMemoryFault.{IsNotMemory, ok, wrong, out, bind, given_named, only, through_named}
-use Rattle.scenario_laws.proofs.ValueFaultsExceptMemory.{elements_named, entries_named, short_list_named, whole_named, text_named}
+use Rattle.scenario_laws.proofs.OutcomesWithoutMemoryFault.{IsNotMemory, ok, wrong, out, bind, given_named, only}
+use Rattle.scenario_laws.proofs.OutcomesWithoutMemoryFault.{through_named}
+use Rattle.scenario_laws.proofs.ValueFaultsExceptMemory.{elements_named, entries_named, short_list_named, whole_named}
+use Rattle.scenario_laws.proofs.ValueFaultsExceptMemory.{text_named}
 use Rattle.scenario_laws.proofs.ValueFaultsExceptMemory.{port_value_named, node_at_named, link_at_named, root_at_named}
 
 -- ---- inputs

@@ -183,5 +183,6 @@ events_few design command d events read =
 pub events_loose : (design : DesignParts) (root : List ℕ) (d : Data) (events : List Event)
     → events_in design (loose_world_command root) d ≡ Ok events → AreLooseEvents design events
 events_loose design root d events read =
-    let kept = events_keep design (loose_world_command root) (IsLooseIn design) (event_loose design root) d events read in
+    let kept = events_keep design (loose_world_command root) (IsLooseIn design) (event_loose design root) d events read
+    in
     record { each = kept.0; few = kept.1 }

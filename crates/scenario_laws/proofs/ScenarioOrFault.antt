@@ -26,8 +26,10 @@ use Rattle.scenario_json.specs.Scenarios.{needs_processors, rounds_in, fields_in
 use Rattle.scenario_laws.specs.proof.ScenarioOrFault.{HasScenario, HasFault}
 use Rattle.scenario_laws.proofs.OutcomesWithoutMemoryFault.{IsNotMemory, ok, strange, lacking, big, bind, only}
 use Rattle.scenario_laws.proofs.ValueFaultsExceptMemory.{entries_named, whole_named}
-use Rattle.scenario_laws.proofs.RunFaultsExceptMemory.{inputs_named, delays_named, trace_named, clocks_named, events_named}
-use Rattle.scenario_laws.proofs.AnalysisFaultsExceptMemory.{properties_named, replicas_named, faults_named, plants_named}
+use Rattle.scenario_laws.proofs.RunFaultsExceptMemory.{inputs_named, delays_named, trace_named, clocks_named}
+use Rattle.scenario_laws.proofs.RunFaultsExceptMemory.{events_named}
+use Rattle.scenario_laws.proofs.AnalysisFaultsExceptMemory.{properties_named, replicas_named, faults_named}
+use Rattle.scenario_laws.proofs.AnalysisFaultsExceptMemory.{plants_named}
 use Rattle.scenario_laws.proofs.AnalysisFaultsExceptMemory.{processors_named}
 
 by_need : {A : Type 0} (name : List ℕ) (needed : Bool) (otherwise : A) (read : Data → Result A ScenarioFault)

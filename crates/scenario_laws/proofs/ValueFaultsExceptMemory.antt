@@ -12,7 +12,8 @@ use Rattle.scenario_values.specs.declared.fault.ScenarioFault.TheVariants.{Wrong
 use Rattle.scenario_values.specs.FieldValues.{integer_of, elements, entries, short_list, in_range, whole, number, text}
 use Rattle.scenario_values.specs.FieldValues.{present, port_value}
 use Rattle.scenario_values.specs.NameLookup.{node_at, link_at, root_at}
-use Rattle.scenario_laws.proofs.OutcomesWithoutMemoryFault.{IsNotMemory, ok, wrong, out, strange, bind, given_named, only}
+use Rattle.scenario_laws.proofs.OutcomesWithoutMemoryFault.{IsNotMemory, ok, wrong, out, strange, bind, given_named}
+use Rattle.scenario_laws.proofs.OutcomesWithoutMemoryFault.{only}
 
 pub elements_named : (place : List ℕ) (d : Data) → IsNotMemory (elements place d)
 unfolding elements

@@ -13,7 +13,8 @@ use Rattle.pals_base.specs.ExpressionValues.{is_true, eval}
 use Rattle.pals_base.specs.Actions.{Effect, for_each, with_vars, act, acts, act_first}
 use Rattle.pals_base.specs.ForRanges.{counted_from, count_of, numbers}
 use Rattle.pals_base.proofs.ForRanges.{no_numbers}
-use Rattle.pals_base.specs.ExpressionAndActionTrees.{Expression, Action, Assign, Emit, If, For, Actions, Nothing, Do, Branches}
+use Rattle.pals_base.specs.ExpressionAndActionTrees.{Expression, Action, Assign, Emit, If, For, Actions, Nothing, Do}
+use Rattle.pals_base.specs.ExpressionAndActionTrees.{Branches}
 use Rattle.pals_base.specs.ExpressionAndActionTrees.{NoBranch, Where}
 use Rattle.step_code.specs.declared.instr.Instr.{Instr}
 use Rattle.step_code.specs.declared.instr.Instr.TheVariants as code

@@ -13,7 +13,8 @@ use Rattle.step_code.specs.declared.instr.Instr.{Instr}
 use Rattle.step_code.specs.CodeLengths.{length_trigger, length_edge}
 use Rattle.step_compiler.specs.ExpressionAndActionInstructions.{code_acts}
 use Rattle.step_compiler.specs.proof.BlockOrder.{is_placed, block_order}
-use Rattle.step_compiler.specs.BlockInstructions.{trigger_code, last_instr, false_guard_target, edge_code, block_code, block_length}
+use Rattle.step_compiler.specs.BlockInstructions.{trigger_code, last_instr, false_guard_target, edge_code, block_code}
+use Rattle.step_compiler.specs.BlockInstructions.{block_length}
 use Rattle.step_compiler.specs.BlockInstructions.{start_of, blocks_code, dispatch_offset}
 use Rattle.step_compiler.specs.proof.BlockLengthsAndStarts.{in_list, order_length}
 use Rattle.step_compiler.specs.proof.CompiledCode.{block_starts}

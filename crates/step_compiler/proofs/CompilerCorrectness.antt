@@ -30,7 +30,8 @@ use Rattle.step_code.specs.declared.instr.Instr.{Instr}
 use Rattle.step_code.specs.declared.instr.CodeParts.{CodeParts}
 use Rattle.step_code.specs.InstructionEffects.{StepInputs}
 use Rattle.step_code.specs.SuccessorsAndWeights.{weight_of}
-use Rattle.step_code.specs.proof.CodeRuns.{CodeOutcome, run, what_is_left, run_from, from_entry, unless_halted, exec, Leaves}
+use Rattle.step_code.specs.proof.CodeRuns.{CodeOutcome, run, what_is_left, run_from, from_entry, unless_halted, exec}
+use Rattle.step_code.specs.proof.CodeRuns.{Leaves}
 use Rattle.step_code.specs.proof.CodeRuns.{has_entry, IsOver}
 use Rattle.step_code.specs.InstructionsPerStep.{silent, step_inputs}
 use Rattle.step_code.specs.proof.StackHeights.{Member}
@@ -315,7 +316,8 @@ begun b s None is begins = cc
 begun b s (Some d) is begins = (slice_get_within b.states s d is, ap completes is ∙ begins)
 
 halted_or : (b : BehaviourParts) (c : CodeParts) (held : Frame) (halt : Option Trap) (ran : CodeOutcome)
-    (r : Result Fired Trap) → c.outs ≡ length b.outs → (halt ≡ None → what_is_left c held ran ≡ Leaves (outcome b held r))
+    (r : Result Fired Trap) → c.outs ≡ length b.outs
+    → (halt ≡ None → what_is_left c held ran ≡ Leaves (outcome b held r))
     → unless_halted c held halt ran ≡ Leaves (base.unless_halted b held halt r)
 halted_or b c held None ran r outs going = going refl
 halted_or b c held (Some trap) ran r outs going =

@@ -16,7 +16,8 @@ use Rattle.step_code.specs.CodeLengths.{length_edge, length_trigger}
 use Rattle.step_compiler.specs.LaidOutCode.{states_of, IsLaidOut, AreLaidOut}
 use Rattle.step_compiler.specs.proof.BlockOrder.{block_order}
 use Rattle.step_compiler.specs.ExpressionAndActionInstructions.{code_acts}
-use Rattle.step_compiler.specs.BlockInstructions.{trigger_code, false_guard_target, last_instr, edge_code, block_code, block_length}
+use Rattle.step_compiler.specs.BlockInstructions.{trigger_code, false_guard_target, last_instr, edge_code, block_code}
+use Rattle.step_compiler.specs.BlockInstructions.{block_length}
 use Rattle.step_compiler.specs.BlockInstructions.{blocks_code, start_of, entry_of}
 use Rattle.step_compiler.specs.proof.BlockLengthsAndStarts.{in_list}
 use Rattle.step_compiler.specs.proof.CompiledCode.{block_starts, compiled}

@@ -9,11 +9,13 @@ use Rattle.step_code.specs.declared.instr.Instr.{Instr}
 use Rattle.step_code.specs.declared.instr.Instr.TheVariants as code
 use Rattle.step_code.specs.CodeLengths.{length_of, length_acts, length_trigger, length_edge, length_edges}
 use Rattle.step_compiler.specs.ExpressionAndActionInstructions.{code_of, code_acts}
-use Rattle.step_compiler.specs.BlockInstructions.{trigger_code, last_instr, false_guard_target, edge_code, block_code, block_length}
+use Rattle.step_compiler.specs.BlockInstructions.{trigger_code, last_instr, false_guard_target, edge_code, block_code}
+use Rattle.step_compiler.specs.BlockInstructions.{block_length}
 use Rattle.step_compiler.specs.BlockInstructions.{start_of, blocks_code}
 use Rattle.step_compiler.proofs.PlacedCodeLengths.{HasAt, has_front, has_back, code-length, acts-length, trigger-length}
 use Rattle.step_compiler.proofs.PlacedCodeLengths.{edge-length, block-length}
-use Rattle.step_compiler.proofs.LoopsClosedWithinParts.{Outer, Closed, closed_both, one_closed, none_closed, starts_none}
+use Rattle.step_compiler.proofs.LoopsClosedWithinParts.{Outer, Closed, closed_both, one_closed, none_closed}
+use Rattle.step_compiler.proofs.LoopsClosedWithinParts.{starts_none}
 use Rattle.step_compiler.proofs.LoopsClosedWithinParts.{expr_closed, acts_closed}
 use Rattle.step_compiler.proofs.StackHeights.{height, edge_height, block_height}
 use Rattle.step_compiler.proofs.VerifiedActions.{Round}
@@ -46,7 +48,8 @@ edge_closed whole b starts complete e p has =
     let body = code_acts e.actions (length b.vars) (p + t) in
     let i = last_instr b starts e.target in
     let back =
-    has_back whole p t (p + t) guard (body ++ i ∷ []) (trigger-length e.trigger (false_guard_target complete e p) p) refl has in
+    has_back whole p t (p + t) guard (body ++ i ∷ []) (trigger-length e.trigger (false_guard_target complete e p) p)
+    refl has in
     let here =
     (has_back whole (p + t) m (p + t + m) body (i ∷ []) (acts-length e.actions (length b.vars) (p + t))
     refl back).0 in

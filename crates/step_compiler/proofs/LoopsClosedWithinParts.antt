@@ -8,8 +8,10 @@ use Rattle.std.specs.List.{list_all}
 use Rattle.std.proofs.lemmas.Bool.{cases_lt, both_ways, and_parts, le-ltb, lt-ltb}
 use Rattle.pals_base.specs.declared.behaviour.Op.{Op}
 use Rattle.pals_base.specs.declared.behaviour.Op.TheVariants as op
-use Rattle.pals_base.specs.ExpressionAndActionTrees.{Expression, Literal, Variable, PortRead, Fresh, Neg, Abs, Not, Chain, Operands}
-use Rattle.pals_base.specs.ExpressionAndActionTrees.{NoMore, Then, Action, Assign, Emit, If, For, Actions, Nothing, Do, Branches}
+use Rattle.pals_base.specs.ExpressionAndActionTrees.{Expression, Literal, Variable, PortRead, Fresh, Neg, Abs, Not}
+use Rattle.pals_base.specs.ExpressionAndActionTrees.{Chain, Operands}
+use Rattle.pals_base.specs.ExpressionAndActionTrees.{NoMore, Then, Action, Assign, Emit, If, For, Actions, Nothing, Do}
+use Rattle.pals_base.specs.ExpressionAndActionTrees.{Branches}
 use Rattle.pals_base.specs.ExpressionAndActionTrees.{NoBranch, Where}
 use Rattle.step_code.specs.declared.instr.Instr.{Instr}
 use Rattle.step_code.specs.declared.instr.Instr.TheVariants as code
@@ -17,7 +19,8 @@ use Rattle.step_code.specs.declared.loops.LoopSpan.{LoopSpan}
 use Rattle.step_code.specs.Loops.{loop_from, loop_at, with_loop, loops_below}
 use Rattle.step_code.specs.proof.VerifierRules.{inside, agrees, stays}
 use Rattle.step_code.specs.CodeLengths.{operand_length, length_of, length_act, length_acts, length_branches}
-use Rattle.step_compiler.specs.ExpressionAndActionInstructions.{operand_code, code_of, code_rest, code_act, code_acts, code_branches}
+use Rattle.step_compiler.specs.ExpressionAndActionInstructions.{operand_code, code_of, code_rest, code_act, code_acts}
+use Rattle.step_compiler.specs.ExpressionAndActionInstructions.{code_branches}
 use Rattle.step_compiler.proofs.PlacedCodeLengths.{HasAt, has_front, has_back, code-length, act-length, acts-length}
 use Rattle.step_compiler.proofs.PlacedCodeLengths.{branches-length}
 use Rattle.step_code.proofs.NestingOfCleanCode.{loop_is}

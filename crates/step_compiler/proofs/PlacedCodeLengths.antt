@@ -6,16 +6,20 @@ use Rattle.pals_base.specs.declared.behaviour.BehaviourParts.{BehaviourParts}
 use Rattle.pals_base.specs.declared.behaviour.Op.{Op}
 use Rattle.pals_base.specs.declared.behaviour.Op.TheVariants as op
 use Rattle.pals_base.specs.SingleStep.{is_complete, leaving}
-use Rattle.pals_base.specs.ExpressionAndActionTrees.{Expression, Literal, Variable, PortRead, Fresh, Neg, Abs, Not, Chain, Operands}
-use Rattle.pals_base.specs.ExpressionAndActionTrees.{NoMore, Then, Action, Assign, Emit, If, For, Actions, Nothing, Do, Branches}
+use Rattle.pals_base.specs.ExpressionAndActionTrees.{Expression, Literal, Variable, PortRead, Fresh, Neg, Abs, Not}
+use Rattle.pals_base.specs.ExpressionAndActionTrees.{Chain, Operands}
+use Rattle.pals_base.specs.ExpressionAndActionTrees.{NoMore, Then, Action, Assign, Emit, If, For, Actions, Nothing, Do}
+use Rattle.pals_base.specs.ExpressionAndActionTrees.{Branches}
 use Rattle.pals_base.specs.ExpressionAndActionTrees.{NoBranch, Where, Edge, Trigger, Dispatch, Always, When}
 use Rattle.step_code.specs.declared.instr.Instr.{Instr}
 use Rattle.step_code.specs.declared.instr.Instr.TheVariants as code
 use Rattle.step_code.specs.CodeLengths.{operand_length, length_of, length_rest, length_act, length_acts}
 use Rattle.step_code.specs.CodeLengths.{length_branches, length_trigger, length_edge, length_edges}
-use Rattle.step_compiler.specs.ExpressionAndActionInstructions.{operator, operand_code, code_of, code_rest, code_act, code_acts}
+use Rattle.step_compiler.specs.ExpressionAndActionInstructions.{operator, operand_code, code_of, code_rest, code_act}
+use Rattle.step_compiler.specs.ExpressionAndActionInstructions.{code_acts}
 use Rattle.step_compiler.specs.ExpressionAndActionInstructions.{code_branches}
-use Rattle.step_compiler.specs.BlockInstructions.{trigger_code, last_instr, false_guard_target, edge_code, block_code, block_length}
+use Rattle.step_compiler.specs.BlockInstructions.{trigger_code, last_instr, false_guard_target, edge_code, block_code}
+use Rattle.step_compiler.specs.BlockInstructions.{block_length}
 use Rattle.step_compiler.specs.BlockInstructions.{blocks_code}
 use Rattle.step_compiler.specs.proof.BlockLengthsAndStarts.{order_length}
 

@@ -12,14 +12,18 @@ use Rattle.pals_base.specs.declared.behaviour.BehaviourParts.{BehaviourParts}
 use Rattle.pals_base.specs.declared.behaviour.Kind.{Kind}
 use Rattle.pals_base.specs.declared.behaviour.Kind.TheVariants.{Integer, Boolean}
 use Rattle.pals_base.specs.declared.expression_kinds.Kinds.{Kinds}
-use Rattle.pals_base.specs.ExpressionAndActionTrees.{Expression, Literal, Variable, PortRead, Fresh, Neg, Abs, Not, Chain, Operands}
-use Rattle.pals_base.specs.ExpressionAndActionTrees.{NoMore, Then, Action, Assign, Emit, If, For, Actions, Nothing, Do, Branches}
+use Rattle.pals_base.specs.ExpressionAndActionTrees.{Expression, Literal, Variable, PortRead, Fresh, Neg, Abs, Not}
+use Rattle.pals_base.specs.ExpressionAndActionTrees.{Chain, Operands}
+use Rattle.pals_base.specs.ExpressionAndActionTrees.{NoMore, Then, Action, Assign, Emit, If, For, Actions, Nothing, Do}
+use Rattle.pals_base.specs.ExpressionAndActionTrees.{Branches}
 use Rattle.pals_base.specs.ExpressionAndActionTrees.{NoBranch, Where, Trigger, Dispatch, Always, When}
-use Rattle.pals_base.specs.TypingRules.{allows, port_kinds, declared_or, operator_kinds, kinds_of, kinds_along, suits_variable}
+use Rattle.pals_base.specs.TypingRules.{allows, port_kinds, declared_or, operator_kinds, kinds_of, kinds_along}
+use Rattle.pals_base.specs.TypingRules.{suits_variable}
 use Rattle.pals_base.specs.TypingRules.{suits_port, turns, is_short, is_sound, are_sound, branches_are_sound}
 use Rattle.pals_base.specs.BehaviourRules.{has_condition}
 use Rattle.step_compiler.specs.LoopDepths.{depth_act, depth_acts, depth_branches}
-use Rattle.step_compiler.proofs.BehaviourAccessBounds.{Sees, SeesAll, Sizes, SeesAct, SeesActs, SeesBranches, SeesTrigger}
+use Rattle.step_compiler.proofs.BehaviourAccessBounds.{Sees, SeesAll, Sizes, SeesAct, SeesActs, SeesBranches}
+use Rattle.step_compiler.proofs.BehaviourAccessBounds.{SeesTrigger}
 
 -- a value has some type
 abbrev pub Typed : Kinds → Type 0

@@ -6,15 +6,18 @@ use Rattle.pals_base.specs.declared.behaviour.BehaviourParts.{BehaviourParts}
 use Rattle.pals_base.specs.declared.behaviour.Op.{Op}
 use Rattle.pals_base.specs.declared.behaviour.Op.TheVariants as op
 use Rattle.pals_base.specs.SingleStep.{is_complete}
-use Rattle.pals_base.specs.ExpressionAndActionTrees.{Expression, Literal, Variable, PortRead, Fresh, Neg, Abs, Not, Chain, Operands}
-use Rattle.pals_base.specs.ExpressionAndActionTrees.{NoMore, Then, Action, Assign, Emit, If, For, Actions, Nothing, Do, Branches}
+use Rattle.pals_base.specs.ExpressionAndActionTrees.{Expression, Literal, Variable, PortRead, Fresh, Neg, Abs, Not}
+use Rattle.pals_base.specs.ExpressionAndActionTrees.{Chain, Operands}
+use Rattle.pals_base.specs.ExpressionAndActionTrees.{NoMore, Then, Action, Assign, Emit, If, For, Actions, Nothing, Do}
+use Rattle.pals_base.specs.ExpressionAndActionTrees.{Branches}
 use Rattle.pals_base.specs.ExpressionAndActionTrees.{NoBranch, Where, Edge, Trigger, Dispatch, Always, When}
 use Rattle.step_code.specs.declared.instr.Instr.{Instr}
 use Rattle.step_code.specs.declared.instr.Instr.TheVariants as code
 use Rattle.step_code.specs.proof.StackHeights.{after}
 use Rattle.step_code.specs.CodeLengths.{operand_length, length_of, length_rest, length_act, length_acts}
 use Rattle.step_code.specs.CodeLengths.{length_branches, length_trigger, length_edge, length_edges}
-use Rattle.step_compiler.specs.ExpressionAndActionInstructions.{operator, operand_code, code_of, code_rest, code_act, code_acts}
+use Rattle.step_compiler.specs.ExpressionAndActionInstructions.{operator, operand_code, code_of, code_rest, code_act}
+use Rattle.step_compiler.specs.ExpressionAndActionInstructions.{code_acts}
 use Rattle.step_compiler.specs.ExpressionAndActionInstructions.{code_branches}
 use Rattle.step_compiler.specs.BlockInstructions.{trigger_code, last_instr, false_guard_target, edge_code, block_code}
 use Rattle.step_compiler.proofs.PlacedCodeLengths.{HasAt, has_front, has_back, code-length, operand-length, act-length}
@@ -222,8 +225,10 @@ module _ (whole : List Instr) where
       let body = code_acts e.actions n (p + t) in
       let i = last_instr b starts e.target in
       let back =
-      has_back whole p t (p + t) guard (body ++ i ∷ []) (trigger-length e.trigger (false_guard_target complete e p) p) refl has in
-      let first = trigger_height e.trigger (false_guard_target complete e p) p (has_front whole p guard (body ++ i ∷ []) has) at in
+      has_back whole p t (p + t) guard (body ++ i ∷ []) (trigger-length e.trigger (false_guard_target complete e p) p)
+      refl has in
+      let first = trigger_height e.trigger (false_guard_target complete e p) p
+      (has_front whole p guard (body ++ i ∷ []) has) at in
       one_behind (p + t) m (p + (t + m + 1)) 0 0 body i back (acts-length e.actions n (p + t)) (omega arith)
       (acts_height e.actions n (p + t) (has_front whole (p + t) body (i ∷ []) back) first)
       (last_height b starts e.target)

@@ -48,7 +48,8 @@ rest_open e [] is = tt
 rest_open e (f ∷ es) is = is
 
 pub past_inside : (complete : Bool) (e : Edge) (es : List Edge) (p n : ℕ) → is_always e.trigger ≡ false
-    → p + (length_edge e + length_edges es) ≤ n → (complete ≡ false → LastOpen (e ∷ es)) → false_guard_target complete e p < n
+    → p + (length_edge e + length_edges es) ≤ n → (complete ≡ false → LastOpen (e ∷ es))
+    → false_guard_target complete e p < n
 past_inside true e es p n guarded most unguarded = omega arith
 past_inside false e [] p n guarded most unguarded = absurd (true≢false (sym (unguarded refl) ∙ guarded))
 past_inside false e (f ∷ es) p n guarded most unguarded = omega arith

@@ -31,7 +31,8 @@ use Rattle.step_code.specs.CodeLengths.{length_of, length_acts, length_trigger, 
 use Rattle.step_compiler.specs.ExpressionAndActionInstructions.{code_of, code_acts}
 use Rattle.step_compiler.specs.proof.BlockOrder.{block_order}
 use Rattle.step_compiler.specs.LaidOutCode.{states_of}
-use Rattle.step_compiler.specs.BlockInstructions.{trigger_code, last_instr, false_guard_target, edge_code, block_code, block_length}
+use Rattle.step_compiler.specs.BlockInstructions.{trigger_code, last_instr, false_guard_target, edge_code, block_code}
+use Rattle.step_compiler.specs.BlockInstructions.{block_length}
 use Rattle.step_compiler.specs.BlockInstructions.{start_of, blocks_code, dispatch_offset, entry_of}
 use Rattle.step_compiler.specs.proof.BlockLengthsAndStarts.{order_length, in_list}
 use Rattle.step_compiler.specs.proof.CompiledCode.{block_starts, compiled}
@@ -116,7 +117,8 @@ module _ (b : BehaviourParts) (c : CodeParts) (rules : IsBehaviour b)
 
   -- a guard
   trigger_fine : (t : Trigger) (complete : Bool) (e : Edge) (p : ℕ) → e.trigger ≡ t
-      → HasAt c.instrs p (edge_code b starts complete e p) → HasAt c.instrs p (trigger_code t (false_guard_target complete e p) p)
+      → HasAt c.instrs p (edge_code b starts complete e p)
+      → HasAt c.instrs p (trigger_code t (false_guard_target complete e p) p)
       → IsLoopFree c.instrs p → SeesTrigger (sizes b) t
       → height c.instrs (false_guard_target complete e p) ≡ 0 → Closed c.instrs p (false_guard_target complete e p)
       → (is_always t ≡ false → is_dispatch t ≡ false → false_guard_target complete e p < length c.instrs)
@@ -147,7 +149,8 @@ module _ (b : BehaviourParts) (c : CodeParts) (rules : IsBehaviour b)
   edge_fine : (complete : Bool) (e : Edge) (s p : ℕ) → Member b.transitions e → e.source ≡ s → s < length b.states
       → HasAt c.instrs p (edge_code b starts complete e p) → IsLoopFree c.instrs p
       → p + length_edge e ≤ starts s + block_length b s
-      → (is_always e.trigger ≡ false → is_dispatch e.trigger ≡ false → false_guard_target complete e p < length c.instrs)
+      → (is_always e.trigger ≡ false → is_dispatch e.trigger ≡ false
+      → false_guard_target complete e p < length c.instrs)
       → AreFine c p (p + length_edge e)
   edge_fine complete e s p among from within has calm before inside =
       let edge = edge_has b e (all_member (is_edge b) b.transitions e rules.edges among) in
@@ -189,13 +192,15 @@ module _ (b : BehaviourParts) (c : CodeParts) (rules : IsBehaviour b)
       past_calm : (complete : Bool) (e : Edge) (p q all : ℕ) → HasAt c.instrs p (edge_code b starts complete e p)
           → IsLoopFree c.instrs p → q ≡ p + length_edge e - 1 → all ≡ p + length_edge e → height c.instrs q ≡ 0
           → Closed c.instrs p q
-          → (height c.instrs (false_guard_target complete e p) ≡ 0) × Closed c.instrs p (false_guard_target complete e p)
+          → (height c.instrs (false_guard_target complete e p) ≡ 0)
+          × Closed c.instrs p (false_guard_target complete e p)
       past_calm true e p q all has calm q_is all_is level closed =
           (height_at c.instrs q (p + length_edge e - 1) 0 q_is level, subst (Closed c.instrs p) q_is closed)
       past_calm false e p q all has calm q_is all_is level closed =
           (edge_height c.instrs b starts false e p has calm.level, edge_closed c.instrs b starts false e p has)
 
-      past_behind : (complete : Bool) (e : Edge) (p : ℕ) → p + length_trigger e.trigger ≤ false_guard_target complete e p
+      past_behind : (complete : Bool) (e : Edge) (p : ℕ)
+          → p + length_trigger e.trigger ≤ false_guard_target complete e p
       past_behind true e p = omega arith
       past_behind false e p = omega arith
 

@@ -1,8 +1,10 @@
 -- The instructions that expressions and actions are compiled to, at a place.
 use Rattle.std.specs.Prelude.{ℕ, ◌+◌, pos, List, [], ◌∷◌, ◌++◌}
 use Rattle.pals_base.specs.declared.behaviour.Op.{Op}
-use Rattle.pals_base.specs.ExpressionAndActionTrees.{Expression, Literal, Variable, PortRead, Fresh, Neg, Abs, Not, Chain, Operands}
-use Rattle.pals_base.specs.ExpressionAndActionTrees.{NoMore, Then, Action, Assign, Emit, If, For, Actions, Nothing, Do, Branches}
+use Rattle.pals_base.specs.ExpressionAndActionTrees.{Expression, Literal, Variable, PortRead, Fresh, Neg, Abs, Not}
+use Rattle.pals_base.specs.ExpressionAndActionTrees.{Chain, Operands}
+use Rattle.pals_base.specs.ExpressionAndActionTrees.{NoMore, Then, Action, Assign, Emit, If, For, Actions, Nothing, Do}
+use Rattle.pals_base.specs.ExpressionAndActionTrees.{Branches}
 use Rattle.pals_base.specs.ExpressionAndActionTrees.{NoBranch, Where}
 use Rattle.step_code.specs.declared.instr.Instr.{Instr}
 use Rattle.step_code.specs.CodeLengths.{operand_length, length_of, length_act, length_acts, length_branches}

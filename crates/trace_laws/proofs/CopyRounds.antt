@@ -1,5 +1,6 @@
 -- The copies of a link by their rounds: one after the other, from the last round that the target has started on.
-use Rattle.std.proofs.Common.{◌≡◌, ℕ, zero, suc, ◌+◌, ◌-◌, ◌<◌, ◌≤◌, nat_eq, nat_lt, not, true, cond, List, [], ◌∷◌, ◌++◌}
+use Rattle.std.proofs.Common.{◌≡◌, ℕ, zero, suc, ◌+◌, ◌-◌, ◌<◌, ◌≤◌, nat_eq, nat_lt, not, true, cond, List, [], ◌∷◌}
+use Rattle.std.proofs.Common.{◌++◌}
 use Rattle.std.proofs.Common.{length, drop, All, Option, Some, None, refl, sym, ap, ◌∙◌, arith}
 use Rattle.std.specs.Prelude.{is_some, take}
 use Rattle.std.specs.List.{position_or_len}
@@ -76,7 +77,8 @@ pub record IsFirst (flight : List FlightCopy) (round : ℕ) : Type 0 where
   pub oldest_is : oldest round flight ≡ Some copy
   pub without_is : without_oldest round flight ≡ rest
 
-pub first_copy : (flight : List FlightCopy) (round n : ℕ) → rounds_of flight ≡ upwards round (suc n) → IsFirst flight round
+pub first_copy : (flight : List FlightCopy) (round n : ℕ) → rounds_of flight ≡ upwards round (suc n)
+    → IsFirst flight round
 first_copy [] round n rounds = absurd (cc)
 first_copy (copy ∷ rest) round n rounds =
     let same : copy.round ≡ round = cc in

@@ -16,7 +16,8 @@ due_between eps alpha mu_min mu_max t k p s o fits a at reading delay due near p
     let offset = fits.offset in
     let executed = fits.executed in (
       (let first : a + 2 * eps ≤ reading + delay = omega (arith, late, due, least) in first),
-      (let second : reading + delay + 2 ≤ a + t = omega (arith, release, offset, executed, near, prompt, most) in second),
+      (let second : reading + delay + 2 ≤ a + t =
+          omega (arith, release, offset, executed, near, prompt, most) in second),
     )
 
 -- a start of that round reads less, and one of the next round no less

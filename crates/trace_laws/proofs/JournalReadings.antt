@@ -30,7 +30,8 @@ last_at_most readings node before None most shows = most
 last_at_most readings node before (Some t) most shows =
     shown_by readings node before t (nat_eq t.node node) refl most shows
 
-pub one_more_at_most : (design : DesignParts) (readings : ℕ → ℕ) (journal : List JournalEntry) (e : JournalEntry) (node : ℕ)
+pub one_more_at_most : (design : DesignParts) (readings : ℕ → ℕ) (journal : List JournalEntry) (e : JournalEntry)
+    (node : ℕ)
     → ShowsAtMost design readings journal node → ShowsClock readings (timed design e)
     → ShowsAtMost design readings (journal ++ e ∷ []) node
 one_more_at_most design readings journal e node most shows =

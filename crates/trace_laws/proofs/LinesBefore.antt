@@ -13,7 +13,8 @@ use Rattle.pals_runs.specs.JournalLines.{entry_line}
 use Rattle.bus_machine.specs.RunParameters.{Run}
 use Rattle.run_laws.specs.EntriesInLines.{entry_of_line}
 use Rattle.run_laws.specs.EntriesOfDesigns.{IsEntryIn}
-use Rattle.run_laws.specs.TraceVerdicts.{Audit, audit_after, line_broken, end_broken, wrong_or, entry_or, journal_verdict}
+use Rattle.run_laws.specs.TraceVerdicts.{Audit, audit_after, line_broken, end_broken, wrong_or, entry_or}
+use Rattle.run_laws.specs.TraceVerdicts.{journal_verdict}
 use Rattle.run_laws.proofs.ParsedEntryRanges.{told_are_in}
 use Rattle.run_laws.proofs.UniqueEntrySpelling.{told_is_line}
 use Rattle.run_laws.proofs.SoundTraces.{KeepsUp, follow_by}
@@ -31,14 +32,16 @@ wrong_from run rows index i a [] why wrong =
     names_from index i (end_broken run rows a) (Sound rows a.bus.stop) why (λ sound. absurd (cc)) wrong
 wrong_from run rows index i a (line ∷ lines) why wrong =
     let next : Audit = audit_after run a (entry_or (entry_of_line run.design line)) in
-    names_from index i (line_broken run a (entry_of_line run.design line)) (journal_verdict run rows (index + 1) next lines)
+    names_from index i (line_broken run a (entry_of_line run.design line))
+    (journal_verdict run rows (index + 1) next lines)
     why
     (λ later. let more = wrong_from run rows (index + 1) i next lines why later in omega (arith, more)) wrong
 
 names_to : (index i end : ℕ) (o : Option TraceRule) (otherwise : Verdict) (why : TraceRule)
     → index ≤ end → (otherwise ≡ Wrong i why → i ≤ end) → wrong_or index o otherwise ≡ Wrong i why → i ≤ end
 names_to index i end None otherwise why within later wrong = later wrong
-names_to index i end (Some r) otherwise why within later wrong = let same : index ≡ i = cc in omega (arith, same, within)
+names_to index i end (Some r) otherwise why within later wrong = let same : index ≡ i =
+    cc in omega (arith, same, within)
 
 pub wrong_to : (run : Run) (rows index i : ℕ) (a : Audit) (lines : List (List ℕ)) (why : TraceRule)
     → journal_verdict run rows index a lines ≡ Wrong i why → i ≤ index + length lines
@@ -81,7 +84,8 @@ Before run rows index lines why k =
     → journal_verdict run rows index a lines ≡ Wrong (index + k) why → k ≤ length lines
     → HasBefore run rows index front lines k why
 
-one_more : (run : Run) (rows index k : ℕ) (front : List JournalEntry) (a : Audit) (line : List ℕ) (lines : List (List ℕ))
+one_more : (run : Run) (rows index k : ℕ) (front : List JournalEntry) (a : Audit) (line : List ℕ)
+    (lines : List (List ℕ))
     (why : TraceRule) (o : Option JournalEntry) → IsDesign run.design → entry_of_line run.design line ≡ o
     → KeepsUp run front a
     → wrong_or index (line_broken run a o) (journal_verdict run rows (index + 1) (audit_after run a (entry_or o)) lines)

@@ -21,7 +21,8 @@ every_by P from rest l true here later = (here refl, later)
 every_by P from rest l false here later = later
 
 pub every_into : (P : ℕ → Type 0) (node from : ℕ) (ls : List Link)
-    → ((k : ℕ) (l : Link) → slice_get ls k ≡ Some l → l.target.0 ≡ node → P (from + k)) → Every P (into_from node from ls)
+    → ((k : ℕ) (l : Link) → slice_get ls k ≡ Some l → l.target.0 ≡ node → P (from + k))
+    → Every P (into_from node from ls)
 every_into P node from [] each = tt
 every_into P node from (l ∷ ls) each =
     every_by P from

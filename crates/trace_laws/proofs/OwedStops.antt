@@ -16,7 +16,8 @@ use Rattle.run_laws.specs.EntriesInLines.{entry_of_line}
 use Rattle.run_laws.specs.EntryEventsAndReadings.{timed, has_reading}
 use Rattle.run_laws.specs.HistoriesAndTraces.{History}
 use Rattle.run_laws.specs.TraceRules.{broken, is_line_of}
-use Rattle.run_laws.specs.TraceVerdicts.{Audit, opening_audit, audit_after, line_broken, end_broken, is_done, wrong_or, entry_or}
+use Rattle.run_laws.specs.TraceVerdicts.{Audit, opening_audit, audit_after, line_broken, end_broken, is_done, wrong_or}
+use Rattle.run_laws.specs.TraceVerdicts.{entry_or}
 use Rattle.run_laws.specs.TraceVerdicts.{journal_verdict, report_size}
 use Rattle.run_laws.proofs.SoundEntryEvents.{listed}
 use Rattle.run_laws.proofs.RuleKeepingLines.{audited, verdict_is}
@@ -128,7 +129,8 @@ pub lacks_stop : (run : Run) (rows : ℕ) (lines : List (List ℕ)) (index : ℕ
     → LacksStop run lines
 lacks_stop run rows lines index rules last few at =
     let had = at_index run rows lines index rule.Stop rules at in
-    let many : length (journal_lines lines) ≡ length lines - report_size lines = length-drop (report_size lines) lines in
+    let many : length (journal_lines lines) ≡ length lines - report_size lines =
+    length-drop (report_size lines) lines in
     let is = at.index_is in
     let all : at.k ≡ length (journal_lines lines) = omega (arith, many, is, last, few) in
     let whole : take at.k (journal_lines lines) ≡ journal_lines lines =

@@ -1,6 +1,7 @@
 -- A verdict that is wrong at a line depends on the lines up to that one only, so no trace begins with them.
 use Rattle.std.proofs.Common.{◌≡◌, ℕ, zero, suc, ◌+◌, ◌-◌, ◌/◌, ◌%◌, ◌<◌, ◌≤◌, nat_eq, Bool, true, false, not}
-use Rattle.std.proofs.Common.{inl, inr, cond, length-take-le, List, [], ◌∷◌, ◌++◌, length, take, drop, Option, Some, None, refl, sym, ap, ◌∙◌, arith}
+use Rattle.std.proofs.Common.{inl, inr, cond, length-take-le, List, [], ◌∷◌, ◌++◌, length, take, drop, Option, Some}
+use Rattle.std.proofs.Common.{None, refl, sym, ap, ◌∙◌, arith}
 use Rattle.std.specs.Prelude.{bytes_eq, position, is_some}
 use Rattle.std.specs.List.{enumerate_from, position_from, position_or_len}
 use Rattle.std.proofs.lemmas.Bool.{cases_lt}
@@ -16,7 +17,8 @@ use Rattle.bus_machine.specs.proof.AgreementLaws.{IsRunOf}
 use Rattle.run_laws.specs.LineForms.{form_of}
 use Rattle.run_laws.specs.EntriesInLines.{entry_of_line}
 use Rattle.run_laws.specs.TraceVerdicts.{Audit, opening_audit, audit_after, line_broken, wrong_or, entry_or}
-use Rattle.run_laws.specs.TraceVerdicts.{journal_verdict, trace_verdict, verdict, report_size, row_size, line_at, wrong_row}
+use Rattle.run_laws.specs.TraceVerdicts.{journal_verdict, trace_verdict, verdict, report_size, row_size, line_at}
+use Rattle.run_laws.specs.TraceVerdicts.{wrong_row}
 use Rattle.run_laws.proofs.HistoryVerdicts.{traces_are_sound}
 use Rattle.trace_laws.specs.WrongLines.{NoTraceBegins}
 use Rattle.trace_laws.proofs.LinesBefore.{wrong_from, not_here, just_here}
@@ -46,7 +48,8 @@ place_by p k x xs others false is most later =
 first_by : {X : Type 0} (p : X → Bool) (x : X) (xs others : List X) (b : Bool) → p x ≡ b
     → position_or_len p (x ∷ xs) ≤ 0 → AtSamePlace p 0 (x ∷ xs) others
 first_by p x xs others true is most =
-    ap (λ c. cond (not c) (1 + position_or_len p others) 0) is ∙ sym (ap (λ c. cond (not c) (1 + position_or_len p xs) 0) is)
+    ap (λ c. cond (not c) (1 + position_or_len p others) 0) is
+    ∙ sym (ap (λ c. cond (not c) (1 + position_or_len p xs) 0) is)
 first_by p x xs others false is most =
     let passed : position_or_len p (x ∷ xs) ≡ 1 + position_or_len p xs =
     ap (λ c. cond (not c) (1 + position_or_len p xs) 0) is in
@@ -180,10 +183,12 @@ same_row : (design : DesignParts) (env : Env) (report others : List (List ℕ)) 
 same_row design env report others index wrong less =
     let p = is_other design env in
     let longer : List (List ℕ) = begun index report others in
-    let at = row_parts (position p (enumerate_from 0 report)) (nat_eq (length report % row_size design) 0) (length report)
+    let at = row_parts (position p (enumerate_from 0 report)) (nat_eq (length report % row_size design) 0)
+    (length report)
     index wrong less in
     let here : position_from p 0 (enumerate_from 0 report) ≡ Some (0 + index) =
-    sym (position_from-zero p (enumerate_from 0 report)) ∙ at ∙ (let same : index ≡ 0 + index = omega arith in ap Some same) in
+    sym (position_from-zero p (enumerate_from 0 report)) ∙ at
+    ∙ (let same : index ≡ 0 + index = omega arith in ap Some same) in
     let its : position p (enumerate_from 0 longer) ≡ Some index =
     position_from-zero p (enumerate_from 0 longer) ∙ same_first p 0 0 index report others here less
     ∙ (let same : 0 + index ≡ index = omega arith in ap Some same) in
@@ -275,7 +280,8 @@ module _ (run : Run) (lines others : List (List ℕ)) (index : ℕ) (why : Trace
         | inr outside ↦ after_report outside (Some at) row wrong
       ]
   by_row None row wrong =
-      let from = wrong_from run (size / row_size run.design) size index (opening_audit run) (drop size lines) why wrong in
+      let from = wrong_from run (size / row_size run.design) size index (opening_audit run) (drop size lines) why wrong
+      in
       after_report from None row wrong
 
 -- a verdict that is wrong at a line is the same for all lists of lines that begin so
@@ -288,5 +294,6 @@ pub no_trace_begins : (run : Run) (lines : List (List ℕ)) (index : ℕ) (why :
     → index < length lines → verdict run lines ≡ Wrong index why → NoTraceBegins run lines index
 no_trace_begins run lines index why rules less wrong others rounds stop trace =
     let sound = traces_are_sound run (begun index lines others) rounds stop rules trace in
-    absurd (let no : Wrong index why ≡ Sound rounds stop = sym (same_verdict run lines others index why less wrong) ∙ sound in
+    absurd (let no : Wrong index why ≡ Sound rounds stop =
+    sym (same_verdict run lines others index why less wrong) ∙ sound in
     cc)

@@ -20,7 +20,8 @@ use Rattle.trace_laws.specs.proof.PutOffArrivals.{IsPutOff}
 use Rattle.pals_runs.specs.declared.events_and_faults.Event.TheVariants as event
 use Rattle.pals_runs.specs.declared.events_and_faults.EventFault.TheVariants as fault
 
-module _ (run : Run) (w : World) (time : ℕ) (readings : List ℕ) (fine : fault_of run w (event.Pass time readings) ≡ None) where
+module _ (run : Run) (w : World) (time : ℕ) (readings : List ℕ)
+    (fine : fault_of run w (event.Pass time readings) ≡ None) where
   rises_by : (node : ℕ) → node < length readings → first_of (map (clock_back w) (enumerate_from 0 readings)) ≡ None
       → reading_at w node ≤ slice_index_or readings node 0
   rises_by node within none =
@@ -47,7 +48,8 @@ module _ (run : Run) (w : World) (time : ℕ) (readings : List ℕ) (fine : faul
 
   pub pass_put_off : (journal : List JournalEntry) (t : BusState) → IsPutOff run w journal t
       → (u : BusState)
-      × IsPutOff run (world_after run w (event.Pass time readings)) (journal ++ recorded run w (event.Pass time readings)) u
+      × IsPutOff run (world_after run w (event.Pass time readings))
+      (journal ++ recorded run w (event.Pass time readings)) u
   pass_put_off journal t put = (
     t,
     subst (λ told. IsPutOff run (world_after run w (event.Pass time readings)) told t) (sym (append-nil journal))

@@ -26,11 +26,13 @@ use Rattle.run_laws.specs.Worlds.{World, world_after}
 use Rattle.run_laws.specs.proof.WorldInvariant.{KeepsTime}
 use Rattle.run_laws.proofs.FaultlessEventConditions.{FaultlessArrival}
 use Rattle.run_laws.proofs.NodePicksAndRunReplay.{component_is}
-use Rattle.run_laws.proofs.WorldInvariantAfterArrivals.{target, port, here, tuple, holds, bus_arrived, arrival_is_kept, in_bus}
+use Rattle.run_laws.proofs.WorldInvariantAfterArrivals.{target, port, here, tuple, holds, bus_arrived, arrival_is_kept}
+use Rattle.run_laws.proofs.WorldInvariantAfterArrivals.{in_bus}
 use Rattle.run_laws.proofs.WorldInvariantAfterArrivals.{in_flights, sent_stays}
 use Rattle.run_laws.proofs.WorldLinkTiming.{in_flight_counts, under_way, link_is, rule_of, comes_in_time, ComesInTime}
 use Rattle.trace_laws.specs.WorldTraces.{recorded}
-use Rattle.trace_laws.specs.proof.PutOffArrivals.{no_message, emptied, flying, rounds_of, LinkIsPutOff, LinksArePutOff, IsPutOff}
+use Rattle.trace_laws.specs.proof.PutOffArrivals.{no_message, emptied, flying, rounds_of, LinkIsPutOff, LinksArePutOff}
+use Rattle.trace_laws.specs.proof.PutOffArrivals.{IsPutOff}
 use Rattle.trace_laws.proofs.CopyRounds.{first_copy}
 use Rattle.pals_runs.specs.declared.events_and_faults.Event.TheVariants as event
 
@@ -73,7 +75,8 @@ module _ (run : Run) (w : World) (journal : List JournalEntry) (t : BusState) (r
       let rule = (rule_of run link.0 rules fine.within).target in
       let is_c = component_is run to rule.node_is in
       let slots = (keeps.agrees.nodes to (component_at run.design to) is_c).slots in
-      let below : into < length (component_at run.design to).behaviour.ins = subst (λ o. into < ins_in o) is_c rule.port_is in
+      let below : into < length (component_at run.design to).behaviour.ins =
+      subst (λ o. into < ins_in o) is_c rule.port_is in
       omega (arith, slots, below)
 
   counted : (k : ℕ) → (node_at bus k).count ≡ (node_at w.bus k).count
@@ -123,7 +126,8 @@ module _ (run : Run) (w : World) (journal : List JournalEntry) (t : BusState) (r
             λ p. other (same_link run.design number link.0 l (link_at run.design link.0) rules.design
             (link_is run number within) (link_is run link.0 fine.within) same p) in
             ap (λ k. slot_at (node_at bus k) l.in_port) same
-            ∙ ap (λ (k : NodeState). slot_at k l.in_port) (node_set w.bus to m (in_bus run w rules keeps link round fine))
+            ∙ ap (λ (k : NodeState). slot_at k l.in_port)
+            (node_set w.bus to m (in_bus run w rules keeps link round fine))
             ∙ get_or-set_other n.slots into l.in_port (Some (tuple run w rules keeps link round fine)) None ports
             ∙ sym (ap (λ k. slot_at (node_at w.bus k) l.in_port) same)
         | inr apart ↦ ap (λ (k : NodeState). slot_at k l.in_port) (node_stays w.bus to l.target.0 m apart)
@@ -142,13 +146,15 @@ module _ (run : Run) (w : World) (journal : List JournalEntry) (t : BusState) (r
         record {
           rounds = before.rounds
               ∙ ap₂ (λ c s. upwards (c - 1) (s - (c - 1))) (sym (counted l.target.0)) (sym (sent_same number));
-          flight = flies ∙ before.flight ∙ ap (λ o. flying o (flight_at t number)) (sym (slots_same number within other));
+          flight = flies ∙ before.flight ∙ ap (λ o. flying o (flight_at t number))
+              (sym (slots_same number within other));
           due = before.due;
         }
   ]
 
   pub arrive_put_off : (u : BusState)
-      × IsPutOff run (world_after run w (event.Arrive link round)) (journal ++ recorded run w (event.Arrive link round)) u
+      × IsPutOff run (world_after run w (event.Arrive link round))
+      (journal ++ recorded run w (event.Arrive link round)) u
   arrive_put_off = (
     t,
     subst (λ told. IsPutOff run (world_after run w (event.Arrive link round)) told t) (sym (append-nil journal))

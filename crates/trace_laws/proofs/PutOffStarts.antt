@@ -1,6 +1,7 @@
 -- A start: the messages that it reads arrive in the history, and then it starts as in the world.
 use Rattle.std.proofs.Common.{◌≡◌, ◌≢◌, inl, inr, ℕ, zero, suc, ◌+◌, ◌-◌, ◌*◌, ◌<◌, ◌≤◌, nat_le, true, false}
-use Rattle.std.proofs.Common.{List, [], ◌∷◌, ◌++◌, length, map, drop, All, Option, Some, None, refl, sym, ap, ap₂, ◌∙◌, subst}
+use Rattle.std.proofs.Common.{List, [], ◌∷◌, ◌++◌, length, map, drop, All, Option, Some, None, refl, sym, ap, ap₂, ◌∙◌}
+use Rattle.std.proofs.Common.{subst}
 use Rattle.std.proofs.Common.{arith}
 use Rattle.std.specs.Prelude.{is_some, slice_index_or, slice_set, replicate}
 use Rattle.std.specs.List.{Contains}
@@ -56,7 +57,8 @@ use Rattle.run_laws.proofs.FaultlessEventConditions.{FaultlessStart}
 use Rattle.run_laws.proofs.WorldLinkTiming.{link_is, has_come}
 use Rattle.run_laws.proofs.WorldNodeTiming.{late, phase_agrees}
 use Rattle.trace_laws.specs.WorldTraces.{recorded, arrivals_at}
-use Rattle.trace_laws.specs.proof.PutOffArrivals.{no_message, emptied, flying, rounds_of, IsDueBetween, LinksArePutOff, IsPutOff}
+use Rattle.trace_laws.specs.proof.PutOffArrivals.{no_message, emptied, flying, rounds_of, IsDueBetween, LinksArePutOff}
+use Rattle.trace_laws.specs.proof.PutOffArrivals.{IsPutOff}
 use Rattle.trace_laws.proofs.CopyRounds.{in_slot_is_sent, rest_rounds, rounds_at_least}
 use Rattle.trace_laws.proofs.EmptiedNodes.{emptied_at, emptied_set}
 use Rattle.trace_laws.proofs.JournalReadings.{one_more_at_most}
@@ -107,7 +109,8 @@ none_due run count reading (copy ∷ flight) soon rounds between =
 
 -- ---- a node whose messages have arrived
 -- what the start finds in the history: the world's flights into the node, and a full slot of each link, but in round 0
-record IsPrepared (run : Run) (w : World) (t : BusState) (node : ℕ) (journal : List JournalEntry) (u : BusState) : Type 0 where
+record IsPrepared (run : Run) (w : World) (t : BusState) (node : ℕ) (journal : List JournalEntry) (u : BusState) : Type
+    0 where
   history : History run journal u
   of_design : All (IsEntryIn run.design) journal
   going : u.stop ≡ None
@@ -270,7 +273,8 @@ module _ (run : Run) (w : World) (journal : List JournalEntry) (t : BusState) (r
         flight = λ number within to.
             (was number within to).flight
             ∙ sym ((put.links number within).flight
-            ∙ flying_full (slot_at (node_at w.bus (link_at run.design number).target.0) (link_at run.design number).in_port)
+            ∙ flying_full (slot_at (node_at w.bus (link_at run.design number).target.0)
+            (link_at run.design number).in_port)
             (flight_at t number)
             (subst (λ k. is_some (slot_at (node_at w.bus k) (link_at run.design number).in_port) ≡ true) (sym to)
             (full number within to (omega (arith, last)))));
@@ -332,7 +336,8 @@ module _ (run : Run) (w : World) (journal : List JournalEntry) (t : BusState) (r
       let this : link_at run.design number ≡ link =
       get_or_from_slice_get run.design.links number link no_link missed.is_link in
       let begun = missed.begun in
-      let has = filled number within (ap (λ (x : Link). x.target.0) this ∙ missed.to_node) (omega (arith, begun, count)) in
+      let has = filled number within (ap (λ (x : Link). x.target.0) this ∙ missed.to_node)
+      (omega (arith, begun, count)) in
       let lacks : is_some (slot_at (node_at s node.0) (link_at run.design number).in_port) ≡ false =
       ap (λ (x : Link). is_some (slot_at (node_at s node.0) x.in_port)) this ∙ ap is_some missed.empty in
       absurd (false≢true (sym lacks ∙ has))
@@ -451,12 +456,14 @@ module _ (run : Run) (w : World) (journal : List JournalEntry) (t : BusState) (r
       count = k.count + 1;
       phase = Running 0;
       vectors = vectors;
-      outs = replicate (length (plan_of run.design node.0).behaviour.outs) (replicate (plan_of run.design node.0).rate Absent);
+      outs = replicate (length (plan_of run.design node.0).behaviour.outs)
+          (replicate (plan_of run.design node.0).rate Absent);
       sent = false;
     }
 
     begun_is : begun ≡ emptied world_begun
-    begun_is = ap₂ begun_with done.here vectors_are ∙ ap (λ k. begun_with k world_begun.vectors) (sym (emptied_twice here))
+    begun_is = ap₂ begun_with done.here vectors_are
+        ∙ ap (λ k. begun_with k world_begun.vectors) (sym (emptied_twice here))
 
     nodes_are : v.nodes ≡ map emptied bus.nodes
     nodes_are =
@@ -475,14 +482,17 @@ module _ (run : Run) (w : World) (journal : List JournalEntry) (t : BusState) (r
         let target : ℕ = link.target.0 in
         elim (cases_eq target node.0) [
           | inl to ↦
-              let is : node_at bus target ≡ world_begun = ap (node_at bus) to ∙ node_set w.bus node.0 world_begun in_bus in
+              let is : node_at bus target ≡ world_begun =
+              ap (node_at bus) to ∙ node_set w.bus node.0 world_begun in_bus in
               let count : (node_at bus target).count - 1 ≡ here.count =
-              ap (λ (k : NodeState). k.count - 1) is ∙ (let less : here.count + 1 - 1 ≡ here.count = omega arith in less) in
+              ap (λ (k : NodeState). k.count - 1) is ∙
+              (let less : here.count + 1 - 1 ≡ here.count = omega arith in less) in
               let slot : slot_at (node_at bus target) link.in_port ≡ None =
               ap (λ (k : NodeState). slot_at k link.in_port) is
               ∙ get_or-map_constant {Y = Option (List PortValue)} None here.slots link.in_port in
               record {
-                rounds = done.rounds number within to ∙ ap₂ (λ c s. upwards c (s - c)) (sym count) (sym (sent_same number));
+                rounds = done.rounds number within to ∙ ap₂ (λ c s. upwards c (s - c)) (sym count)
+                    (sym (sent_same number));
                 flight = sym (done.flight number within to) ∙ ap (λ o. flying o (flight_at u number)) (sym slot);
                 due = done.between number within to;
               }
@@ -524,7 +534,8 @@ module _ (run : Run) (w : World) (journal : List JournalEntry) (t : BusState) (r
       let x : JournalEntry = entry.Start node here.count (Some reading) in
       let all : (journal ++ arrivals) ++ x ∷ [] ≡ journal ++ recorded run w (event.Start node) =
       append_assoc journal arrivals (x ∷ [])
-      ∙ ap (λ es. journal ++ (arrivals ++ es)) (sym (world_entries_are (journal ++ arrivals) ready_now.0 ready_now.1 later)) in (
+      ∙ ap (λ es. journal ++ (arrivals ++ es))
+      (sym (world_entries_are (journal ++ arrivals) ready_now.0 ready_now.1 later)) in (
         v (journal ++ arrivals) ready_now.0 ready_now.1 later,
         subst (λ told. IsPutOff run (world_after run w (event.Start node)) told
             (v (journal ++ arrivals) ready_now.0 ready_now.1 later)) all

@@ -91,7 +91,8 @@ local_event run w v journal t e node m x put does = record {
   of_design = All-append (IsEntryIn run.design) journal (x ∷ []) put.of_design
       (All-cons (IsEntryIn run.design) x [] does.of_design (All-nil (IsEntryIn run.design)));
   going = put.going;
-  nodes = emptied_set w.bus t node (emptied m) m put.nodes refl ∙ ap (λ (b : BusState). map emptied b.nodes) (sym does.bus_is);
+  nodes = emptied_set w.bus t node (emptied m) m put.nodes refl
+      ∙ ap (λ (b : BusState). map emptied b.nodes) (sym does.bus_is);
   links =
       subst (λ b. LinksArePutOff run b (with_node t node (emptied m))) (sym does.bus_is)
       (local_links run w.bus t node m does.keeps put.links);
@@ -170,7 +171,8 @@ module _ (run : Run) (w : World) (journal : List JournalEntry) (t : BusState) (r
           };
         };
         entry_is =
-            ap (λ (n : NodeState). entry.Step node (round_of n) (unwrap_or (next_step n.phase) 0) (Some reading) ∷ []) at
+            ap (λ (n : NodeState). entry.Step node (round_of n) (unwrap_or (next_step n.phase) 0) (Some reading) ∷ [])
+            at
             ∙ ap (λ o. entry.Step node (round_of here) (unwrap_or o 0) (Some reading) ∷ []) next;
         of_design = (
           (
@@ -216,7 +218,8 @@ module _ (run : Run) (w : World) (journal : List JournalEntry) (t : BusState) (r
       }
 
   pub step_put_off : (fine : FaultlessStep run w node)
-      → (u : BusState) × IsPutOff run (world_after run w (event.Step node)) (journal ++ recorded run w (event.Step node)) u
+      → (u : BusState) × IsPutOff run (world_after run w (event.Step node))
+      (journal ++ recorded run w (event.Step node)) u
   step_put_off fine =
       let next = some_by_test (next_step here.phase) fine.waits in
       let reading : ℕ = reading_at w node.0 in

@@ -1,7 +1,8 @@
 -- The arrivals that a start reads, one after another: each takes the first copy of its link out of flight and leaves it
 -- in its slot.
 use Rattle.std.proofs.Common.{◌≡◌, ◌≢◌, inl, inr, ◌⊎◌, ℕ, zero, suc, ◌+◌, ◌<◌, ◌≤◌, nat_eq, nat_le, Bool, true, false}
-use Rattle.std.proofs.Common.{◌&&◌, List, [], ◌∷◌, ◌++◌, length, map, drop, All, Option, Some, None, refl, sym, ap, ap₂, ◌∙◌}
+use Rattle.std.proofs.Common.{◌&&◌, List, [], ◌∷◌, ◌++◌, length, map, drop, All, Option, Some, None, refl, sym, ap, ap₂}
+use Rattle.std.proofs.Common.{◌∙◌}
 use Rattle.std.proofs.Common.{subst, arith}
 use Rattle.std.specs.Prelude.{is_some, is_none, slice_set, if◌then◌else◌}
 use Rattle.std.specs.List.{AllByRecursion as Every, Contains}
@@ -215,7 +216,8 @@ module _ (run : Run) (w : World) (t : BusState) (round : ℕ) (l : ℕ) (ls : Li
   here_is : emptied (node_at v node) ≡ emptied (node_at t node)
   here_is =
       ap emptied node_is
-      ∙ ap (λ slots. record n { slots = slots }) (map-set_same no_message n.slots port (Some tuple) None refl) ∙ now.here
+      ∙ ap (λ slots. record n { slots = slots }) (map-set_same no_message n.slots port (Some tuple) None refl)
+      ∙ now.here
 
   nodes_are : v.nodes ≡ slice_set t.nodes node (node_at v node)
   nodes_are =
@@ -284,7 +286,8 @@ module _ (run : Run) (w : World) (t : BusState) (round : ℕ) (l : ℕ) (ls : Li
     history = history_more;
     of_design =
         All-append (IsEntryIn run.design) journal (x ∷ []) now.of_design
-        (All-cons (IsEntryIn run.design) x [] (inside, ready.in_range.0, ready.in_range.1) (All-nil (IsEntryIn run.design)));
+        (All-cons (IsEntryIn run.design) x [] (inside, ready.in_range.0, ready.in_range.1)
+        (All-nil (IsEntryIn run.design)));
     going = refl;
     nodes = nodes_are;
     here = here_is;
@@ -322,5 +325,6 @@ read_all run w t node round (l ∷ ls) journal u ready apart now =
     let one = one_read run w t node round l ls journal u now.pending.0.to now.pending.0.within ready now apart.0 in
     let all = read_all run w t node round ls (journal ++ x ∷ []) one.0 ready apart.1 one.1 in (
       all.0,
-      subst (λ j. IsReading run w t node [] j all.0) (append_assoc journal (x ∷ []) (arrivals_of w node round ls)) all.1,
+      subst (λ j. IsReading run w t node [] j all.0) (append_assoc journal (x ∷ []) (arrivals_of w node round ls))
+          all.1,
     )

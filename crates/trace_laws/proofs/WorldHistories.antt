@@ -28,7 +28,8 @@ use Rattle.run_laws.specs.EventLists.{IsWithin, world_left}
 use Rattle.run_laws.specs.HistoriesAndTraces.{opens}
 use Rattle.run_laws.specs.Worlds.{World, opening_world, world_after}
 use Rattle.run_laws.specs.proof.WorldInvariant.{KeepsTime}
-use Rattle.run_laws.proofs.FaultlessEventConditions.{named, starts_in_time, steps_in_time, finishes_in_time, sends_in_time}
+use Rattle.run_laws.proofs.FaultlessEventConditions.{named, starts_in_time, steps_in_time, finishes_in_time}
+use Rattle.run_laws.proofs.FaultlessEventConditions.{sends_in_time}
 use Rattle.run_laws.proofs.FaultlessEventConditions.{arrives_in_time}
 use Rattle.run_laws.proofs.KeptWorldInvariant.{event_keeps_time}
 use Rattle.run_laws.proofs.OpeningWorlds.{opening_keeps_time}
@@ -84,7 +85,8 @@ list_put_off run w journal t (e ∷ events) rules few carried keeps put within =
     )
 
 -- ---- the opening
-map_fixed : {X Y : Type 0} (g : Y → Y) (f : X → Y) → ((x : X) → f x ≡ g (f x)) → (xs : List X) → map f xs ≡ map g (map f xs)
+map_fixed : {X Y : Type 0} (g : Y → Y) (f : X → Y) → ((x : X) → f x ≡ g (f x)) → (xs : List X)
+    → map f xs ≡ map g (map f xs)
 map_fixed g f fixed [] = refl
 map_fixed g f fixed (x ∷ xs) = ap₂ (λ y ys. y ∷ ys) (fixed x) (map_fixed g f fixed xs)
 

@@ -1,5 +1,6 @@
 -- What a list of events within the bounds leaves is a sound trace if all nodes are done, and else it is unfinished.
-use Rattle.std.proofs.Common.{◌≡◌, ℕ, ◌+◌, ◌≤◌, ◌<◌, Bool, true, false, not, ◌&&◌, cond, nat_eq, List, [], ◌∷◌, ◌++◌, length}
+use Rattle.std.proofs.Common.{◌≡◌, ℕ, ◌+◌, ◌≤◌, ◌<◌, Bool, true, false, not, ◌&&◌, cond, nat_eq, List, [], ◌∷◌, ◌++◌}
+use Rattle.std.proofs.Common.{length}
 use Rattle.std.proofs.Common.{map, min, Some, None, inr, suc, subst, refl, sym, ap, ap₂, ◌∙◌, arith}
 use Rattle.std.specs.Prelude.{is_some, is_none, slice_index_or}
 use Rattle.std.specs.List.{fold, list_all}
@@ -127,7 +128,8 @@ module _ (run : Run) (events : List Event) (rules : IsRunOf run) (t : BusState)
       (cond (nat_eq rows (finished_by_all run b)) None (Some rule.Count)))) (Sound rows b.stop))
       at.1.bus at.1.owed
       ∙ ap₂ (λ o b. wrong_or i
-      (cond (is_none o && not b) (Some rule.Unfinished) (cond (nat_eq rows (finished_by_all run t)) None (Some rule.Count)))
+      (cond (is_none o && not b) (Some rule.Unfinished)
+      (cond (nat_eq rows (finished_by_all run t)) None (Some rule.Count)))
       (Sound rows t.stop)) put.going none
       ∙ ap (λ n. Wrong n rule.Unfinished) many
 

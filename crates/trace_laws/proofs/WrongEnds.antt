@@ -1,7 +1,8 @@
 -- A trace that is wrong at its end: its journal is that of a history which is not over, or of one which is over and has
 -- finished another number of rounds.
 use Rattle.std.proofs.Common.{◌⊎◌, inl, inr, ◌≡◌, ℕ, ◌+◌, ◌-◌, ◌/◌, ◌≤◌, nat_eq, Bool, true, false, not, ◌&&◌}
-use Rattle.std.proofs.Common.{cond, All, List, [], ◌∷◌, ◌++◌, length, map, take, drop, Option, Some, None, refl, sym, ap, subst}
+use Rattle.std.proofs.Common.{cond, All, List, [], ◌∷◌, ◌++◌, length, map, take, drop, Option, Some, None, refl, sym}
+use Rattle.std.proofs.Common.{ap, subst}
 use Rattle.std.proofs.Common.{◌∙◌, arith}
 use Rattle.std.specs.Prelude.{is_some, is_none}
 use Rattle.std.specs.List.{list_all}
@@ -25,7 +26,8 @@ use Rattle.run_laws.specs.HistoriesAndTraces.{History}
 use Rattle.run_laws.specs.EntriesInLines.{entry_of_line}
 use Rattle.run_laws.specs.EntriesOfDesigns.{IsEntryIn}
 use Rattle.run_laws.specs.EntryEventsAndReadings.{timed, has_reading, event_of}
-use Rattle.run_laws.specs.TraceRules.{broken, is_in_order, falls, is_before, alarm_at, stop_alarm, too_early, waits, tells_stop}
+use Rattle.run_laws.specs.TraceRules.{broken, is_in_order, falls, is_before, alarm_at, stop_alarm, too_early, waits}
+use Rattle.run_laws.specs.TraceRules.{tells_stop}
 use Rattle.run_laws.specs.TraceRules.{is_line_of}
 use Rattle.run_laws.specs.TraceVerdicts.{Audit, audit_after, line_broken, end_broken, is_done, wrong_or, entry_or}
 use Rattle.run_laws.specs.TraceVerdicts.{journal_verdict, report_size, row_size}
@@ -61,12 +63,14 @@ one_rule : (b : Bool) (x r : TraceRule) → is_of_lines x ≡ true → cond b (S
 one_rule true x r of_lines is = (let same : x ≡ r = cc in ap is_of_lines (sym same)) ∙ of_lines
 one_rule false x r of_lines is = absurd (cc)
 
-stop_rule : (run : Run) (s : BusState) (why : Stop) (r : TraceRule) → stop_alarm run s why ≡ Some r → is_of_lines r ≡ true
+stop_rule : (run : Run) (s : BusState) (why : Stop) (r : TraceRule) → stop_alarm run s why ≡ Some r
+    → is_of_lines r ≡ true
 stop_rule run s (stop.Missed link round reading cause) r is =
     one_rule (is_before reading (alarm_at run s (link_at run.design link.0).target.0)) rule.Alarm r refl is
 stop_rule run s (stop.Early link round reading) r is = absurd (cc)
 
-early_rule : (run : Run) (s : BusState) (e : JournalEntry) (r : TraceRule) → too_early run s e ≡ Some r → is_of_lines r ≡ true
+early_rule : (run : Run) (s : BusState) (e : JournalEntry) (r : TraceRule) → too_early run s e ≡ Some r
+    → is_of_lines r ≡ true
 early_rule run s (entry.Arrive link round reading result) r is = absurd (cc)
 early_rule run s (entry.Start node round reading) r is =
     one_rule (is_before reading (alarm_at run s node.0)) rule.Alarm r refl is
@@ -120,7 +124,8 @@ none_left run rows i a [] why end wrong =
 none_left run rows i a (line ∷ lines) why end wrong =
     let next : Audit = audit_after run a (entry_or (entry_of_line run.design line)) in
     let broke = just_here i i (line_broken run a (entry_of_line run.design line))
-    (journal_verdict run rows (i + 1) next lines) why (omega arith) (wrong_from run rows (i + 1) i next lines why) wrong in
+    (journal_verdict run rows (i + 1) next lines) why (omega arith) (wrong_from run rows (i + 1) i next lines why)
+    wrong in
     absurd (true≢false (sym (line_rule run a (entry_of_line run.design line) why broke) ∙ end))
 
 -- ---- and no rule of rows is broken in a journal
@@ -168,7 +173,8 @@ has_all : (run : Run) (rows : ℕ) (lines : List (List ℕ)) (index : ℕ) (why 
     → is_of_lines why ≡ false → IsInJournal run rows lines index why → HasAll run rows lines index why
 has_all run rows lines index why rules end at =
     let had = at_index run rows lines index why rules at in
-    let left = none_left run rows (report_size lines + at.k) had.audit (drop at.k (journal_lines lines)) why end had.rest in
+    let left = none_left run rows (report_size lines + at.k) had.audit (drop at.k (journal_lines lines)) why end
+    had.rest in
     record {
       told = had.told;
       audit = had.audit;
@@ -182,14 +188,17 @@ has_all run rows lines index why rules end at =
 
 -- a trace without a further line ends at the index
 pub at_end : (run : Run) (rows : ℕ) (lines : List (List ℕ)) (index : ℕ) (why : TraceRule) → IsDesign run.design
-    → is_of_lines why ≡ false → report_size lines ≤ length lines → IsInJournal run rows lines index why → index ≡ length lines
+    → is_of_lines why ≡ false → report_size lines ≤ length lines → IsInJournal run rows lines index why
+    → index ≡ length lines
 at_end run rows lines index why rules end few at =
     let had = at_index run rows lines index why rules at in
-    let left = none_left run rows (report_size lines + at.k) had.audit (drop at.k (journal_lines lines)) why end had.rest in
+    let left = none_left run rows (report_size lines + at.k) had.audit (drop at.k (journal_lines lines)) why end
+    had.rest in
     let none : length (drop at.k (journal_lines lines)) ≡ 0 = ap length left.0 in
     let rest : length (drop at.k (journal_lines lines)) ≡ length (journal_lines lines) - at.k =
     length-drop at.k (journal_lines lines) in
-    let many : length (journal_lines lines) ≡ length lines - report_size lines = length-drop (report_size lines) lines in
+    let many : length (journal_lines lines) ≡ length lines - report_size lines =
+    length-drop (report_size lines) lines in
     let is = at.index_is in let within = at.within in
     omega (arith, none, rest, many, is, within, few)
 
@@ -230,7 +239,8 @@ unfinished_goes_on run rows lines index rules at =
     let parts = unfinished_parts (is_some had.audit.owed) (is_none had.audit.bus.stop && not (all_done had.audit))
     (nat_eq rows (finished_by_all run had.audit.bus)) had.ends in
     let has = has_lines run rows lines index rule.Unfinished had parts.0 in
-    let many = (replay_agrees run has.journal has.state rules (replays run has.journal has.state has.history)).node_count in
+    let many = (replay_agrees run has.journal has.state rules
+    (replays run has.journal has.state has.history)).node_count in
     record { has = has; not_over = λ over. true≢false (sym parts.1 ∙ over_is run has.state many over) }
 
 -- ---- another number of rounds
@@ -255,7 +265,8 @@ counts_others run lines index rules at =
       has = has;
       over = over_or run had.audit.bus (over_by had.audit.bus.stop (all_done had.audit) parts.1);
       other = λ others size_is same.
-          let whole : rows ≡ others = ap (λ n. n / row_size run.design) size_is ∙ mul-div_left others (row_some run.design) in
+          let whole : rows ≡ others = ap (λ n. n / row_size run.design) size_is
+          ∙ mul-div_left others (row_some run.design) in
           true≢false (sym (ap (λ n. nat_eq n (finished_by_all run had.audit.bus)) (whole ∙ same)
           ∙ nat_eq-self (finished_by_all run had.audit.bus)) ∙ parts.2);
     }

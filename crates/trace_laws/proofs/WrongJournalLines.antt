@@ -117,7 +117,8 @@ first_wrong run rows lines index why rules at less =
           subst (λ k. BeginsHistory run (take k (journal_lines lines))) place
           (begins_by run rows size (journal_lines lines) at.k why (at_index run rows lines index why rules at));
       with_it = λ begins.
-          let same : map (entry_line run.design) begins.has.journal ≡ take (suc at.k) (journal_lines lines) ++ begins.later =
+          let same : map (entry_line run.design) begins.has.journal ≡ take (suc at.k) (journal_lines lines)
+          ++ begins.later =
           begins.has.lines_are ∙ ap (λ k. take (suc k) (journal_lines lines) ++ begins.later) (sym place) in
           against run rows size at.k (opening_audit run) (journal_lines lines) begins.later begins.has.journal why
           (passes run begins.has.journal begins.has.state rules begins.has.history begins.has.of_design).0

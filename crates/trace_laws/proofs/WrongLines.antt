@@ -1,5 +1,6 @@
 -- What a wrong trace means, at a line and at its end.
-use Rattle.std.proofs.Common.{◌≡◌, ◌≢◌, ℕ, ◌/◌, ◌≤◌, not, List, length, take, drop, Option, Some, None, refl, sym, ap, subst}
+use Rattle.std.proofs.Common.{◌≡◌, ◌≢◌, ℕ, ◌/◌, ◌≤◌, not, List, length, take, drop, Option, Some, None, refl, sym, ap}
+use Rattle.std.proofs.Common.{subst}
 use Rattle.std.specs.Prelude.{is_some}
 use Rattle.std.proofs.lemmas.List.Sums.{prefix_len-le-length}
 use Rattle.pals_runs.specs.declared.verdicts.TraceRule.{TraceRule}
@@ -62,7 +63,8 @@ row_at : (run : Run) (lines : List (List ℕ)) (index : ℕ) (o : Option ℕ)
     → trace_verdict run (report_size lines) o lines ≡ Wrong index rule.Row → o ≡ Some index
 row_at run lines index (Some at) wrong = let same : at ≡ index = cc in ap Some same
 row_at run lines index None wrong =
-    absurd (no_row run (rows_in run lines) (report_size lines) index (opening_audit run) (drop (report_size lines) lines)
+    absurd (no_row run (rows_in run lines) (report_size lines) index (opening_audit run)
+    (drop (report_size lines) lines)
     wrong)
 
 row_begins : (run : Run) (lines : List (List ℕ)) (index : ℕ) → verdict run lines ≡ Wrong index rule.Row
@@ -81,7 +83,8 @@ wrong_lines_have_a_cause run lines index why rules wrong = record {
   stop = λ is last.
       stop_is_missing run lines index rules last (subst (λ r. verdict run lines ≡ Wrong index r) is wrong);
   journal = λ other less.
-      first_wrong run (rows_in run lines) lines index why rules.design (is_in_journal run lines index why wrong other) less;
+      first_wrong run (rows_in run lines) lines index why rules.design (is_in_journal run lines index why wrong other)
+      less;
   line = λ less. no_trace_begins run lines index why rules less wrong;
   unfinished = λ is.
       unfinished_is_end run lines index rules (subst (λ r. verdict run lines ≡ Wrong index r) is wrong);

@@ -41,7 +41,8 @@ pub record IsFirstWrong (run : Run) (lines : List (List ℕ)) (index : ℕ) : Ty
 -- no trace begins with the lines up to this index
 abbrev pub NoTraceBegins : Run → List (List ℕ) → ℕ → Type 0
 NoTraceBegins run lines index =
-    (later : List (List ℕ)) (rounds : ℕ) (stop : Option Stop) → ¬ IsTraceOf run (take (suc index) lines ++ later) rounds stop
+    (later : List (List ℕ)) (rounds : ℕ) (stop : Option Stop)
+    → ¬ IsTraceOf run (take (suc index) lines ++ later) rounds stop
 
 -- the first lines of the composition's rows
 pub record BeginsReport (run : Run) (lines : List (List ℕ)) : Type 0 where

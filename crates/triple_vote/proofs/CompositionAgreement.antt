@@ -15,7 +15,8 @@ use Rattle.pals_model.specs.ComponentInputs.{values_at}
 use Rattle.pals_model.specs.Composition.{no_frame, comp, state, msg}
 use Rattle.pals_model.proofs.CompositionLaws.{one_frame_each, one_message_each}
 use Rattle.pals_runs.specs.declared.replica_faults.VoteFault.{VoteFault}
-use Rattle.triple_vote.specs.VotedComposition.{is_replicated, copies_of, receivers_in, VotedConfiguration, for_replicas, for_receivers}
+use Rattle.triple_vote.specs.VotedComposition.{is_replicated, copies_of, receivers_in, VotedConfiguration, for_replicas}
+use Rattle.triple_vote.specs.VotedComposition.{for_receivers}
 use Rattle.triple_vote.specs.VotedComposition.{first_frame, first_tuple, replica_steps, receives_on, voted_composition}
 use Rattle.triple_vote.specs.proof.VoteLaws.{ReplicasAreStates, ReceivedAreMessages, TapsShowTuples, unreplicated}
 use Rattle.triple_vote.specs.proof.VoteLaws.{NoReplicasAreComposition}

@@ -34,7 +34,8 @@ RunTo design values received_messages there frames next stages at =
     (k : ℕ) (c : Component) → k < at → slice_get design.components k ≡ Some c → has_replica there k ≡ true
     → IsRun design values received_messages frames next stages k c
 
-module _ (design : DesignParts) (values : List PortValue) (received_messages : List (List PortValue)) (there : List Bool)
+module _ (design : DesignParts) (values : List PortValue) (received_messages : List (List PortValue))
+    (there : List Bool)
     (frames : List Frame) (next : List Part) (stages : List Stage)
     (at : ℕ) (item : Component) (is : slice_get design.components at ≡ Some item)
     (so_far : RunTo design values received_messages there frames next stages at) where
@@ -79,7 +80,8 @@ module _ (design : DesignParts) (values : List PortValue) (received_messages : L
       ]
 
 -- what a component's steps leave, by the frame that its part has and the sources that its stage is given
-module _ (design : DesignParts) (values : List PortValue) (received_messages : List (List PortValue)) (parts : List Part) (node : ℕ)
+module _ (design : DesignParts) (values : List PortValue) (received_messages : List (List PortValue))
+    (parts : List Part) (node : ℕ)
     (item : Component) (from : Part)
     (within : node < length parts) (from_is : from ≡ slice_index_or parts node from) where
   abbrev inputs : List (List PortValue)

@@ -25,7 +25,8 @@ use Rattle.sync_product.specs.proof.ProductSizes.{part_size, part_size_of, stage
 use Rattle.sync_product.specs.proof.Rounds.{frames_of}
 use Rattle.sync_product.proofs.ComponentLists.{count_of_sized}
 use Rattle.triple_vote.specs.declared.replica_layer.Layer.{Layer}
-use Rattle.triple_vote.specs.VotedComposition.{copies_of, VotedConfiguration, frame_at, received_at, first_frame, first_tuple, voted_opening}
+use Rattle.triple_vote.specs.VotedComposition.{copies_of, VotedConfiguration, frame_at, received_at, first_frame}
+use Rattle.triple_vote.specs.VotedComposition.{first_tuple, voted_opening}
 use Rattle.triple_vote.specs.VotedComposition.{voted_tap_by}
 use Rattle.triple_vote.specs.proof.VotedStates.{VotedState, voted_begun, voted_advanced}
 use Rattle.triple_vote.specs.proof.ReplicaLayers.{lengths, frame_sizes, tap_sizes}
@@ -38,7 +39,8 @@ use Rattle.triple_vote.proofs.ThreeLayerUpdates.{room_at}
 use Rattle.triple_vote.proofs.VotedRounds.{replicas-same, receivers-same, within_three, voted_is, shown_is}
 
 abbrev pub voted_state_of : DesignParts → List Bool → VotedConfiguration → List (List PortValue) → VotedState
-voted_state_of design replicated voted shown = record { design = design; replicated = replicated; voted = voted; shown = shown }
+voted_state_of design replicated voted shown =
+    record { design = design; replicated = replicated; voted = voted; shown = shown }
 
 -- ---- before the first round
 voted_opened : (design : DesignParts) (replicated : List Bool) (layers : List Layer)
@@ -73,21 +75,26 @@ pub state_begun : (design : DesignParts) (replicated : List Bool) (layers : List
     (received_messages : List (List (List PortValue))) (shown : List (List PortValue))
     → AreOpened design replicated layers → received_messages ≡ replicate 3 (opening design).messages
     → shown ≡ map (λ (tap : Tap). replicate (rate_of design tap.source.0) Absent) design.taps
-    → voted_state_of design replicated (voted_of design replicated (parts_in layers) received_messages) shown ≡ voted_begun design replicated
+    → voted_state_of design replicated (voted_of design replicated (parts_in layers) received_messages) shown
+    ≡ voted_begun design replicated
 state_begun design replicated layers received_messages shown opened silent absent =
-    ap₂ (voted_state_of design replicated) (voted_opened design replicated layers received_messages opened silent) absent
+    ap₂ (voted_state_of design replicated) (voted_opened design replicated layers received_messages opened silent)
+    absent
 
 -- ---- one more
 pub state_advanced : (design : DesignParts) (replicated : List Bool) (values : List PortValue) (faults : List VoteFault)
     (received_messages next : List (List (List PortValue)))
     (old layers turned : List Layer) (shown_before shown : List (List PortValue)) → IsDesign design
     → AreThree design layers → HaveReplicas design replicated (there_in old)
-    → StayPut old layers → AreMade design values received_messages layers → AllReceived design replicated faults layers next
+    → StayPut old layers → AreMade design values received_messages layers
+    → AllReceived design replicated faults layers next
     → AreShown design replicated layers shown
     → lengths shown ≡ tap_sizes design → AreSwapped layers turned
     → voted_state_of design replicated (voted_of design replicated (parts_in turned) next) shown
-    ≡ voted_advanced (voted_state_of design replicated (voted_of design replicated (parts_in old) received_messages) shown_before) values faults
-state_advanced design replicated values faults received_messages next old layers turned shown_before shown rules are replicas stay
+    ≡ voted_advanced (voted_state_of design replicated (voted_of design replicated (parts_in old) received_messages)
+    shown_before) values faults
+state_advanced design replicated values faults received_messages next old layers turned shown_before shown rules are
+    replicas stay
     made received shows sizes turns =
     let there : HaveReplicas design replicated (there_in layers) =
     subst (HaveReplicas design replicated) (sym stay.there) replicas in
@@ -95,12 +102,15 @@ state_advanced design replicated values faults received_messages next old layers
     =
     sym (length-map shown (λ (t : List PortValue). length t)) ∙ ap length sizes
     ∙ length-map design.taps (λ (tap : Tap). rate_of design tap.source.0) in
-    let before : (List (List (List PortValue))) → VotedConfiguration = λ hs. voted_of design replicated (parts_in layers) hs in
+    let before : (List (List (List PortValue)))
+    → VotedConfiguration = λ hs. voted_of design replicated (parts_in layers) hs in
     ap₂ (λ ps sh. voted_state_of design replicated (voted_of design replicated ps next) sh) turns.parts
     (shown_is design replicated values received_messages layers rules are.three there made shown count shows)
-    ∙ ap (λ w. voted_state_of design replicated w (map (voted_tap_by design replicated values (before received_messages)) design.taps))
+    ∙ ap (λ w. voted_state_of design replicated w
+    (map (voted_tap_by design replicated values (before received_messages)) design.taps))
     (voted_is design replicated values received_messages layers rules are.three there made faults next received)
-    ∙ ap (λ ps. voted_advanced (voted_state_of design replicated (voted_of design replicated ps received_messages) shown_before) values
+    ∙ ap (λ ps. voted_advanced (voted_state_of design replicated (voted_of design replicated ps received_messages)
+    shown_before) values
     faults) stay.parts
 
 -- ---- its observers
@@ -110,7 +120,8 @@ pub frame_read : (design : DesignParts) (replicated : List Bool) (layers : List 
     → layer ≡ slice_index_or layers replica layer
     → node < length layer.parts → part ≡ slice_index_or layer.parts node part
     → part.frame ≡ frame_at (voted_of design replicated (parts_in layers) received_messages) node replica
-frame_read design replicated layers received_messages node replica layer part within below inside layer_is there part_is =
+frame_read design replicated layers received_messages node replica layer part within below inside layer_is there
+    part_is =
     ap (λ (p : Part). p.frame) part_is
     ∙ sym (get_or-map (λ (p : Part). p.frame) layer.parts node part no_frame there)
     ∙ ap (λ (l : Layer). slice_index_or (frames_of l.parts) node no_frame) layer_is
@@ -121,11 +132,13 @@ frame_read design replicated layers received_messages node replica layer part wi
 pub received_read : (design : DesignParts) (replicated : List Bool) (parts : List (List Part))
     (received_messages : List (List (List PortValue))) (l target : ℕ) (link : Link) (tuples : List (List PortValue))
     (tuple : List PortValue)
-    → slice_get design.links l ≡ Some link → target < copies_of replicated link.target.0 → target < length received_messages
+    → slice_get design.links l ≡ Some link → target < copies_of replicated link.target.0
+    → target < length received_messages
     → tuples ≡ slice_index_or received_messages target tuples
     → l < length tuples → tuple ≡ slice_index_or tuples l tuple
     → tuple ≡ received_at (voted_of design replicated parts received_messages) l target
-received_read design replicated parts received_messages l target link tuples tuple is below inside tuples_are there tuple_is =
+received_read design replicated parts received_messages l target link tuples tuple is below inside tuples_are there
+    tuple_is =
     tuple_is ∙ get_or_default tuples l tuple [] there
     ∙ ap (λ ts. slice_index_or ts l []) (tuples_are ∙ get_or_default received_messages target tuples [] inside)
     ∙ sym (receiver_at design replicated (λ k t. tuple_of received_messages t k) l target link is below)
@@ -195,8 +208,10 @@ pub state_advanced_by : (design d1 d2 d3 : DesignParts) (replicated marked : Lis
     → AllReceived d2 marked faults seen next → AreShown d3 marked seen shown → lengths shown ≡ tap_sizes d3
     → AreSwapped layers turned
     → voted_state_of design replicated (voted_of design replicated (parts_in turned) next) shown
-    ≡ voted_advanced (voted_state_of design replicated (voted_of design replicated (parts_in old) received_messages) shown_before) values faults
-state_advanced_by design d1 d2 d3 replicated marked values faults received_messages before next old layers seen turned shown_before
+    ≡ voted_advanced (voted_state_of design replicated (voted_of design replicated (parts_in old) received_messages)
+    shown_before) values faults
+state_advanced_by design d1 d2 d3 replicated marked values faults received_messages before next old layers seen turned
+    shown_before
     shown e1 e2 e3 marks reads sees rules are replicas stay made received
     shows sizes turns =
     state_advanced design replicated values faults received_messages next old layers turned shown_before shown

@@ -25,9 +25,12 @@ use Rattle.pals_model.proofs.FirstMatches.{at_element}
 use Rattle.pals_model.proofs.ShapeLaws.{component_at, message_has_rate}
 use Rattle.pals_runs.specs.declared.replica_faults.VoteFault.{VoteFault}
 use Rattle.triple_vote.specs.Votes.{votes}
-use Rattle.triple_vote.specs.VotedComposition.{is_replicated, copies_of, receivers_in, VotedConfiguration, frame_at, received_at}
-use Rattle.triple_vote.specs.VotedComposition.{for_replicas, for_receivers, first_frame, first_tuple, voted_opening, steps_in}
-use Rattle.triple_vote.specs.VotedComposition.{replica_steps, tuple_at, is_fault, fault_or, own_message, sent_to, vote_of}
+use Rattle.triple_vote.specs.VotedComposition.{is_replicated, copies_of, receivers_in, VotedConfiguration, frame_at}
+use Rattle.triple_vote.specs.VotedComposition.{received_at}
+use Rattle.triple_vote.specs.VotedComposition.{for_replicas, for_receivers, first_frame, first_tuple, voted_opening}
+use Rattle.triple_vote.specs.VotedComposition.{steps_in}
+use Rattle.triple_vote.specs.VotedComposition.{replica_steps, tuple_at, is_fault, fault_or, own_message, sent_to}
+use Rattle.triple_vote.specs.VotedComposition.{vote_of}
 use Rattle.triple_vote.specs.VotedComposition.{receives_on, next_voted, voted_composition, voted_tap_by, voted_tap}
 use Rattle.triple_vote.proofs.TupleVotes.{votes-first_two}
 use Rattle.triple_vote.proofs.ReplicaInputs.{same_inputs}
@@ -64,7 +67,8 @@ pub has_three : (replicated : List Bool) (node replica : ℕ) → is_replicated 
     → replica < copies_of replicated node
 has_three replicated node replica is below = subst (λ b. replica < (if b then 3 else 1)) (sym is) below
 
-pub record Agrees (design : DesignParts) (env : Env) (replicated : List Bool) (v : VotedConfiguration) (round : ℕ) : Type 0 where
+pub record Agrees (design : DesignParts) (env : Env) (replicated : List Bool) (v : VotedConfiguration)
+    (round : ℕ) : Type 0 where
   pub frames : (node replica : ℕ) → node < length design.components → replica < copies_of replicated node
       → frame_at v node replica ≡ state design env node round
   pub received : (l target : ℕ) (link : Link) → slice_get design.links l ≡ Some link
@@ -198,7 +202,8 @@ module _ (design : DesignParts) (env : Env) (replicated : List Bool) (sound : Is
 
   -- ---- all rounds
   module _ (faults : ℕ → List VoteFault) (overruled : (round : ℕ) → AreOverruled design replicated (faults round)) where
-    pub agrees_after : (rounds : ℕ) → Agrees design env replicated (voted_composition design env replicated faults rounds) rounds
+    pub agrees_after : (rounds : ℕ) → Agrees design env replicated
+        (voted_composition design env replicated faults rounds) rounds
     unfolding voted_composition
     agrees_after zero = opening_agrees
     agrees_after (suc round) =

@@ -60,7 +60,8 @@ module _ (design : DesignParts) (rules : IsDesign design) (there : List Bool) (s
 
     pub message_sent : (rows : List (List PortValue)) (written : List PortValue) → rows ≡ stage.rows
         → written ≡ cut stage.sent (column link.out_port rows)
-        → Filled design.links (λ (x : Link). has_replica there x.source.0) (λ at (x : Link). sent_by stages x) sent number
+        → Filled design.links (λ (x : Link). has_replica there x.source.0) (λ at (x : Link). sent_by stages x) sent
+        number
         → Filled design.links (λ (x : Link). has_replica there x.source.0) (λ at (x : Link). sent_by stages x)
         (set sent number written) (number + 1)
     message_sent rows written rows_are is =

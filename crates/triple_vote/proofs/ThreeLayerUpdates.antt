@@ -30,7 +30,8 @@ MadeTo design values received_messages layers at =
 
 pub made_more : (design : DesignParts) (values : List PortValue) (received_messages : List (List (List PortValue)))
     (layers : List Layer) (at : ℕ) (new : Layer) → at < length layers
-    → IsMade design values (slice_index_or received_messages at []) new → MadeTo design values received_messages layers at
+    → IsMade design values (slice_index_or received_messages at []) new
+    → MadeTo design values received_messages layers at
     → MadeTo design values received_messages (set layers at new) (at + 1)
 made_more design values received_messages layers at new within made so_far replica layer below is =
     let upto : replica ≤ at = omega (arith, below) in
@@ -72,12 +73,15 @@ room_at design layers at layer are within is = subst (HasRoom design) (sym is) (
 abbrev HasMessages : DesignParts → List (List PortValue) → Type 0
 HasMessages design tuples = lengths tuples ≡ message_sizes design
 
-pub received_sizes : (design : DesignParts) (received_messages : List (List (List PortValue))) (at : ℕ) (tuples : List (List PortValue))
+pub received_sizes : (design : DesignParts) (received_messages : List (List (List PortValue))) (at : ℕ)
+    (tuples : List (List PortValue))
     → HasReceivedSizes design received_messages → at < length received_messages
     → tuples ≡ slice_index_or received_messages at tuples → lengths tuples ≡ message_sizes design
-received_sizes design received_messages at tuples are within is = subst (HasMessages design) (sym is) (are.sizes at tuples within)
+received_sizes design received_messages at tuples are within is =
+    subst (HasMessages design) (sym is) (are.sizes at tuples within)
 
-pub heard_stay : (design : DesignParts) (received_messages : List (List (List PortValue))) (at : ℕ) (new : List (List PortValue))
+pub heard_stay : (design : DesignParts) (received_messages : List (List (List PortValue))) (at : ℕ)
+    (new : List (List PortValue))
     → HasReceivedSizes design received_messages → lengths new ≡ message_sizes design
     → HasReceivedSizes design (set received_messages at new)
 heard_stay design received_messages at new are fit = record {
@@ -88,7 +92,8 @@ heard_stay design received_messages at new are fit = record {
 abbrev pub ReceivedTo : DesignParts → List Bool → List VoteFault → List Layer → List (List (List PortValue))
     → ℕ → Type 0
 ReceivedTo design replicated faults layers received_messages at =
-    (target : ℕ) → target < at → AreReceived design replicated faults layers target (slice_index_or received_messages target [])
+    (target : ℕ) → target < at → AreReceived design replicated faults layers target
+    (slice_index_or received_messages target [])
 
 pub received_more : (design : DesignParts) (replicated : List Bool) (faults : List VoteFault) (layers : List Layer)
     (received_messages : List (List (List PortValue))) (at : ℕ) (new : List (List PortValue))

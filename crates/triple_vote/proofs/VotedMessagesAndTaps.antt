@@ -162,7 +162,8 @@ there_read layers at layer within is =
 
 module _ (design : DesignParts) (replicated : List Bool) (faults : List VoteFault) (layers : List Layer) (target : ℕ)
     (are : AreThree design layers) (sound : All (IsFault design) faults)
-    (received_messages : List (List PortValue)) (sizes : lengths received_messages ≡ message_sizes design) (items : List Link) (number : ℕ)
+    (received_messages : List (List PortValue)) (sizes : lengths received_messages ≡ message_sizes design)
+    (items : List Link) (number : ℕ)
     (d : Link) (tuple : List PortValue)
     (same : items ≡ design.links) (within : number < length items)
     (tuple_is : tuple ≡ slice_index_or received_messages number tuple) where

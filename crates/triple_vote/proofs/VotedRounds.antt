@@ -27,8 +27,10 @@ use Rattle.pals_runs.specs.declared.replica_faults.VoteFault.{VoteFault}
 use Rattle.sync_product.specs.proof.Rounds.{frames_of}
 use Rattle.triple_vote.specs.declared.replica_layer.Layer.{Layer}
 use Rattle.triple_vote.specs.Votes.{votes}
-use Rattle.triple_vote.specs.VotedComposition.{is_replicated, copies_of, receivers_in, VotedConfiguration, for_replicas, for_receivers}
-use Rattle.triple_vote.specs.VotedComposition.{steps_in, replica_steps, tuple_at, is_fault, fault_or, own_message, sent_to}
+use Rattle.triple_vote.specs.VotedComposition.{is_replicated, copies_of, receivers_in, VotedConfiguration, for_replicas}
+use Rattle.triple_vote.specs.VotedComposition.{for_receivers}
+use Rattle.triple_vote.specs.VotedComposition.{steps_in, replica_steps, tuple_at, is_fault, fault_or, own_message}
+use Rattle.triple_vote.specs.VotedComposition.{sent_to}
 use Rattle.triple_vote.specs.VotedComposition.{vote_of, receives_on, next_voted, voted_tap_by}
 use Rattle.triple_vote.specs.proof.ReplicaLayers.{has_replica, frame_made, rows_made}
 use Rattle.triple_vote.specs.proof.ThreeLayers.{there_in, parts_in, next_in, sent_in, shown_in, frame_of, tuple_of}
@@ -194,7 +196,8 @@ module _ (design : DesignParts) (replicated : List Bool) (values : List PortValu
   received_by faults l target link true is replicas =
       let sends : ℕ → List PortValue → List PortValue =
       λ replica own. fault_or (find (is_fault l (suc replica) (suc target)) faults) own in
-      let own : (replica : ℕ) → replica < 3 → tuple_of (sent_in layers) replica l ≡ own_message design values v link replica
+      let own : (replica : ℕ) → replica < 3 → tuple_of (sent_in layers) replica l
+      ≡ own_message design values v link replica
       = λ replica below. own_sent l replica link is (has_three replicated link.source.0 replica replicas below) in
       ap₂ (λ x y. votes (sends 0 x) (sends 1 y) (sends 2 (tuple_of (sent_in layers) 2 l))) (own 0 (omega arith))
       (own 1 (omega arith))

@@ -2,7 +2,8 @@
 use Rattle.std.proofs.Common.{◌∙◌, zero, suc, map, refl, ap, ap₂}
 use Rattle.pals_model.specs.declared.design.DesignParts.{DesignParts}
 use Rattle.pals_model.specs.ComponentInputs.{values_at}
-use Rattle.triple_vote.specs.VotedComposition.{VotedConfiguration, next_voted, voted_composition, voted_tap_by, voted_tap}
+use Rattle.triple_vote.specs.VotedComposition.{VotedConfiguration, next_voted, voted_composition, voted_tap_by}
+use Rattle.triple_vote.specs.VotedComposition.{voted_tap}
 use Rattle.triple_vote.specs.proof.VotedStates.{VotedState, voted_state_after}
 use Rattle.triple_vote.specs.proof.VoteLaws.{StandsAtVotes, ShowsVotes}
 

@@ -108,7 +108,8 @@ own_message design values v link replica =
     cut (sent_steps design.gamma design.period (rate_of design link.source.0))
     (tuple_at design values v link.source.0 link.out_port replica)
 
-abbrev pub sent_to : DesignParts → List PortValue → List VoteFault → VotedConfiguration → ℕ → Link → ℕ → ℕ → List PortValue
+abbrev pub sent_to : DesignParts → List PortValue → List VoteFault → VotedConfiguration → ℕ → Link → ℕ → ℕ
+    → List PortValue
 sent_to design values faults v l link target replica =
     fault_or (find (is_fault l (suc replica) (suc target)) faults) (own_message design values v link replica)
 
@@ -117,7 +118,8 @@ sent_to design values faults v l link target replica =
 abbrev pub vote_of : (ℕ → List PortValue) → List PortValue
 vote_of tuple = votes (tuple 0) (tuple 1) (tuple 2)
 
-abbrev pub receives_on : DesignParts → List Bool → List PortValue → List VoteFault → VotedConfiguration → ℕ → ℕ → Option Link
+abbrev pub receives_on : DesignParts → List Bool → List PortValue → List VoteFault → VotedConfiguration → ℕ → ℕ
+    → Option Link
     → List PortValue
 receives_on design replicated values faults v l target None = []
 receives_on design replicated values faults v l target (Some link) =
@@ -125,7 +127,8 @@ receives_on design replicated values faults v l target (Some link) =
     else own_message design values v link 0
 
 -- ---- one round, with these values of the root in ports, and these faults
-abbrev pub next_voted : DesignParts → List Bool → List PortValue → List VoteFault → VotedConfiguration → VotedConfiguration
+abbrev pub next_voted : DesignParts → List Bool → List PortValue → List VoteFault → VotedConfiguration
+    → VotedConfiguration
 next_voted design replicated values faults v = record {
   frames = for_replicas design replicated (λ node replica. (replica_steps design values v node replica).frame);
   received =
@@ -137,7 +140,8 @@ next_voted design replicated values faults v = record {
 unfoldable pub voted_composition : DesignParts → Env → List Bool → (ℕ → List VoteFault) → ℕ → VotedConfiguration
 voted_composition design env replicated faults zero = voted_opening design replicated
 voted_composition design env replicated faults (suc round) =
-    next_voted design replicated (values_at env round) (faults round) (voted_composition design env replicated faults round)
+    next_voted design replicated (values_at env round) (faults round)
+    (voted_composition design env replicated faults round)
 
 -- ---- its observers
 -- the whole tuple that a root out port shows: for a component with three replicas, the vote

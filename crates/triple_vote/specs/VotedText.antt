@@ -42,7 +42,8 @@ voted_lines design env replicated faults round =
     (λ tap. voted_tap design env replicated faults tap round) round
 
 abbrev pub voted_report : DesignParts → Env → List Bool → (ℕ → List VoteFault) → ℕ → List ℕ
-voted_report design env replicated faults n = text_of (flat_map (voted_lines design env replicated faults) (upwards 0 n))
+voted_report design env replicated faults n =
+    text_of (flat_map (voted_lines design env replicated faults) (upwards 0 n))
 
 -- ---- the report of the composition, with each line of a replicated component three times
 abbrev pub tripled_lines : DesignParts → Env → List Bool → ℕ → List (List ℕ)

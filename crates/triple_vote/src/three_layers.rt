@@ -5,7 +5,8 @@ ghost use Rattle.pals_model.specs.Composition.{opening};
 ghost use Rattle.sync_product.specs.proof.ProductSizes.{stage_size, stage_sizes};
 ghost use Rattle.triple_vote.specs.proof.FaultTables.{AreFirst};
 ghost use Rattle.triple_vote.specs.proof.VoteLaws.{IsFault};
-ghost use Rattle.triple_vote.specs.proof.ThreeLayers.{AreThree, AreOpened, AreMade, StayPut, HasReceivedSizes, AllReceived};
+ghost use Rattle.triple_vote.specs.proof.ThreeLayers.{AreThree, AreOpened, AreMade, StayPut, HasReceivedSizes};
+ghost use Rattle.triple_vote.specs.proof.ThreeLayers.{AllReceived};
 ghost use Rattle.triple_vote.specs.proof.ThreeLayers.{AreSwapped};
 
 use crate::fault_table::FaultTable;

@@ -20,7 +20,8 @@ use Rattle.bus_machine.specs.proof.AgreementLaws.{IsRunOf}
 use Rattle.run_laws.specs.Worlds.{world_run}
 use Rattle.run_laws.proofs.WorldLinkTiming.{rule_of}
 use Rattle.world_gen.specs.declared.event_series.EventSeries.{EventSeries}
-use Rattle.world_gen.specs.proof.Schedules.{step_time, finish_time, send_time, arrive_time, number_at_moment, event_list, all_of}
+use Rattle.world_gen.specs.proof.Schedules.{step_time, finish_time, send_time, arrive_time, number_at_moment}
+use Rattle.world_gen.specs.proof.Schedules.{event_list, all_of}
 use Rattle.world_gen.specs.proof.Schedules.{step_count, begins, starts_at, finishes_at, sends_at, arrivals_at, finishes}
 use Rattle.world_gen.specs.proof.Schedules.{earlier_finishes, present_finishes, events_at}
 use Rattle.world_gen.specs.proof.EventSeries.{IsEventSeries, time_of, series_events, events_of, begin_series}
@@ -87,7 +88,8 @@ both_events moment xs ys as' bs one two =
 times_fit : (first total : ℕ) → first ≤ 3 * HOUR → total ≤ ROUNDS * HOUR → first + total ≤ READING
 times_fit first total near few = omega arith
 
-if_all : (b : Bool) (xs ys : List EventSeries) → All IsEventSeries xs → All IsEventSeries ys → All IsEventSeries (if b then xs else ys)
+if_all : (b : Bool) (xs ys : List EventSeries) → All IsEventSeries xs → All IsEventSeries ys
+    → All IsEventSeries (if b then xs else ys)
 if_all true xs ys one two = one
 if_all false xs ys one two = two
 
@@ -175,7 +177,8 @@ module _ (design : DesignParts) (rules : IsDesign design) (rounds : ℕ) where
         → step_count design rounds node * (plan_of design node).step_period ≤ ROUNDS * HOUR
     all_steps node below =
         let round = whole run is_run node below in
-        let product : rounds * ((plan_of design node).rate * (plan_of design node).step_period) ≡ rounds * design.period = ap (λ x. rounds * x) round in
+        let product : rounds * ((plan_of design node).rate * (plan_of design node).step_period)
+        ≡ rounds * design.period = ap (λ x. rounds * x) round in
         let most = all_rounds in
         omega arith
 

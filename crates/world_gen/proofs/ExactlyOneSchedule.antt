@@ -14,7 +14,8 @@ use Rattle.bus_machine.specs.Plans.{plan_of, link_at}
 use Rattle.bus_machine.specs.RunParameters.{Run}
 use Rattle.bus_machine.specs.proof.AgreementLaws.{IsRunOf}
 use Rattle.world_gen.specs.proof.ScheduleLaws.{MomentsExist, MomentsAreOne}
-use Rattle.world_gen.specs.proof.Schedules.{step_time, finish_time, send_time, arrive_time, number_at_moment, event_list, all_of}
+use Rattle.world_gen.specs.proof.Schedules.{step_time, finish_time, send_time, arrive_time, number_at_moment}
+use Rattle.world_gen.specs.proof.Schedules.{event_list, all_of}
 use Rattle.world_gen.specs.proof.Schedules.{step_count, begins, starts_at, finishes_at, sends_at, arrivals_at, finishes}
 use Rattle.world_gen.specs.proof.Schedules.{earlier_finishes, present_finishes, events_at, AreMoments}
 use Rattle.run_laws.proofs.TimeArithmetic.{alarm_more}
@@ -64,10 +65,12 @@ module _ (run : Run) (rules : IsRunOf run) where
   step_early j below number few =
       let one = step_at run rules j below number in
       let all = whole run rules j below in
-      let more : (number + 1) * (plan_of run.design j).step_period ≤ step_count run.design run.rounds j * (plan_of run.design j).step_period =
+      let more : (number + 1) * (plan_of run.design j).step_period ≤ step_count run.design run.rounds j *
+      (plan_of run.design j).step_period =
       mul-le (number + 1) (plan_of run.design j).step_period (step_count run.design run.rounds j)
       (plan_of run.design j).step_period (omega arith) (omega arith) in
-      let rounds : run.rounds * ((plan_of run.design j).rate * (plan_of run.design j).step_period) ≡ run.rounds * run.design.period = ap (λ x. run.rounds * x) all in
+      let rounds : run.rounds * ((plan_of run.design j).rate * (plan_of run.design j).step_period)
+      ≡ run.rounds * run.design.period = ap (λ x. run.rounds * x) all in
       omega arith
 
   send_early : (j : ℕ) → j < length run.design.components → (round : ℕ) → round < run.rounds
@@ -110,7 +113,8 @@ module _ (run : Run) (rules : IsRunOf run) where
       (nil_both (all_of count (sends_at design rounds moment))
       (all_of (length design.links) (arrivals_at design rounds moment))
       (nothing_all count (sends_at design rounds moment)
-      (λ j below. nothing_of (number_at_moment (send_time design j) rounds moment) (λ round. event.Send (record { 0 = j }))
+      (λ j below. nothing_of (number_at_moment (send_time design j) rounds moment)
+      (λ round. event.Send (record { 0 = j }))
       (late_none (send_time design j) rounds moment (number_at_moment (send_time design j) rounds moment) refl
       (λ round few. let early = send_early j below round few in omega arith))))
       (nothing_all (length design.links) (arrivals_at design rounds moment)

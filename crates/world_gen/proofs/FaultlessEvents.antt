@@ -113,7 +113,8 @@ first_none f [] none = refl
 first_none f (x ∷ xs) none =
     none_both (f x) (first_of (map f xs)) (none 0 x refl) (first_none f xs (λ k y is. none (suc k) y is))
 
-none_past : (time : ℕ) (subject : EventSubject) (last : Option ℕ) → KeepsDeadline time last → past time subject last ≡ None
+none_past : (time : ℕ) (subject : EventSubject) (last : Option ℕ) → KeepsDeadline time last
+    → past time subject last ≡ None
 none_past time subject None in_time = refl
 none_past time subject (Some last) in_time =
     found_none (nat_lt last time) (fault.PastDeadline subject last) (le-ltb last time in_time)
@@ -187,7 +188,8 @@ pass_is_fine run w time skew forward clocks nodes messages =
     (λ k number is.
     first_none (copy_past run w time number) (flight_at w.bus number)
     (λ place copy is_copy.
-    none_past time (subject.Message (record { 0 = number }) copy.round) (Some (message_deadline run w number copy.round))
+    none_past time (subject.Message (record { 0 = number }) copy.round)
+    (Some (message_deadline run w number copy.round))
     (messages number place copy
     (let at = upwards_is 0 (length run.design.links) k number is in omega (arith, at.0, at.1)) is_copy))))
     refl)))))

@@ -131,7 +131,8 @@ comes_next c from moment (Some n) sound is now =
     }
 
 -- ---- all of them
-none_before : (from moment : ℕ) (all_series : List EventSeries) → AreLate from moment all_series → (time : ℕ) → from ≤ time
+none_before : (from moment : ℕ) (all_series : List EventSeries) → AreLate from moment all_series → (time : ℕ)
+    → from ≤ time
     → time < moment → events_of all_series time ≡ []
 none_before from moment [] late time after before = refl
 none_before from moment (c ∷ cs) late time after before =
@@ -161,7 +162,8 @@ record SomethingAt (all_series : List EventSeries) (from moment : ℕ) : Type 0 
   after : from ≤ moment
   reading : moment ≤ READING
 
-some_at : (from moment : ℕ) (all_series : List EventSeries) → All IsEventSeries all_series → OneIsAt from moment all_series
+some_at : (from moment : ℕ) (all_series : List EventSeries) → All IsEventSeries all_series
+    → OneIsAt from moment all_series
     → SomethingAt all_series from moment
 some_at from moment [] sound there = absurd there
 some_at from moment (c ∷ cs) sound (inl here) =

@@ -140,7 +140,8 @@ after_moment c moment n is later =
       | inr more ↦ let rises = times_rise c n k more in let there = next.reached in later (omega arith)
     ]))
 
-pub over_at : (c : EventSeries) (moment : ℕ) → next_of c moment ≡ None → number_at_moment (time_of c) c.count moment ≡ None
+pub over_at : (c : EventSeries) (moment : ℕ) → next_of c moment ≡ None
+    → number_at_moment (time_of c) c.count moment ≡ None
 over_at c moment none =
     no_number (λ k. nat_eq (time_of c k) moment) c.count
     (λ k below. ne_eqb (time_of c k) moment (λ same. let early = all_before c moment k none below in omega arith))

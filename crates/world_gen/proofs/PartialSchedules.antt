@@ -58,7 +58,8 @@ pub record GoesOn (design : DesignParts) (rounds from moment : ℕ) (events : Li
 
 pub goes_on : (design : DesignParts) (rounds from moment : ℕ) (all_series : List EventSeries) (nodes : ℕ)
     (events after : List Event) → IsDesign design → rounds ≤ ROUNDS
-    → all_series ≡ timetable design rounds → nodes ≡ length design.components → Some moment ≡ next_moment all_series from
+    → all_series ≡ timetable design rounds → nodes ≡ length design.components
+    → Some moment ≡ next_moment all_series from
     → after ≡ events ++ moment_events nodes all_series moment
     → IsSoFar design rounds from events → GoesOn design rounds from moment after
 goes_on design rounds from moment all_series nodes events after rules few are count is is_after so_far =

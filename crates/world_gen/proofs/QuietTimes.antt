@@ -17,7 +17,8 @@ use Rattle.bus_machine.specs.MissedMessages.{rounds_sent_on}
 use Rattle.bus_machine.specs.Nodes.{sent_rounds}
 use Rattle.bus_machine.specs.proof.AgreementLaws.{IsRunOf}
 use Rattle.run_laws.specs.Worlds.{World, since_at, ready_at, sendings}
-use Rattle.world_gen.specs.proof.Schedules.{step_time, finish_time, send_time, arrive_time, number_at_moment, event_list, all_of}
+use Rattle.world_gen.specs.proof.Schedules.{step_time, finish_time, send_time, arrive_time, number_at_moment}
+use Rattle.world_gen.specs.proof.Schedules.{event_list, all_of}
 use Rattle.world_gen.specs.proof.Schedules.{step_count, begins, starts_at, finishes_at, sends_at, arrivals_at, finishes}
 use Rattle.world_gen.specs.proof.Schedules.{earlier_finishes, present_finishes, events_at}
 use Rattle.world_gen.proofs.ScheduleTimes.{CountBefore, which_none, made_none}
@@ -25,7 +26,8 @@ use Rattle.pals_model.specs.declared.flight_copy.FlightCopy.{FlightCopy}
 use Rattle.run_laws.specs.proof.WorldInvariant.{copies}
 use Rattle.run_laws.proofs.WorldNodeTiming.{rounds_at_most}
 use Rattle.run_laws.proofs.WorldLinkTiming.{rule_of, under_way}
-use Rattle.world_gen.proofs.WorldsOnSchedule.{begun_by, ended_by, NodeOnSchedule, LinkOnSchedule, IsOnSchedule, bump, bump_done}
+use Rattle.world_gen.proofs.WorldsOnSchedule.{begun_by, ended_by, NodeOnSchedule, LinkOnSchedule, IsOnSchedule, bump}
+use Rattle.world_gen.proofs.WorldsOnSchedule.{bump_done}
 use Rattle.world_gen.proofs.WorldsOnSchedule.{bump_left, bump_other}
 
 -- ---- no event is at a time
@@ -79,10 +81,12 @@ is_quiet design rounds time none =
           λ j below. none_of (number_at_moment (finish_time design j) (step_count design rounds j) time)
           (λ number. event.Finish (record { 0 = j })) (nothing_at count (finishes_at design rounds time) j ends below);
       sends =
-          λ j below. none_of (number_at_moment (send_time design j) rounds time) (λ round. event.Send (record { 0 = j }))
+          λ j below. none_of (number_at_moment (send_time design j) rounds time)
+          (λ round. event.Send (record { 0 = j }))
           (nothing_at count (sends_at design rounds time) j four.0 below);
       arrivals =
-          λ l below. none_of (number_at_moment (arrive_time design l) rounds time) (λ round. event.Arrive (record { 0 = l }) round)
+          λ l below. none_of (number_at_moment (arrive_time design l) rounds time)
+          (λ round. event.Arrive (record { 0 = l }) round)
           (nothing_at (length design.links) (arrivals_at design rounds time) l four.1 below);
     }
 

@@ -226,9 +226,11 @@ pub parts_are_design : (n : ℕ) (components : List Component) (links : List Lin
     → IsDesign (parts_of components links feeds taps ignored)
 parts_are_design n components links feeds taps ignored some most same_components same_links no_feeds no_taps
     none_ignored =
-    let first : parts_of components links feeds taps ignored ≡ parts_of (ring n).components (ring n).links feeds taps ignored =
+    let first : parts_of components links feeds taps ignored
+    ≡ parts_of (ring n).components (ring n).links feeds taps ignored =
     ap₂ (λ (c : List Component) (l : List Link). parts_of c l feeds taps ignored) same_components same_links in
-    let second : parts_of (ring n).components (ring n).links feeds taps ignored ≡ parts_of (ring n).components (ring n).links [] [] ignored =
+    let second : parts_of (ring n).components (ring n).links feeds taps ignored
+    ≡ parts_of (ring n).components (ring n).links [] [] ignored =
     ap₂ (λ (f : List Feed) (t : List Tap). parts_of (ring n).components (ring n).links f t ignored) no_feeds no_taps in
     let third : parts_of (ring n).components (ring n).links [] [] ignored ≡ ring n =
     ap (λ (i : List (List ℕ)). parts_of (ring n).components (ring n).links [] [] i) none_ignored in

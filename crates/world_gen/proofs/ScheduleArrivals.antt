@@ -54,7 +54,8 @@ module _ (run : Run) (rules : IsRunOf run) (w : World) (moment : ℕ) (fin st se
   abbrev lf : LinkOnSchedule run l (rounds_sent_on run w.bus l) flight (ar l)
   lf = follows.links l within
 
-  abbrev nf : NodeOnSchedule run source (node_at w.bus source) (since_at w source) (ready_at w source) (sendings w source)
+  abbrev nf : NodeOnSchedule run source (node_at w.bus source) (since_at w source) (ready_at w source)
+      (sendings w source)
       (fin source) (st source) (se source)
   nf = follows.nodes source from
 
@@ -155,7 +156,8 @@ module _ (run : Run) (rules : IsRunOf run) (w : World) (moment : ℕ) (fin st se
               let flies : flight_at bus i ≡ flight_at w.bus i =
               get_or-set_other w.bus.flights l i (without_oldest round flight) [] other in
               subst (λ f. LinkOnSchedule run i (rounds_sent_on run w.bus i) f (later i)) (sym flies)
-              (subst (λ x. LinkOnSchedule run i (rounds_sent_on run w.bus i) (flight_at w.bus i) x) (sym (others i other))
+              (subst (λ x. LinkOnSchedule run i (rounds_sent_on run w.bus i) (flight_at w.bus i) x)
+              (sym (others i other))
               (follows.links i inside))
         ])
 

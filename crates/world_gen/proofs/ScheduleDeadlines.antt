@@ -145,7 +145,9 @@ module _ (run : Run) (rules : IsRunOf run) (w : World) (time moment : ℕ)
         rounds_fit (here.count + 1) (omega arith) in
         let late : moment ≤ step_time run.design j (here.count * k + 0) =
         begun.after (here.count * k + 0) (omega arith) (omega arith) in
-        let one : step_time run.design j (here.count * k + 0) ≡ alarm run.design.period here.count + 0 * (plan_of run.design j).step_period = step_is run rules j below here.count 0 some in
+        let one : step_time run.design j (here.count * k + 0)
+        ≡ alarm run.design.period here.count + 0 * (plan_of run.design j).step_period =
+        step_is run rules j below here.count 0 some in
         let in_time : moment ≤ last_before (start_alarm (plan_of run.design j) here) run.design.gamma.eps =
         omega arith in
         in_time
@@ -154,7 +156,8 @@ module _ (run : Run) (rules : IsRunOf run) (w : World) (time moment : ℕ)
         let inside = within_round here.count agrees.under_way.round step agrees.under_way.count agrees.within in
         let all = rounds_fit here.count (rounds_at_most run w rules follows.keeps j below) in
         let ended =
-        subst (λ x. CountBefore (finish_time run.design j) (step_count run.design run.rounds j) (ended_by k here.count x)
+        subst (λ x. CountBefore (finish_time run.design j) (step_count run.design run.rounds j)
+        (ended_by k here.count x)
         moment) same nf.ended in
         let late : moment ≤ finish_time run.design j number = ended.after number (omega arith) (omega arith) in
         let since : since_at w j ≡ step_time run.design j number = nf.since_is step same
@@ -171,7 +174,8 @@ module _ (run : Run) (rules : IsRunOf run) (w : World) (time moment : ℕ)
         subst (λ x. CountBefore (step_time run.design j) (step_count run.design run.rounds j) (begun_by k here.count x)
         moment) same nf.begun in
         let late : moment ≤ step_time run.design j number = begun.after number (omega arith) (omega arith) in
-        let one : step_time run.design j number ≡ alarm run.design.period (here.count - 1) + steps * (plan_of run.design j).step_period = step_is run rules j below (here.count - 1) steps agrees.0.within in
+        let one : step_time run.design j number ≡ alarm run.design.period (here.count - 1) + steps *
+        (plan_of run.design j).step_period = step_is run rules j below (here.count - 1) steps agrees.0.within in
         let in_time : moment ≤ last_before (step_alarm (plan_of run.design j) here steps) run.design.gamma.eps =
         omega arith in
         in_time

@@ -28,7 +28,8 @@ use Rattle.run_laws.proofs.LocalWorldChanges.{moved_here, moved_other}
 use Rattle.run_laws.proofs.WorldInvariantAfterFinishes.{Ends, goes_on, holds, waits_next, is_done, not_running}
 use Rattle.run_laws.proofs.WorldInvariantAfterFinishes as finish
 use Rattle.world_gen.proofs.ScheduleTimes.{CountBefore, which_is, which_next, made_next, step_is, finishes_rise}
-use Rattle.world_gen.proofs.WorldsOnSchedule.{begun_by, ended_by, NodeOnSchedule, IsOnSchedule, follows_again, follows_put}
+use Rattle.world_gen.proofs.WorldsOnSchedule.{begun_by, ended_by, NodeOnSchedule, IsOnSchedule, follows_again}
+use Rattle.world_gen.proofs.WorldsOnSchedule.{follows_put}
 use Rattle.world_gen.proofs.WorldsOnSchedule.{links_follow}
 
 -- how many steps are begun where a step ends, and how many are finished
@@ -97,8 +98,10 @@ module _ (run : Run) (rules : IsRunOf run) (w : World) (moment : ℕ) (fin st se
   not_begun : (q : Phase) → here.phase ≡ q → begun_by k here.count q ≡ ended_by k here.count q → ⊥
   not_begun q same none_runs =
       let number_is = next_at q same in
-      let begun : CountBefore (step_time run.design j) (step_count run.design run.rounds j) (begun_by k here.count q) (st j) =
-      subst (λ x. CountBefore (step_time run.design j) (step_count run.design run.rounds j) (begun_by k here.count x) (st j))
+      let begun : CountBefore (step_time run.design j) (step_count run.design run.rounds j) (begun_by k here.count q)
+      (st j) =
+      subst (λ x. CountBefore (step_time run.design j) (step_count run.design run.rounds j) (begun_by k here.count x)
+      (st j))
       same nf.begun in
       let waits : st j ≤ step_time run.design j number = begun.after number at.0 (omega arith) in
       let here_at = at.1 in
@@ -175,10 +178,14 @@ module _ (run : Run) (rules : IsRunOf run) (w : World) (moment : ℕ) (fin st se
           let all : step + 1 ≡ (plan_of run.design j).sent_steps =
           eqb-true (step + 1) (plan_of run.design j).sent_steps last in
           let this : step ≡ (plan_of run.design j).sent_steps - 1 = omega arith in
-          let product : step * (plan_of run.design j).step_period ≡ ((plan_of run.design j).sent_steps - 1) * (plan_of run.design j).step_period = ap (λ x. x * (plan_of run.design j).step_period) this in
+          let product : step * (plan_of run.design j).step_period
+          ≡ ((plan_of run.design j).sent_steps - 1) * (plan_of run.design j).step_period =
+          ap (λ x. x * (plan_of run.design j).step_period) this in
           let time = follows.time in
           let here_at = at.1 in
-          let is_step : step_time run.design j ((here.count - 1) * k + step) ≡ alarm run.design.period (here.count - 1) + step * (plan_of run.design j).step_period = step_is run rules j within (here.count - 1) step below in
+          let is_step : step_time run.design j ((here.count - 1) * k + step)
+          ≡ alarm run.design.period (here.count - 1) + step * (plan_of run.design j).step_period =
+          step_is run rules j within (here.count - 1) step below in
           let same : step_time run.design j number ≡ step_time run.design j ((here.count - 1) * k + step) =
           ap (step_time run.design j) number_is in
           omega arith
@@ -192,7 +199,8 @@ module _ (run : Run) (rules : IsRunOf run) (w : World) (moment : ℕ) (fin st se
           ended_is in omega arith in
           record {
             begun =
-                subst (λ m. CountBefore (step_time run.design j) (step_count run.design run.rounds j) m (st j)) (sym begun_is)
+                subst (λ m. CountBefore (step_time run.design j) (step_count run.design run.rounds j) m (st j))
+                (sym begun_is)
                 (subst (λ x. CountBefore (step_time run.design j) (step_count run.design run.rounds j)
                 (begun_by k here.count x) (st j)) runs nf.begun);
             ended =

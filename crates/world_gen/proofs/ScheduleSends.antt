@@ -26,7 +26,8 @@ use Rattle.run_laws.specs.Worlds.{World, since_at, ready_at, sendings, moved, is
 use Rattle.run_laws.specs.EventFaults.{fault_of}
 use Rattle.bus_machine.proofs.StateChangeAgreement.{node_set, node_stays}
 use Rattle.run_laws.specs.proof.WorldInvariant.{copies, one_if}
-use Rattle.world_gen.specs.proof.Schedules.{step_time, finish_time, send_time, arrive_time, number_at_moment, step_count}
+use Rattle.world_gen.specs.proof.Schedules.{step_time, finish_time, send_time, arrive_time, number_at_moment}
+use Rattle.world_gen.specs.proof.Schedules.{step_count}
 use Rattle.run_laws.proofs.Lists.{count_more}
 use Rattle.run_laws.proofs.WorldNodeTiming.{fits_at, may_be, phase_agrees, rounds_at_most}
 use Rattle.run_laws.proofs.WorldLinkTiming.{one_of_true, one_true}
@@ -35,9 +36,11 @@ use Rattle.world_gen.proofs.FaultlessEvents.{send_is_fine}
 use Rattle.run_laws.proofs.LocalWorldChanges.{moved_here, moved_other}
 use Rattle.run_laws.proofs.WorldInvariantAfterSends.{runs_before}
 use Rattle.run_laws.proofs.WorldInvariantAfterSends as send
-use Rattle.world_gen.proofs.ScheduleTimes.{CountBefore, which_is, which_next, made_next, step_is, sends_rise, send_after}
+use Rattle.world_gen.proofs.ScheduleTimes.{CountBefore, which_is, which_next, made_next, step_is, sends_rise}
+use Rattle.world_gen.proofs.ScheduleTimes.{send_after}
 use Rattle.world_gen.proofs.ScheduleTimes.{some_rate}
-use Rattle.world_gen.proofs.WorldsOnSchedule.{begun_by, ended_by, NodeOnSchedule, LinkOnSchedule, IsOnSchedule, follows_again}
+use Rattle.world_gen.proofs.WorldsOnSchedule.{begun_by, ended_by, NodeOnSchedule, LinkOnSchedule, IsOnSchedule}
+use Rattle.world_gen.proofs.WorldsOnSchedule.{follows_again}
 use Rattle.world_gen.proofs.WorldsOnSchedule.{follows_put}
 
 -- a send leaves the steps that are begun and finished
@@ -127,7 +130,9 @@ module _ (run : Run) (rules : IsRunOf run) (w : World) (moment : ℕ) (fin st se
       let begun = most_begun here.phase refl in
       let waits : st j ≤ step_time run.design j (here.count * k + 0) =
       nf.begun.after (here.count * k + 0) (omega arith) (omega arith) in
-      let one : step_time run.design j (here.count * k + 0) ≡ alarm run.design.period here.count + 0 * (plan_of run.design j).step_period = step_is run rules j within here.count 0 some in
+      let one : step_time run.design j (here.count * k + 0)
+      ≡ alarm run.design.period here.count + 0 * (plan_of run.design j).step_period =
+      step_is run rules j within here.count 0 some in
       let late : alarm run.design.period here.count ≤ send_time run.design j here.count =
       send_after run rules j within here.count in
       let same : send_time run.design j number ≡ send_time run.design j here.count =
@@ -155,12 +160,14 @@ module _ (run : Run) (rules : IsRunOf run) (w : World) (moment : ℕ) (fin st se
       let inside = within_round here.count round k (s - 1) counted few in
       let most = rounds_at_most run w rules follows.keeps j within in
       let product : here.count * k ≤ run.rounds * k = mul-le here.count k run.rounds k most (omega arith) in
-      let one : step_time run.design j last ≡ alarm run.design.period (here.count - 1) + (s - 1) * (plan_of run.design j).step_period = step_is run rules j within (here.count - 1) (s - 1) few in
+      let one : step_time run.design j last ≡ alarm run.design.period (here.count - 1) + (s - 1) *
+      (plan_of run.design j).step_period = step_is run rules j within (here.count - 1) (s - 1) few in
       let rounds : alarm run.design.period number ≡ alarm run.design.period (here.count - 1) =
       ap (alarm run.design.period) last_is in
       let here_at = at.1 in
       let finishes = finishes_are in
-      let ended : CountBefore (finish_time run.design j) (step_count run.design run.rounds j) (ended_by k here.count q) (fin j) =
+      let ended : CountBefore (finish_time run.design j) (step_count run.design run.rounds j) (ended_by k here.count q)
+      (fin j) =
       subst (λ x. CountBefore (finish_time run.design j) (step_count run.design run.rounds j) (ended_by k here.count x)
       (fin j)) same nf.ended in
       elim (cases_lt last (ended_by k here.count q)) [

@@ -30,9 +30,11 @@ use Rattle.run_laws.proofs.FaultlessEventConditions.{FaultlessStart, starts_in_t
 use Rattle.world_gen.proofs.FaultlessEvents.{start_is_fine, step_is_fine}
 use Rattle.run_laws.proofs.WorldInvariantAfterStarts as start
 use Rattle.run_laws.proofs.WorldInvariantAfterSteps as on
-use Rattle.world_gen.proofs.ScheduleTimes.{CountBefore, which_is, which_next, made_next, step_is, steps_rise, next_step_after}
+use Rattle.world_gen.proofs.ScheduleTimes.{CountBefore, which_is, which_next, made_next, step_is, steps_rise}
+use Rattle.world_gen.proofs.ScheduleTimes.{next_step_after}
 use Rattle.world_gen.proofs.ScheduleTimes.{send_before, some_rate}
-use Rattle.world_gen.proofs.WorldsOnSchedule.{begun_by, ended_by, NodeOnSchedule, IsOnSchedule, follows_again, follows_put}
+use Rattle.world_gen.proofs.WorldsOnSchedule.{begun_by, ended_by, NodeOnSchedule, IsOnSchedule, follows_again}
+use Rattle.world_gen.proofs.WorldsOnSchedule.{follows_put}
 use Rattle.world_gen.proofs.WorldsOnSchedule.{links_follow}
 
 pred_is : (n m : ℕ) → n ≡ suc m → n - 1 ≡ m
@@ -67,7 +69,8 @@ module _ (run : Run) (rules : IsRunOf run) (w : World) (moment : ℕ) (fin st se
   made_at q same =
       subst (λ x. CountBefore (step_time run.design j) (step_count run.design run.rounds j) (begun_by k here.count x)
       moment) same
-      (subst (λ b. CountBefore (step_time run.design j) (step_count run.design run.rounds j) (begun_by k here.count here.phase)
+      (subst (λ b. CountBefore (step_time run.design j) (step_count run.design run.rounds j)
+      (begun_by k here.count here.phase)
       b) starts_are nf.begun)
 
   -- it is the next step of the node
@@ -138,11 +141,13 @@ module _ (run : Run) (rules : IsRunOf run) (w : World) (moment : ℕ) (fin st se
             begun =
                 subst (λ b. CountBefore (step_time run.design j) (step_count run.design run.rounds j)
                 (begun_by k (here.count + 1) (Running 0)) b) (sym now)
-                (subst (λ m. CountBefore (step_time run.design j) (step_count run.design run.rounds j) m (suc moment)) one_more
+                (subst (λ m. CountBefore (step_time run.design j) (step_count run.design run.rounds j) m (suc moment))
+                one_more
                 (made_next (step_time run.design j) (step_count run.design run.rounds j) (here.count * k) moment
                 (steps_rise run rules j within)
                 (ap (step_time run.design j) (sym number_is) ∙ at.1) (made_at Waiting waits)));
-            ended = subst (λ m. CountBefore (finish_time run.design j) (step_count run.design run.rounds j) m (fin j)) so_far
+            ended = subst (λ m. CountBefore (finish_time run.design j) (step_count run.design run.rounds j) m (fin j))
+                so_far
                 (subst (λ x. CountBefore (finish_time run.design j) (step_count run.design run.rounds j)
                 (ended_by k here.count x) (fin j)) waits nf.ended);
             sent = subst (λ m. CountBefore (send_time run.design j) run.rounds m (se j)) (sym sent_is) nf.sent;
@@ -216,7 +221,8 @@ module _ (run : Run) (rules : IsRunOf run) (w : World) (moment : ℕ) (fin st se
             begun =
                 subst (λ b. CountBefore (step_time run.design j) (step_count run.design run.rounds j)
                 (begun_by k here.count (Running step)) b) (sym now)
-                (subst (λ m. CountBefore (step_time run.design j) (step_count run.design run.rounds j) m (suc moment)) one_more
+                (subst (λ m. CountBefore (step_time run.design j) (step_count run.design run.rounds j) m (suc moment))
+                one_more
                 (made_next (step_time run.design j) (step_count run.design run.rounds j) ((here.count - 1) * k + step)
                 moment (steps_rise run rules j within)
                 (ap (step_time run.design j) (sym number_is) ∙ at.1) (made_at (Between step) between)));
@@ -259,7 +265,8 @@ module _ (run : Run) (rules : IsRunOf run) (w : World) (moment : ℕ) (fin st se
         let follows_on : number ≡ suc last = omega arith in
         let below = at.0 in
         let ended : CountBefore (finish_time run.design j) (step_count run.design run.rounds j) last (fin j) =
-        subst (λ x. CountBefore (finish_time run.design j) (step_count run.design run.rounds j) (ended_by k here.count x)
+        subst (λ x. CountBefore (finish_time run.design j) (step_count run.design run.rounds j)
+        (ended_by k here.count x)
         (fin j)) runs nf.ended in
         let waits : fin j ≤ finish_time run.design j last = ended.after last (omega arith) (omega arith) in
         let apart : step_time run.design j (suc last) ≡ step_time run.design j last + p =

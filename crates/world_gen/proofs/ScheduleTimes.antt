@@ -25,7 +25,8 @@ which_is time count moment number is =
     let same : found.0 ≡ number = let one = at.0 in omega arith in
     (at.1, eqb-true (time number) moment (ap (λ k. nat_eq (time k) moment) (sym same) ∙ found.2))
 
-pub which_none : (time : ℕ → ℕ) (count moment : ℕ) → number_at_moment time count moment ≡ None → (number : ℕ) → number < count
+pub which_none : (time : ℕ → ℕ) (count moment : ℕ) → number_at_moment time count moment ≡ None → (number : ℕ)
+    → number < count
     → time number ≡ moment → ⊥
 which_none time count moment none number below is =
     let fails =
@@ -51,7 +52,8 @@ made_later time count made bound later forward quiet m = record {
 }
 
 -- at a moment at which none comes
-pub made_none : (time : ℕ → ℕ) (count made moment : ℕ) → number_at_moment time count moment ≡ None → CountBefore time count made moment
+pub made_none : (time : ℕ → ℕ) (count made moment : ℕ) → number_at_moment time count moment ≡ None
+    → CountBefore time count made moment
     → CountBefore time count made (suc moment)
 made_none time count made moment none m =
     made_later time count made moment (suc moment) (omega arith)

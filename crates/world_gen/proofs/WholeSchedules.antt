@@ -21,14 +21,16 @@ use Rattle.bus_machine.proofs.MessageAndRunAgreement.{node_opens}
 use Rattle.run_laws.specs.Worlds.{World, opening_world, since_at, ready_at, sendings, world_after}
 use Rattle.run_laws.specs.EventLists.{world_left}
 use Rattle.world_gen.specs.proof.ScheduleLaws.{SchedulesAreWhole}
-use Rattle.world_gen.specs.proof.Schedules.{step_time, finish_time, send_time, arrive_time, number_at_moment, all_of, step_count}
+use Rattle.world_gen.specs.proof.Schedules.{step_time, finish_time, send_time, arrive_time, number_at_moment, all_of}
+use Rattle.world_gen.specs.proof.Schedules.{step_count}
 use Rattle.world_gen.specs.proof.Schedules.{begins, starts_at, finishes_at, sends_at, arrivals_at, finishes, events_at}
 use Rattle.world_gen.specs.proof.Schedules.{AreMoments, schedule_at}
 use Rattle.run_laws.proofs.WorldNodeTiming.{phase_agrees, rounds_at_most}
 use Rattle.run_laws.proofs.WorldLinkTiming.{rule_of}
 use Rattle.run_laws.proofs.OpeningWorlds.{opening_keeps_time, not_running}
 use Rattle.world_gen.proofs.ScheduleTimes.{CountBefore, which_none, some_rate, some_step, least_step}
-use Rattle.world_gen.proofs.WorldsOnSchedule.{begun_by, ended_by, NodeOnSchedule, IsOnSchedule, LeadsWithin, runs_none, runs_on}
+use Rattle.world_gen.proofs.WorldsOnSchedule.{begun_by, ended_by, NodeOnSchedule, IsOnSchedule, LeadsWithin, runs_none}
+use Rattle.world_gen.proofs.WorldsOnSchedule.{runs_on}
 use Rattle.world_gen.proofs.WorldsOnSchedule.{runs_all, runs_event, bump, bump_done, bump_left, bump_other}
 use Rattle.world_gen.proofs.QuietTimes.{is_quiet, follows_same, none_starts, none_ends, none_sends, none_arrives}
 use Rattle.world_gen.proofs.ScheduleStartsAndSteps.{start_comes}
@@ -51,7 +53,8 @@ module _ (run : Run) (rules : IsRunOf run) (moment : ℕ) where
   -- ---- each kind of event
   ends_all : (st se ar : ℕ → ℕ) → ((j : ℕ) → j < many → moment < st j + amin) → (w : World)
       → IsOnSchedule run w moment (all_at moment) st se ar
-      → LeadsWithin run w (finishes run.design run.rounds moment) (λ v. IsOnSchedule run v moment (all_at (suc moment)) st se ar)
+      → LeadsWithin run w (finishes run.design run.rounds moment)
+      (λ v. IsOnSchedule run v moment (all_at (suc moment)) st se ar)
   ends_all st se ar room w follows =
       let P : ℕ → World → Type 0 = λ j v. IsOnSchedule run v moment (bump moment j) st se ar in
       runs_as run w (finishes run.design run.rounds moment) (P many)
@@ -263,7 +266,8 @@ module _ (run : Run) (rules : IsRunOf run) (w : World) (time from : ℕ)
         let number = (here.count - 1) * k + step in
         let inside = within_rounds agrees.under_way.round step agrees.under_way.count agrees.within in
         let ended =
-        subst (λ x. CountBefore (finish_time run.design j) (step_count run.design run.rounds j) (ended_by k here.count x)
+        subst (λ x. CountBefore (finish_time run.design j) (step_count run.design run.rounds j)
+        (ended_by k here.count x)
         from) same nf.ended in
         absurd (no_end number inside (ended.after number inside (omega arith)))
     done_by (Between steps) same agrees =

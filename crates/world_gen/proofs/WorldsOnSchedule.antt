@@ -70,7 +70,8 @@ pub record IsOnSchedule (run : Run) (w : World) (moment : ℕ) (finishes starts 
   pub time : w.time ≡ moment
   pub readings : (node : ℕ) → node < length run.design.components → reading_at w node ≡ moment
   pub nodes : (node : ℕ) → node < length run.design.components
-      → NodeOnSchedule run node (node_at w.bus node) (since_at w node) (ready_at w node) (sendings w node) (finishes node)
+      → NodeOnSchedule run node (node_at w.bus node) (since_at w node) (ready_at w node) (sendings w node)
+      (finishes node)
       (starts node) (sends node)
   pub links : (number : ℕ) → number < length run.design.links
       → LinkOnSchedule run number (rounds_sent_on run w.bus number) (flight_at w.bus number) (arrivals number)
@@ -137,23 +138,30 @@ module _ (run : Run) (w : World) (bus : BusState) (since ready : List ℕ) (sent
             (slice_index_or sent_at j []) (finishes_now j) (starts_now j) (sends_now j)) (sym is) here
         | inr other ↦
             let before = follows.nodes k within in
-            let one : NodeOnSchedule run k (node_at bus k) (since_at w k) (ready_at w k) (sendings w k) (finishes k) (starts k) (sends k) =
+            let one : NodeOnSchedule run k (node_at bus k) (since_at w k) (ready_at w k) (sendings w k) (finishes k)
+            (starts k) (sends k) =
             subst (λ (n : NodeState).
             NodeOnSchedule run k n (since_at w k) (ready_at w k) (sendings w k) (finishes k) (starts k) (sends k))
             (sym (changes.nodes k other)) before in
-            let two : NodeOnSchedule run k (node_at bus k) (slice_index_or since k 0) (ready_at w k) (sendings w k) (finishes k) (starts k) (sends k) =
-            subst (λ x. NodeOnSchedule run k (node_at bus k) x (ready_at w k) (sendings w k) (finishes k) (starts k) (sends k))
+            let two : NodeOnSchedule run k (node_at bus k) (slice_index_or since k 0) (ready_at w k) (sendings w k)
+            (finishes k) (starts k) (sends k) =
+            subst (λ x. NodeOnSchedule run k (node_at bus k) x (ready_at w k) (sendings w k) (finishes k) (starts k)
+            (sends k))
             (sym (changes.since_stays k other)) one in
-            let three : NodeOnSchedule run k (node_at bus k) (slice_index_or since k 0) (slice_index_or ready k 0) (sendings w k) (finishes k) (starts k) (sends k) =
+            let three : NodeOnSchedule run k (node_at bus k) (slice_index_or since k 0) (slice_index_or ready k 0)
+            (sendings w k) (finishes k) (starts k) (sends k) =
             subst (λ x. NodeOnSchedule run k (node_at bus k) (slice_index_or since k 0) x (sendings w k) (finishes k)
             (starts k) (sends k)) (sym (changes.ready_stays k other)) two in
-            let four : NodeOnSchedule run k (node_at bus k) (slice_index_or since k 0) (slice_index_or ready k 0) (slice_index_or sent_at k []) (finishes k) (starts k) (sends k) =
+            let four : NodeOnSchedule run k (node_at bus k) (slice_index_or since k 0) (slice_index_or ready k 0)
+            (slice_index_or sent_at k []) (finishes k) (starts k) (sends k) =
             subst (λ x. NodeOnSchedule run k (node_at bus k) (slice_index_or since k 0) (slice_index_or ready k 0) x
             (finishes k) (starts k) (sends k)) (sym (changes.sent_stays k other)) three in
-            let five : NodeOnSchedule run k (node_at bus k) (slice_index_or since k 0) (slice_index_or ready k 0) (slice_index_or sent_at k []) (finishes_now k) (starts k) (sends k) =
+            let five : NodeOnSchedule run k (node_at bus k) (slice_index_or since k 0) (slice_index_or ready k 0)
+            (slice_index_or sent_at k []) (finishes_now k) (starts k) (sends k) =
             subst (λ x. NodeOnSchedule run k (node_at bus k) (slice_index_or since k 0) (slice_index_or ready k 0)
             (slice_index_or sent_at k []) x (starts k) (sends k)) (sym (same k other).0) four in
-            let six : NodeOnSchedule run k (node_at bus k) (slice_index_or since k 0) (slice_index_or ready k 0) (slice_index_or sent_at k []) (finishes_now k) (starts_now k) (sends k) =
+            let six : NodeOnSchedule run k (node_at bus k) (slice_index_or since k 0) (slice_index_or ready k 0)
+            (slice_index_or sent_at k []) (finishes_now k) (starts_now k) (sends k) =
             subst (λ x. NodeOnSchedule run k (node_at bus k) (slice_index_or since k 0) (slice_index_or ready k 0)
             (slice_index_or sent_at k []) (finishes_now k) x (sends k)) (sym (same k other).1) five in
             subst (λ x. NodeOnSchedule run k (node_at bus k) (slice_index_or since k 0) (slice_index_or ready k 0)

@@ -55,7 +55,8 @@ module _ (run : Run) (w : World) (rules : IsRunOf run) (keeps : KeepsTime run w)
   -- a node that holds a round may send it
   held_may_send : n.phase ≡ Holding → may_send plan n ≡ true
   held_may_send is =
-      let unsent = held_of run node (component_at run.design node) n (node_agrees run w.bus node keeps.agrees within) is in
+      let unsent = held_of run node (component_at run.design node) n (node_agrees run w.bus node keeps.agrees within)
+      is in
       let few = (plan_rules run node rules within).few in
       ap (λ p. not n.sent && option_map_or (nat_le plan.sent_steps) (finished_steps plan.rate p) false) is
       ∙ ap (λ b. not b && nat_le plan.sent_steps plan.rate) unsent ∙ leb-from plan.sent_steps plan.rate few
@@ -115,8 +116,8 @@ module _ (run : Run) (rules : IsRunOf run) where
   from work below w keeps most =
       elim (first_or_none (λ node. HasLast (node_deadline run w node)) (λ node. (node_at w.bus node).phase ≡ Done)
       (length run.design.components)
-      (λ node within. elim (done_or_last run w rules keeps node within) [ | inl done ↦ inr done | inr last ↦ inl last ]))
-      [
+      (λ node within. elim (done_or_last run w rules keeps node within)
+      [ inl done ↦ inr done | inr last ↦ inl last ])) [
         | inr done ↦ record { events = []; within = tt; done = done }
         | inl first ↦
             until work below first.found.last w keeps most first.place first.found.last first.within first.found.is

@@ -1,5 +1,6 @@
 -- The report on timed events, event by event, and that in the end it is the text of their world, or their first fault.
-use Rattle.std.proofs.Common.{◌≡◌, ◌∙◌, inl, inr, ℕ, ◌+◌, ◌<◌, ◌≤◌, Bool, true, false, List, [], ◌++◌, length, take, Some}
+use Rattle.std.proofs.Common.{◌≡◌, ◌∙◌, inl, inr, ℕ, ◌+◌, ◌<◌, ◌≤◌, Bool, true, false, List, [], ◌++◌, length, take}
+use Rattle.std.proofs.Common.{Some}
 use Rattle.std.proofs.Common.{None, refl, sym, ap, subst, append-nil}
 use Rattle.std.specs.Prelude.{slice_index_or, if◌then◌else◌}
 use Rattle.std.proofs.lemmas.Bool.{ltb-true}
@@ -104,7 +105,8 @@ pub opens : (design : DesignParts) (codes : List CodeParts) (env : Env) (rounds 
 opens design codes env rounds v is = subst IsOpening (sym is) (record { bus = refl; world = refl; run = refl })
 
 pub world_told : (old new : WorldValue) (events : List Event) (sent text : List ℕ) → IsOpening old → IsRunOf new.bus.run
-    → new.bus.run.rounds ≤ ROUNDS → LeadsTelling old events new [] sent → text ≡ text_of (finished_lines new.bus) ++ sent
+    → new.bus.run.rounds ≤ ROUNDS → LeadsTelling old events new [] sent
+    → text ≡ text_of (finished_lines new.bus) ++ sent
     → IsToldWorld old.bus.run events text
 world_told old new events sent text opening rules few telling is =
     let run = old.bus.run in

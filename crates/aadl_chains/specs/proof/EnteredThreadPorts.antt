@@ -44,12 +44,14 @@ pub record IsLinkBelow (tree : PackageTree ℕ) (n sub : ℕ) (port : Port) : Ty
 
 -- a connection comes from an own port
 abbrev pub IsFromOwn : PackageTree ℕ → ℕ → ℕ → ℕ → Type 0
-IsFromOwn tree n k q = (wire : ConnectionPorts) × (slice_get (connection_ports_at tree n) k ≡ Some wire) × (wire.source ≡ Some (Own q))
+IsFromOwn tree n k q = (wire : ConnectionPorts) × (slice_get (connection_ports_at tree n) k ≡ Some wire)
+    × (wire.source ≡ Some (Own q))
 
 -- it comes from a port of a subcomponent that carries a thread's value
 abbrev pub IsFromThread : PackageTree ℕ → ℕ → ℕ → Type 0
 IsFromThread tree n k =
-    (wire : ConnectionPorts) × (t q : ℕ) × (slice_get (connection_ports_at tree n) k ≡ Some wire) × (wire.source ≡ Some (Inner t q))
+    (wire : ConnectionPorts) × (t q : ℕ) × (slice_get (connection_ports_at tree n) k ≡ Some wire)
+    × (wire.source ≡ Some (Inner t q))
     × ReachesIn tree directions.Out n t q
 
 -- one of the first i elements satisfies P

@@ -20,7 +20,8 @@ pub record FindsAll (P : PackageFault → Type 0) (old new : Option PackageFault
 
 -- the connection with a number is on a connection chain
 abbrev pub IsOnChainAt : PackageTree ℕ → ℕ → ℕ → ℕ → Type 0
-IsOnChainAt tree root n k = (wire : ConnectionPorts) × (slice_get (connection_ports_at tree n) k ≡ Some wire) × IsOnChain tree root n wire
+IsOnChainAt tree root n k = (wire : ConnectionPorts) × (slice_get (connection_ports_at tree n) k ≡ Some wire)
+    × IsOnChain tree root n wire
 
 -- it is on none, or it has the same target as an earlier one
 pub record IsFoundAt (tree : PackageTree ℕ) (root n k : ℕ) (fault : PackageFault) : Type 0 where

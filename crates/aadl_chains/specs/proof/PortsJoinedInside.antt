@@ -39,7 +39,8 @@ outer_end directions.Out wire = wire.target
 -- subcomponent.
 pub data Reaches (tree : PackageTree ℕ) (d : Direction) : ℕ → ℕ → Type 0 where
   of_thread : {n port : ℕ} → is_thread_at tree n ≡ true → is_way d (is_in_at tree n port) ≡ true → Reaches tree d n port
-  of_inner : {n port : ℕ} (s p m : ℕ) (wire : ConnectionPorts) → is_thread_at tree n ≡ false → Contains (connection_ports_at tree n) wire
+  of_inner : {n port : ℕ} (s p m : ℕ) (wire : ConnectionPorts) → is_thread_at tree n ≡ false
+      → Contains (connection_ports_at tree n) wire
       → outer_end d wire ≡ Some (Own port)
       → inner_end d wire ≡ Some (Inner s p)
       → below tree n s ≡ Some m → Reaches tree d m p → Reaches tree d n port
@@ -67,7 +68,8 @@ joined_inner ports tree d n port (Some (Own p)) = None
 joined_inner ports tree d n port (Some (Inner s p)) =
     if reaches_in ports tree d (below tree n s) p then Some port else None
 
-abbrev pub joined_by : List PortAt → PackageTree ℕ → Direction → ℕ → Option NumberedPort → Option NumberedPort → Option ℕ
+abbrev pub joined_by : List PortAt → PackageTree ℕ → Direction → ℕ → Option NumberedPort → Option NumberedPort
+    → Option ℕ
 joined_by ports tree d n None inner = None
 joined_by ports tree d n (Some (Inner s p)) inner = None
 joined_by ports tree d n (Some (Own port)) inner = joined_inner ports tree d n port inner
@@ -86,7 +88,8 @@ abbrev pub HasAllBelow : PackageTree ℕ → Direction → List PortAt → ℕ �
 HasAllBelow tree d ports n = (s m : ℕ) → below tree n s ≡ Some m → HasAll tree d ports m
 
 -- a set after the port that one connection joins
-pub record IsJoined (tree : PackageTree ℕ) (d : Direction) (n : ℕ) (wire : ConnectionPorts) (old new : List PortAt) : Type 0 where
+pub record IsJoined (tree : PackageTree ℕ) (d : Direction) (n : ℕ) (wire : ConnectionPorts)
+    (old new : List PortAt) : Type 0 where
   pub kept : (port : PortAt) → Contains old port → Contains new port
   pub sound : is_thread_at tree n ≡ false → Contains (connection_ports_at tree n) wire → AreReaching tree d old
       → AreReaching tree d new

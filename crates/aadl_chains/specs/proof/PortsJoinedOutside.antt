@@ -10,7 +10,8 @@ use Rattle.aadl_uses.specs.declared.connections_by_target.ConnectionPorts.{Conne
 use Rattle.aadl_uses.specs.PortsOfConnections.{connection_ports_at}
 use Rattle.aadl_chains.specs.declared.port_set.PortAt.{PortAt}
 use Rattle.aadl_chains.specs.proof.PortSets.{has}
-use Rattle.aadl_chains.specs.proof.PortsJoinedInside.{inner_end, outer_end, Reaches, ReachesIn, declaration_port, reaches_in}
+use Rattle.aadl_chains.specs.proof.PortsJoinedInside.{inner_end, outer_end, Reaches, ReachesIn, declaration_port}
+use Rattle.aadl_chains.specs.proof.PortsJoinedInside.{reaches_in}
 use Rattle.aadl_tree.specs.declared.declarations.Direction.TheVariants as directions
 
 abbrev pub opposite : Direction → Direction
@@ -25,7 +26,8 @@ pub data LeadsOut (tree : PackageTree ℕ) (root : ℕ) (d : Direction) : ℕ �
   of_own : {n port : ℕ} (k s q : ℕ) (wire : ConnectionPorts) → Contains (connection_ports_at tree k) wire
       → inner_end d wire ≡ Some (Inner s port) → outer_end d wire ≡ Some (Own q)
       → below tree k s ≡ Some n → LeadsOut tree root d k q → LeadsOut tree root d n port
-  of_beside : {n port : ℕ} (k s t q m : ℕ) (wire : ConnectionPorts) → IsInUse tree root k → Contains (connection_ports_at tree k) wire
+  of_beside : {n port : ℕ} (k s t q m : ℕ) (wire : ConnectionPorts) → IsInUse tree root k
+      → Contains (connection_ports_at tree k) wire
       → inner_end d wire ≡ Some (Inner s port)
       → outer_end d wire ≡ Some (Inner t q)
       → below tree k s ≡ Some n → below tree k t ≡ Some m → Reaches tree (opposite d) m q → LeadsOut tree root d n port
@@ -64,10 +66,12 @@ AreLeading tree root d ports = (n port : ℕ) → Contains ports (declaration_po
 
 -- each port of the implementation that leads out is in the set, or the implementation is the root
 abbrev pub HasLeading : PackageTree ℕ → ℕ → Direction → List PortAt → ℕ → Type 0
-HasLeading tree root d ports n = (port : ℕ) → LeadsOut tree root d n port → (n ≡ root) ⊎ Contains ports (declaration_port n port)
+HasLeading tree root d ports n = (port : ℕ) → LeadsOut tree root d n port
+    → (n ≡ root) ⊎ Contains ports (declaration_port n port)
 
 -- a set after the port that one connection joins to the outside
-pub record IsLed (tree : PackageTree ℕ) (root : ℕ) (d : Direction) (inside : List PortAt) (n : ℕ) (wire : ConnectionPorts)
+pub record IsLed (tree : PackageTree ℕ) (root : ℕ) (d : Direction) (inside : List PortAt) (n : ℕ)
+    (wire : ConnectionPorts)
     (old new : List PortAt) : Type 0 where
   pub kept : (port : PortAt) → Contains old port → Contains new port
   pub sound : IsInUse tree root n → Contains (connection_ports_at tree n) wire → AreLeading tree root d old

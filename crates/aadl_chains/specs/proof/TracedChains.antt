@@ -24,11 +24,13 @@ pub record IsGiver (tree : PackageTree ℕ) (root : ℕ) (end from : Port) : Typ
   pub out : is_in tree root from ≡ false
   pub chain : List ConnectionAt
   pub leads : Leads tree root chain from end
-  pub only : (cs : List ConnectionAt) (other : Port) → IsStart tree root other → Leads tree root cs other end → other ≡ from
+  pub only : (cs : List ConnectionAt) (other : Port) → IsStart tree root other → Leads tree root cs other end
+      → other ≡ from
 
 -- the thread that provides the value of a port, or `None` if no chain leads there
 abbrev pub Descends : PackageTree ℕ → ℕ → Port → Option ChainStart → Type 0
-Descends tree root end None = (cs : List ConnectionAt) (from : Port) → IsStart tree root from → Leads tree root cs from end → ⊥
+Descends tree root end None = (cs : List ConnectionAt) (from : Port) → IsStart tree root from
+    → Leads tree root cs from end → ⊥
 Descends tree root end (Some (begins.Root port)) = ⊥
 Descends tree root end (Some (begins.Thread path port)) = IsGiver tree root end (begin_port (begins.Thread path port))
 
@@ -39,7 +41,8 @@ IsOfKind tree root (begins.Thread path port) ends = IsLink tree root ends
 -- the only link or feed to a port
 pub record IsRoute (tree : PackageTree ℕ) (root : ℕ) (to : Port) (route : ChainRoute) : Type 0 where
   pub kind : IsOfKind tree root route.begin (carried_chain to route)
-  pub only : (ends : CarriedChain) → IsLink tree root ends ⊎ IsFeed tree root ends → ends.to ≡ to → ends ≡ carried_chain to route
+  pub only : (ends : CarriedChain) → IsLink tree root ends ⊎ IsFeed tree root ends → ends.to ≡ to
+      → ends ≡ carried_chain to route
 
 -- the only link or feed, or `None` if there is none
 abbrev pub Traces : PackageTree ℕ → ℕ → Port → Option ChainRoute → Type 0

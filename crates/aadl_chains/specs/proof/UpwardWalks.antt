@@ -28,7 +28,8 @@ pub data WalkEnd : Type 0 where
 
 abbrev pub walk_back_by : (ℕ → ℕ → WalkEnd) → List ℕ → ℕ → ℕ → NumberedPort → WalkEnd
 walk_back_by up path n k (Own q) = up k q
-walk_back_by up path n k (Inner t p) = crosses (record { path = path; declaration = n; connection = k; sub = t; port = p })
+walk_back_by up path n k (Inner t p) = crosses
+    (record { path = path; declaration = n; connection = k; sub = t; port = p })
 
 abbrev pub walk_back_along : (ℕ → ℕ → WalkEnd) → List ℕ → ℕ → Option (ℕ × NumberedPort) → WalkEnd
 walk_back_along up path n None = nowhere
@@ -46,7 +47,8 @@ walk_back tree root last (s ∷ path) port =
 
 -- each port has at most one incoming connection of an implementation in use
 abbrev pub OneEach : PackageTree ℕ → ℕ → Type 0
-OneEach tree root = (n i j : ℕ) (target : NumberedPort) → IsInUse tree root n → target_in (connection_ports_at tree n) i ≡ Some target
+OneEach tree root = (n i j : ℕ) (target : NumberedPort) → IsInUse tree root n
+    → target_in (connection_ports_at tree n) i ≡ Some target
     → target_in (connection_ports_at tree n) j ≡ Some target → i ≡ j
 
 -- an in port of a thread

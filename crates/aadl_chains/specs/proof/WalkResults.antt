@@ -16,7 +16,8 @@ use Rattle.aadl_chains.specs.declared.chain_tracing.WalkResult.TheVariants as en
 abbrev pub entry : PackageTree ℕ → Option ℕ → ℕ → ℕ → Option ConnectionInto
 entry tree None s port = None
 entry tree (Some n) s port =
-    option_map (λ from. record { declaration = n; connection = from.0; source = from.1 }) (connection_into tree n (Inner s port))
+    option_map (λ from. record { declaration = n; connection = from.0; source = from.1 })
+    (connection_into tree n (Inner s port))
 
 abbrev pub crossing : List ℕ → CrossConnection → Crossing
 crossing path c =

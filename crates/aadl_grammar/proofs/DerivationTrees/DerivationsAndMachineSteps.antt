@@ -26,7 +26,8 @@ pub data Derives : Stack → List PlainTerminal → Type 0 where
   nothing : Derives [] []
   take : (x : Symbol) (below : Stack) (r : Row) (kind : PlainTerminal) (ks : List PlainTerminal) → Member r (rows x)
       → fits r.first kind ≡ true → Derives (r.wanted ++ below) ks → Derives (x ∷ below) (kind ∷ ks)
-  omit : (x : Symbol) (below : Stack) (ks : List PlainTerminal) → can_omit x ≡ true → Derives below ks → Derives (x ∷ below) ks
+  omit : (x : Symbol) (below : Stack) (ks : List PlainTerminal) → can_omit x ≡ true → Derives below ks
+      → Derives (x ∷ below) ks
 
 pub member_first : (r : Row) (rs : List Row) (kind : PlainTerminal) → Member r rs → fits r.first kind ≡ true
     → among (kind_number kind) (firsts rs) ≡ true
@@ -109,7 +110,8 @@ pub record Steps (wanted : Stack) (kind : PlainTerminal) (ks : List PlainTermina
   pub clear : Clear next
 
 -- The machine takes the terminals of a derivation.
-pub steps : (wanted : Stack) (kind : PlainTerminal) (ks : List PlainTerminal) → Clear wanted → Derives wanted (kind ∷ ks)
+pub steps : (wanted : Stack) (kind : PlainTerminal) (ks : List PlainTerminal) → Clear wanted
+    → Derives wanted (kind ∷ ks)
     → Steps wanted kind ks
 unfolding stack_after
 steps [] kind ks c d = elim d [ ]
@@ -152,7 +154,8 @@ goes_end : (b : Bool) (kind : PlainTerminal) → Goes [] b kind (cond b omitted 
 goes_end true kind = refl
 goes_end false kind = tt
 
-goes_later : (x : Row) (rs : List Row) (b : Bool) (kind : PlainTerminal) (y : Move) → Goes rs b kind y → Goes (x ∷ rs) b kind y
+goes_later : (x : Row) (rs : List Row) (b : Bool) (kind : PlainTerminal) (y : Move) → Goes rs b kind y
+    → Goes (x ∷ rs) b kind y
 goes_later x rs b kind (takes f) (r, m, e, w) = (r, inr m, e, w)
 goes_later x rs b kind omitted g = g
 goes_later x rs b kind refuses g = tt
@@ -166,7 +169,8 @@ pub goes : (rs : List Row) (b : Bool) (kind : PlainTerminal) → Goes rs b kind 
 goes [] b kind = goes_end b kind
 goes (x ∷ rs) b kind = goes_by x rs b kind (goes rs b kind) (fits x.first kind) refl
 
-by_move : (x : Symbol) (below next : Stack) (kind : PlainTerminal) (ks : List PlainTerminal) (y : Move) (later : Option Stack)
+by_move : (x : Symbol) (below next : Stack) (kind : PlainTerminal) (ks : List PlainTerminal) (y : Move)
+    (later : Option Stack)
     → Goes (rows x) (can_omit x) kind y → (later ≡ Some next → Derives below (kind ∷ ks))
     → chosen y below later ≡ Some next → Derives next ks → Derives (x ∷ below) (kind ∷ ks)
 by_move x below next kind ks (takes f) later (r, m, e, w) go h d =
@@ -175,7 +179,8 @@ by_move x below next kind ks (takes f) later (r, m, e, w) go h d =
 by_move x below next kind ks omitted later o go h d = omit x below (kind ∷ ks) o (go h)
 by_move x below next kind ks refuses later g go h d = absurd cc
 
-pub step_derives : (wanted next : Stack) (kind : PlainTerminal) (ks : List PlainTerminal) → stack_after wanted kind ≡ Some next → Derives next ks
+pub step_derives : (wanted next : Stack) (kind : PlainTerminal) (ks : List PlainTerminal)
+    → stack_after wanted kind ≡ Some next → Derives next ks
     → Derives wanted (kind ∷ ks)
 unfolding stack_after move
 step_derives [] next kind ks e d = absurd cc

@@ -23,7 +23,8 @@ Spelled wanted ts ks = Spells (parts_all wanted ts) ks []
 
 abbrev Again : List PlainTerminal → Type 0
 Again ks =
-    (kind : PlainTerminal) (more : List PlainTerminal) → ks ≡ kind ∷ more → (wanted : Stack) (ts : Trees wanted) → Spelled wanted ts more
+    (kind : PlainTerminal) (more : List PlainTerminal) → ks ≡ kind ∷ more → (wanted : Stack) (ts : Trees wanted)
+    → Spelled wanted ts more
     → Derives wanted more
 
 row_derives : (y : Symbol) (below : Stack) (rs : List Row) (bs : Builders y rs) (t : TreeOf y) (us : Trees below)
@@ -40,7 +41,8 @@ row_derives y below (r ∷ rs) bs t us ks mid again m (inl i) sp =
 row_derives y below (r ∷ rs) bs t us ks mid again m (inr i) sp =
     row_derives y below rs bs.1 t us ks mid again (λ q n. m q (inr n)) i sp
 
-omitted_is : (b : Bool) (y : Symbol) (e : Empty b y) (t : TreeOf y) (ks rest : List PlainTerminal) → Omitted b y e t ks rest
+omitted_is : (b : Bool) (y : Symbol) (e : Empty b y) (t : TreeOf y) (ks rest : List PlainTerminal)
+    → Omitted b y e t ks rest
     → (b ≡ true) × (ks ≡ rest)
 omitted_is true y e t ks rest (same, h) = (refl, h)
 omitted_is false y e t ks rest i = absurd i

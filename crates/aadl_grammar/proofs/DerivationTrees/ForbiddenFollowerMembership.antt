@@ -5,7 +5,8 @@ use Rattle.std.proofs.lemmas.Bool.{eqb-true, or_cases, or_left, or_right}
 use Rattle.aadl_grammar.specs.proof.GrammarSymbols.{Class, Symbol}
 use Rattle.aadl_grammar.specs.proof.ParseTable.{rows, can_omit}
 use Rattle.aadl_grammar.specs.proof.StackMachine.{Stack, class_number}
-use Rattle.aadl_grammar.proofs.DerivationTrees.ForbiddenFollowers.{among, firsts, first_of, nullable, forbidden_after, apart}
+use Rattle.aadl_grammar.proofs.DerivationTrees.ForbiddenFollowers.{among, firsts, first_of, nullable, forbidden_after}
+use Rattle.aadl_grammar.proofs.DerivationTrees.ForbiddenFollowers.{apart}
 use Rattle.aadl_grammar.proofs.DerivationTrees.ForbiddenFollowers.{covers, settled, omits_settled, settled_omits}
 use Rattle.std.specs.Cmp.{first_so, second_so}
 use Rattle.aadl_grammar.proofs.KeywordListMembership.{not_both}
@@ -54,7 +55,8 @@ abbrev pub Clear : Stack → Type 0
 Clear [] = Unit {0}
 Clear (x ∷ below) = Apart (first_of below) (forbidden_after x) × Clear below
 
-omits_by : (b : Bool) (x : Symbol) → b ≡ true → omits_settled b x ≡ true → covers (firsts (rows x)) (forbidden_after x) ≡ true
+omits_by : (b : Bool) (x : Symbol) → b ≡ true → omits_settled b x ≡ true
+    → covers (firsts (rows x)) (forbidden_after x) ≡ true
 omits_by true x e h = h
 omits_by false x e h = cc
 

@@ -134,7 +134,8 @@ distinct (c ∷ cs) = not (among (class_number c) cs) && distinct cs
 -- not follow the last one.
 abbrev pub settled : List Class → List Symbol → Bool
 settled outer [] = true
-settled outer (x ∷ f) = apart (first_of f) (forbidden_after x) && ((not (nullable f) || covers (forbidden_after x) outer) && settled outer f)
+settled outer (x ∷ f) = apart (first_of f) (forbidden_after x)
+    && ((not (nullable f) || covers (forbidden_after x) outer) && settled outer f)
 
 abbrev pub rows_settled : List Class → List Row → Bool
 rows_settled outer [] = true

@@ -34,7 +34,8 @@ text zero wanted = None
 text (suc n) [] = Some []
 text (suc n) (x ∷ below) = cond (can_omit x) (text n below) (by_first (rows x) (text n) below)
 
-with_derives : (x : Symbol) (below : Stack) (r : Row) (o : Option (List PlainTerminal)) (ks : List PlainTerminal) → Member r (rows x)
+with_derives : (x : Symbol) (below : Stack) (r : Row) (o : Option (List PlainTerminal)) (ks : List PlainTerminal)
+    → Member r (rows x)
     → ((more : List PlainTerminal) → o ≡ Some more → Derives (r.wanted ++ below) more)
     → with_first (kind_with r.first (sample r.first)) o ≡ Some ks → Derives (x ∷ below) ks
 with_derives x below r None ks m h e = absurd cc
@@ -42,7 +43,8 @@ with_derives x below r (Some more) ks m h e =
     subst (λ (l : List PlainTerminal). Derives (x ∷ below) l) (same_Some _ ks e)
     (take x below r (kind_with r.first (sample r.first)) more m (fits_with r.first (sample r.first)) (h more refl))
 
-first_derives : (x : Symbol) (below : Stack) (rs : List Row) (later : Stack → Option (List PlainTerminal)) (ks : List PlainTerminal)
+first_derives : (x : Symbol) (below : Stack) (rs : List Row) (later : Stack → Option (List PlainTerminal))
+    (ks : List PlainTerminal)
     → ((r : Row) → Member r rs → Member r (rows x))
     → ((wanted : Stack) (more : List PlainTerminal) → later wanted ≡ Some more → Derives wanted more)
     → by_first rs later below ≡ Some ks → Derives (x ∷ below) ks

@@ -41,7 +41,8 @@ last_again : {A : Type 0} (xs : List A) (z : A) → last_of (first_of xs z) (beh
 last_again [] z = refl
 last_again (x ∷ xs) z = last_push x xs z
 
-abbrev pub reference_of : n.Identifier NoPlace → List (n.Identifier NoPlace) → Option (n.Identifier NoPlace) → n.Reference NoPlace
+abbrev pub reference_of : n.Identifier NoPlace → List (n.Identifier NoPlace) → Option (n.Identifier NoPlace)
+    → n.Reference NoPlace
 reference_of x xs d = record { qualifiers = before_last x xs; type_name = last_of x xs; implementation = d }
 
 chain_same : (x : n.Identifier NoPlace) (xs : List (n.Identifier NoPlace))
@@ -53,7 +54,8 @@ chain_same x (y ∷ ys) = ap (λ l. n.qualifier_parts x ++ l) (chain_same y ys)
 abbrev dotted : Option (n.Identifier NoPlace) → List (SpellingPart NoPlace)
 dotted d = parts_if (behind k.Dot n.identifier_parts) d
 
-abbrev chain_parts : n.Identifier NoPlace → List (n.Identifier NoPlace) → Option (n.Identifier NoPlace) → List (SpellingPart NoPlace)
+abbrev chain_parts : n.Identifier NoPlace → List (n.Identifier NoPlace) → Option (n.Identifier NoPlace)
+    → List (SpellingPart NoPlace)
 chain_parts x xs d = n.identifier_parts x ++ (flat_map (behind k.Scope n.identifier_parts) xs ++ dotted d)
 
 reference_same : (x : n.Identifier NoPlace) (xs : List (n.Identifier NoPlace)) (d : Option (n.Identifier NoPlace))
@@ -64,11 +66,13 @@ reference_same x xs d =
     ∙ append_assoc (flat_map n.qualifier_parts (before_last x xs)) (n.identifier_parts (last_of x xs)) (dotted d)
 
 -- the parts that the first word and the others spell
-pub reference_spells : (w : List ℕ) (xs : List (n.Identifier NoPlace)) (d : Option (n.Identifier NoPlace)) (ks rest : List PlainTerminal)
+pub reference_spells : (w : List ℕ) (xs : List (n.Identifier NoPlace)) (d : Option (n.Identifier NoPlace))
+    (ks rest : List PlainTerminal)
     → Spells (flat_map (behind k.Scope n.identifier_parts) xs ++ dotted d) ks rest
     → Spells (n.reference_parts (reference_of (identifier_of w) xs d)) (word w ∷ ks) rest
 reference_spells w xs d ks rest sp =
-    respell (chain_parts (identifier_of w) xs d) (n.reference_parts (reference_of (identifier_of w) xs d)) (word w ∷ ks) rest
+    respell (chain_parts (identifier_of w) xs d) (n.reference_parts (reference_of (identifier_of w) xs d))
+    (word w ∷ ks) rest
     (reference_same (identifier_of w) xs d) (ks, refl, sp)
 
 -- a spelled reference, by its first word
@@ -80,7 +84,8 @@ pub record Chain (t : n.Reference NoPlace) (ks rest : List PlainTerminal) : Type
   pub whole : ks ≡ word first ∷ more
   pub spelled : Spells (flat_map (behind k.Scope n.identifier_parts) others ++ dotted t.implementation) more rest
 
-pub chain_of : (t : n.Reference NoPlace) (ks rest : List PlainTerminal) → Spells (n.reference_parts t) ks rest → Chain t ks rest
+pub chain_of : (t : n.Reference NoPlace) (ks rest : List PlainTerminal) → Spells (n.reference_parts t) ks rest
+    → Chain t ks rest
 chain_of t ks rest sp =
     let x = first_of t.qualifiers t.type_name in
     let xs = behind_first t.qualifiers t.type_name in

@@ -13,10 +13,12 @@ pub record Split (ps qs : List (SpellingPart NoPlace)) (ks rest : List PlainTerm
   pub before : Spells ps ks mid
   pub behind : Spells qs mid rest
 
-pub split : (ps qs : List (SpellingPart NoPlace)) (ks rest : List PlainTerminal) → Spells (ps ++ qs) ks rest → Split ps qs ks rest
+pub split : (ps qs : List (SpellingPart NoPlace)) (ks rest : List PlainTerminal) → Spells (ps ++ qs) ks rest
+    → Split ps qs ks rest
 split ps qs ks rest sp = let r = spells_split ps qs ks rest sp in record { mid = r.0; before = r.1; behind = r.2 }
 
-pub respell : (ps qs : List (SpellingPart NoPlace)) (ks rest : List PlainTerminal) → ps ≡ qs → Spells ps ks rest → Spells qs ks rest
+pub respell : (ps qs : List (SpellingPart NoPlace)) (ks rest : List PlainTerminal) → ps ≡ qs → Spells ps ks rest
+    → Spells qs ks rest
 respell ps qs ks rest e sp = subst (λ (l : List (SpellingPart NoPlace)). Spells l ks rest) e sp
 
 pub split_first : (y : Symbol) (f : List Symbol) (ts : Trees (y ∷ f)) (ks rest : List PlainTerminal)
@@ -66,7 +68,8 @@ split_all (y ∷ f) more ts ks rest sp =
 pub follow_all : (f more : List Symbol) (us : Trees f) (ts : Trees more) (ks mid rest : List PlainTerminal)
     → Spells (parts_all f us) ks mid → Spells (parts_all more ts) mid rest
     → Spells (parts_all (f ++ more) (joined f more us ts)) ks rest
-follow_all [] more us ts ks mid rest e sp = subst (λ (l : List PlainTerminal). Spells (parts_all more ts) l rest) (sym e) sp
+follow_all [] more us ts ks mid rest e sp =
+    subst (λ (l : List PlainTerminal). Spells (parts_all more ts) l rest) (sym e) sp
 follow_all (y ∷ f) more us ts ks mid rest b sp =
     let r = split_first y f us ks mid b in
     follow_first y (f ++ more) (joined (y ∷ f) more us ts) ks r.mid rest r.before
@@ -106,7 +109,8 @@ pub uses : {y : Symbol} {r : Row} {b : Builder y r} {ks rest : List PlainTermina
 uses content trees more whole spelled =
     record { content = content; trees = trees; more = more; made = refl; whole = whole; spelled = spelled }
 
-abbrev pub InRows : (y : Symbol) (rs : List Row) → Builders y rs → TreeOf y → List PlainTerminal → List PlainTerminal → Type 0
+abbrev pub InRows : (y : Symbol) (rs : List Row) → Builders y rs → TreeOf y → List PlainTerminal → List PlainTerminal
+    → Type 0
 InRows y [] bs t ks rest = ⊥
 InRows y (r ∷ rs) bs t ks rest = Uses y r bs.0 t ks rest ⊎ InRows y rs bs.1 t ks rest
 

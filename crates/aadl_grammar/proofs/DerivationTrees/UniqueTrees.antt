@@ -60,7 +60,8 @@ headed y (r ∷ rs) bs t ks rest (inr i) =
     }
 
 -- rows with distinct classes: only one row is used
-other_row : (y : Symbol) (r : Row) (rs : List Row) (bs : Builders y (r ∷ rs)) (t u : TreeOf y) (ks mid nid : List PlainTerminal)
+other_row : (y : Symbol) (r : Row) (rs : List Row) (bs : Builders y (r ∷ rs)) (t u : TreeOf y)
+    (ks mid nid : List PlainTerminal)
     → distinct (firsts (r ∷ rs)) ≡ true → Uses y r bs.0 t ks mid → InRows y rs bs.1 u ks nid → ⊥
 other_row y r rs bs t u ks mid nid d i j =
     let h = headed y rs bs.1 u ks nid j in
@@ -70,7 +71,8 @@ other_row y r rs bs t u ks mid nid d i j =
 
 abbrev Same : List PlainTerminal → Type 0
 Same ks =
-    (kind : PlainTerminal) (more : List PlainTerminal) → ks ≡ kind ∷ more → (wanted : Stack) → Clear wanted → (ts us : Trees wanted)
+    (kind : PlainTerminal) (more : List PlainTerminal) → ks ≡ kind ∷ more → (wanted : Stack) → Clear wanted
+    → (ts us : Trees wanted)
     → Spelled wanted ts more → Spelled wanted us more → ts ≡ us
 
 record Both (y : Symbol) (below : Stack) (t u : TreeOf y) (v w : Trees below) : Type 0 where
@@ -112,11 +114,13 @@ one_row y below (r ∷ rs) bs t u v w ks mid nid again c m d (inr i) (inr j) sp 
     (second_so (not (among (class_number r.first) (firsts rs))) _ d) i j sp sq
 
 -- an omitted symbol does not begin with a terminal that may follow it
-clash : (y : Symbol) (below : Stack) (t : TreeOf y) (w : Trees below) (ks mid nid : List PlainTerminal) → Clear (y ∷ below)
+clash : (y : Symbol) (below : Stack) (t : TreeOf y) (w : Trees below) (ks mid nid : List PlainTerminal)
+    → Clear (y ∷ below)
     → can_omit y ≡ true → InRows y (rows y) (builders y) t ks mid → ks ≡ nid → Spelled below w nid → ⊥
 clash y below t w ks mid nid (h, c) o i e sq =
     let g = headed y (rows y) (builders y) t ks mid i in
-    let d = derives (g.kind ∷ g.more) below w (subst (λ (l : List PlainTerminal). Spelled below w l) (sym e ∙ g.whole) sq) in
+    let d = derives (g.kind ∷ g.more) below w
+    (subst (λ (l : List PlainTerminal). Spelled below w l) (sym e ∙ g.whole) sq) in
     h (kind_number g.kind) (begins below g.kind g.more d) (firsts_in_tail y o (kind_number g.kind) g.first)
 
 record OmittedAs (y : Symbol) (t : TreeOf y) (ks rest : List PlainTerminal) : Type 0 where
@@ -160,7 +164,8 @@ both_same : (y : Symbol) (below : Stack) (ts us : Trees (y ∷ below)) → Both 
 both_same y below ts us b =
     ap₂ (λ (t : TreeOf y) (v : Trees below). let r : Trees (y ∷ below) = (t, v) in r) b.tree b.trees
 
-one_stack : (ks : List PlainTerminal) → Same ks → (wanted : Stack) → Clear wanted → (ts us : Trees wanted) → Spelled wanted ts ks
+one_stack : (ks : List PlainTerminal) → Same ks → (wanted : Stack) → Clear wanted → (ts us : Trees wanted)
+    → Spelled wanted ts ks
     → Spelled wanted us ks → ts ≡ us
 one_stack ks again [] c ts us sp sq = refl
 one_stack ks again (y ∷ below) c ts us sp sq =
@@ -171,7 +176,8 @@ one_stack ks again (y ∷ below) c ts us sp sq =
     (opens y ts.0 ks q.mid q.before) (opens y us.0 ks r.mid r.before) q.behind r.behind)
 
 -- two trees with one spelling are the same
-pub one : (ks : List PlainTerminal) (wanted : Stack) → Clear wanted → (ts us : Trees wanted) → Spells (parts_all wanted ts) ks []
+pub one : (ks : List PlainTerminal) (wanted : Stack) → Clear wanted → (ts us : Trees wanted)
+    → Spells (parts_all wanted ts) ks []
     → Spells (parts_all wanted us) ks [] → ts ≡ us
 one [] wanted c ts us sp sq = one_stack [] (λ kind more e. absurd (never_nil kind more e)) wanted c ts us sp sq
 one (kind ∷ ks) wanted c ts us sp sq =

@@ -6,7 +6,8 @@ use Rattle.std.proofs.lemmas.List.{append-nil, map-append}
 use Rattle.std.proofs.lemmas.Bool.{true≢false}
 use Rattle.aadl_tree.specs.declared.nesting_limit.TheConstants.{GREATEST_NESTING}
 use Rattle.aadl_tree.specs.declared.mark.Mark.TheVariants as k
-use Rattle.aadl_tree.specs.Terminals.{PlainTerminal, word, whole, real, quoted, unread, mark, other, PlacedTerminal, kinds_of}
+use Rattle.aadl_tree.specs.Terminals.{PlainTerminal, word, whole, real, quoted, unread, mark, other, PlacedTerminal}
+use Rattle.aadl_tree.specs.Terminals.{kinds_of}
 use Rattle.aadl_tree.specs.PackagesBehavioursAndNesting.{opened, is_end, nesting_from, nesting, IsShallow}
 use Rattle.aadl_tree.specs.TerminalFaults.{Begins, IsStuck, FailsAt, DeepAt}
 use Rattle.aadl_grammar.specs.proof.StackMachine.{Stack, depth, Fate, finished, syntax_at, deep_at, fate}
@@ -14,7 +15,8 @@ use Rattle.aadl_grammar.proofs.DerivationTrees.ForbiddenFollowerMembership.{Clea
 use Rattle.aadl_grammar.proofs.DerivationTrees.DerivationsAndMachineSteps.{Derives, steps, derived_ends, ends_derived}
 use Rattle.aadl_grammar.proofs.DerivationTrees.ProductiveStacks.{some_text}
 use Rattle.aadl_grammar.proofs.Fates.StackNesting.{Good}
-use Rattle.aadl_grammar.proofs.Fates.StackAfterTerminals.{stack_after_all, walk_front, walk_then, walk_derives, derived_left, walk_depth}
+use Rattle.aadl_grammar.proofs.Fates.StackAfterTerminals.{stack_after_all, walk_front, walk_then, walk_derives}
+use Rattle.aadl_grammar.proofs.Fates.StackAfterTerminals.{derived_left, walk_depth}
 use Rattle.aadl_grammar.proofs.Fates.StackAfterTerminals.{Within}
 use Rattle.aadl_grammar.proofs.Fates.FateRuns.{StopsBy, Stops, Deepens, Finishes, Tells, tells}
 
@@ -32,7 +34,8 @@ pub low_start : (IsText : List PlainTerminal → Type 0) (outer : ℕ) (l : Lang
     → outer + depth l.start ≤ GREATEST_NESTING
 low_start IsText outer l = let e = l.flat in let h = l.low in omega arith
 
-begins : (IsText : List PlainTerminal → Type 0) (outer : ℕ) (l : Language IsText outer) (ks : List PlainTerminal) (last : Stack)
+begins : (IsText : List PlainTerminal → Type 0) (outer : ℕ) (l : Language IsText outer) (ks : List PlainTerminal)
+    (last : Stack)
     → stack_after_all l.start ks ≡ Some last → Begins IsText ks
 begins IsText outer l ks last e =
     let more = some_text last in
@@ -44,7 +47,8 @@ begins IsText outer l ks last e =
 nothing_is_some : (a : Stack) → Some a ≡ None → ⊥
 nothing_is_some a e = cc
 
-stuck : (IsText : List PlainTerminal → Type 0) (outer : ℕ) (l : Language IsText outer) (seen : List PlainTerminal) (left : List PlacedTerminal)
+stuck : (IsText : List PlainTerminal → Type 0) (outer : ℕ) (l : Language IsText outer) (seen : List PlainTerminal)
+    (left : List PlacedTerminal)
     (last : Stack) → stack_after_all l.start seen ≡ Some last → StopsBy last left → IsStuck IsText seen left
 stuck IsText outer l seen [] last e h = λ (text : IsText seen).
     let r =
@@ -53,18 +57,21 @@ stuck IsText outer l seen [] last e h = λ (text : IsText seen).
     true≢false (sym (derived_ends last r.derived) ∙ h)
 stuck IsText outer l seen (t ∷ ts) last e h = λ (b : Begins IsText (seen ++ t.kind ∷ [])).
     let d =
-    subst (λ (x : List PlainTerminal). Derives l.start x) (append_assoc seen (t.kind ∷ []) b.more) (l.derived _ b.text) in
+    subst (λ (x : List PlainTerminal). Derives l.start x) (append_assoc seen (t.kind ∷ []) b.more) (l.derived _ b.text)
+    in
     let r = derived_left seen l.start last (t.kind ∷ b.more) l.clear e d in
     let s = steps last t.kind b.more r.clear r.derived in
     nothing_is_some s.next (sym s.stepped ∙ h)
 
-nesting_is : (IsText : List PlainTerminal → Type 0) (outer : ℕ) (l : Language IsText outer) (ks : List PlainTerminal) (last : Stack)
+nesting_is : (IsText : List PlainTerminal → Type 0) (outer : ℕ) (l : Language IsText outer) (ks : List PlainTerminal)
+    (last : Stack)
     → stack_after_all l.start ks ≡ Some last → nesting outer ks ≡ outer + depth last
 nesting_is IsText outer l ks last e =
     let zero : outer ≡ outer + depth l.start = (let f = l.flat in omega arith) in
     ap (λ n. nesting_from n false ks) zero ∙ walk_depth outer ks l.start last false l.good e
 
-shallow : (IsText : List PlainTerminal → Type 0) (outer : ℕ) (l : Language IsText outer) (ks : List PlainTerminal) (last : Stack)
+shallow : (IsText : List PlainTerminal → Type 0) (outer : ℕ) (l : Language IsText outer) (ks : List PlainTerminal)
+    (last : Stack)
     → stack_after_all l.start ks ≡ Some last → Within outer l.start ks → IsShallow outer ks
 shallow IsText outer l ks last e within front back same =
     let mid = walk_front front back l.start last (ap (stack_after_all l.start) (sym same) ∙ e) in
@@ -95,7 +102,8 @@ nesting_more : (ks : List PlainTerminal) (n : ℕ) (ended : Bool) (kind : PlainT
 nesting_more [] n ended kind = opened_most n ended kind
 nesting_more (x ∷ ks) n ended kind = nesting_more ks (opened n ended x) (is_end x) kind
 
-pub stops_fail : (IsText : List PlainTerminal → Type 0) (outer end : ℕ) (l : Language IsText outer) (ts : List PlacedTerminal) (at : ℕ)
+pub stops_fail : (IsText : List PlainTerminal → Type 0) (outer end : ℕ) (l : Language IsText outer)
+    (ts : List PlacedTerminal) (at : ℕ)
     → Stops outer end l.start ts at → FailsAt IsText outer end ts at
 stops_fail IsText outer end l ts at r = record {
   seen = r.seen;
@@ -107,7 +115,8 @@ stops_fail IsText outer end l ts at r = record {
   shallow = shallow IsText outer l (kinds_of r.seen) r.last r.walked r.within;
 }
 
-pub deepens_deep : (IsText : List PlainTerminal → Type 0) (outer end : ℕ) (l : Language IsText outer) (ts : List PlacedTerminal) (at : ℕ)
+pub deepens_deep : (IsText : List PlainTerminal → Type 0) (outer end : ℕ) (l : Language IsText outer)
+    (ts : List PlacedTerminal) (at : ℕ)
     → Deepens outer l.start ts at → DeepAt IsText outer ts at
 deepens_deep IsText outer end l ts at r =
     let through = walk_then (kinds_of r.seen) l.start r.last r.after r.opener.kind r.walked r.stepped in
@@ -127,7 +136,8 @@ deepens_deep IsText outer end l ts at r =
       deep = omega arith;
     }
 
-pub finishes_text : (IsText : List PlainTerminal → Type 0) (outer : ℕ) (l : Language IsText outer) (ts : List PlacedTerminal)
+pub finishes_text : (IsText : List PlainTerminal → Type 0) (outer : ℕ) (l : Language IsText outer)
+    (ts : List PlacedTerminal)
     → Finishes outer l.start ts → IsText (kinds_of ts) × IsShallow outer (kinds_of ts)
 finishes_text IsText outer l ts r =
     let d = walk_derives (kinds_of ts) l.start r.last [] r.walked (ends_derived r.last r.ended) in (
@@ -137,7 +147,8 @@ finishes_text IsText outer l ts r =
 
 -- The fates exclude one another.
 
-text_from : (IsText : List PlainTerminal → Type 0) (ts seen : List PlacedTerminal) (t : PlacedTerminal) (left : List PlacedTerminal) → ts ≡ seen ++ t ∷ left
+text_from : (IsText : List PlainTerminal → Type 0) (ts seen : List PlacedTerminal) (t : PlacedTerminal)
+    (left : List PlacedTerminal) → ts ≡ seen ++ t ∷ left
     → IsText (kinds_of ts) → Begins IsText (kinds_of seen ++ t.kind ∷ [])
 text_from IsText ts seen t left e text = record {
   more = kinds_of left;
@@ -156,7 +167,8 @@ pub fails_no_text : (IsText : List PlainTerminal → Type 0) (outer end : ℕ) (
     → FailsAt IsText outer end ts at → IsText (kinds_of ts) → ⊥
 fails_no_text IsText outer end ts at f text = by_left IsText ts f.seen f.left f.whole f.stuck text
 
-pub deep_not_shallow : (IsText : List PlainTerminal → Type 0) (outer : ℕ) (ts : List PlacedTerminal) (at : ℕ) → DeepAt IsText outer ts at
+pub deep_not_shallow : (IsText : List PlainTerminal → Type 0) (outer : ℕ) (ts : List PlacedTerminal) (at : ℕ)
+    → DeepAt IsText outer ts at
     → IsShallow outer (kinds_of ts) → ⊥
 deep_not_shallow IsText outer ts at d flat =
     let h = flat (kinds_of d.seen ++ d.opener.kind ∷ []) (kinds_of d.left)
@@ -165,7 +177,8 @@ deep_not_shallow IsText outer ts at d flat =
     let g = d.deep in
     absurd (omega arith)
 
-finished_by : (IsText : List PlainTerminal → Type 0) (outer end : ℕ) (l : Language IsText outer) (ts : List PlacedTerminal)
+finished_by : (IsText : List PlainTerminal → Type 0) (outer end : ℕ) (l : Language IsText outer)
+    (ts : List PlacedTerminal)
     → IsText (kinds_of ts) → IsShallow outer (kinds_of ts) → (f : Fate) → Tells outer end l.start ts f → f ≡ finished
 finished_by IsText outer end l ts text flat finished r = refl
 finished_by IsText outer end l ts text flat (syntax_at at) r =
@@ -173,7 +186,8 @@ finished_by IsText outer end l ts text flat (syntax_at at) r =
 finished_by IsText outer end l ts text flat (deep_at at) r =
     absurd (deep_not_shallow IsText outer ts at (deepens_deep IsText outer end l ts at r) flat)
 
-pub text_finishes : (IsText : List PlainTerminal → Type 0) (outer end : ℕ) (l : Language IsText outer) (ts : List PlacedTerminal)
+pub text_finishes : (IsText : List PlainTerminal → Type 0) (outer end : ℕ) (l : Language IsText outer)
+    (ts : List PlacedTerminal)
     → IsText (kinds_of ts) → IsShallow outer (kinds_of ts) → fate outer end l.start ts ≡ finished
 text_finishes IsText outer end l ts text flat =
     finished_by IsText outer end l ts text flat (fate outer end l.start ts)
@@ -183,17 +197,20 @@ told : (outer end : ℕ) (start : Stack) (ts : List PlacedTerminal) (f : Fate) �
     → fate outer end start ts ≡ f → Tells outer end start ts f
 told outer end start ts f h e = subst (λ (x : Fate). Tells outer end start ts x) e (tells outer end ts start h)
 
-pub fails_at : (IsText : List PlainTerminal → Type 0) (outer end : ℕ) (l : Language IsText outer) (ts : List PlacedTerminal) (at : ℕ)
+pub fails_at : (IsText : List PlainTerminal → Type 0) (outer end : ℕ) (l : Language IsText outer)
+    (ts : List PlacedTerminal) (at : ℕ)
     → fate outer end l.start ts ≡ syntax_at at → FailsAt IsText outer end ts at
 fails_at IsText outer end l ts at e =
     stops_fail IsText outer end l ts at (told outer end l.start ts (syntax_at at) (low_start IsText outer l) e)
 
-pub deep_at_opener : (IsText : List PlainTerminal → Type 0) (outer end : ℕ) (l : Language IsText outer) (ts : List PlacedTerminal) (at : ℕ)
+pub deep_at_opener : (IsText : List PlainTerminal → Type 0) (outer end : ℕ) (l : Language IsText outer)
+    (ts : List PlacedTerminal) (at : ℕ)
     → fate outer end l.start ts ≡ deep_at at → DeepAt IsText outer ts at
 deep_at_opener IsText outer end l ts at e =
     deepens_deep IsText outer end l ts at (told outer end l.start ts (deep_at at) (low_start IsText outer l) e)
 
-pub is_text : (IsText : List PlainTerminal → Type 0) (outer end : ℕ) (l : Language IsText outer) (ts : List PlacedTerminal)
+pub is_text : (IsText : List PlainTerminal → Type 0) (outer end : ℕ) (l : Language IsText outer)
+    (ts : List PlacedTerminal)
     → fate outer end l.start ts ≡ finished → IsText (kinds_of ts) × IsShallow outer (kinds_of ts)
 is_text IsText outer end l ts e =
     finishes_text IsText outer l ts (told outer end l.start ts finished (low_start IsText outer l) e)

@@ -9,7 +9,8 @@ use Rattle.aadl_tree.specs.Terminals.{PlacedTerminal, kinds_of}
 use Rattle.aadl_tree.specs.TerminalFaults.{place}
 use Rattle.aadl_grammar.specs.proof.StackMachine.{Stack, stack_after, ends, depth, Fate, finished, syntax_at, deep_at}
 use Rattle.aadl_grammar.specs.proof.StackMachine.{fate_after, fate}
-use Rattle.aadl_grammar.proofs.Fates.StackAfterTerminals.{stack_after_all, walk_more, Within, within_nothing, within_more}
+use Rattle.aadl_grammar.proofs.Fates.StackAfterTerminals.{stack_after_all, walk_more, Within, within_nothing}
+use Rattle.aadl_grammar.proofs.Fates.StackAfterTerminals.{within_more}
 
 abbrev pub StopsBy : Stack → List PlacedTerminal → Type 0
 StopsBy last [] = ends last ≡ false
@@ -73,7 +74,8 @@ tells_end outer end wanted h false g =
       within = within_nothing outer wanted h;
     }
 
-tells_more : (outer end : ℕ) (t : PlacedTerminal) (ts : List PlacedTerminal) (wanted next : Stack) → outer + depth wanted ≤ GREATEST_NESTING
+tells_more : (outer end : ℕ) (t : PlacedTerminal) (ts : List PlacedTerminal) (wanted next : Stack)
+    → outer + depth wanted ≤ GREATEST_NESTING
     → stack_after wanted t.kind ≡ Some next → (f : Fate) → Tells outer end next ts f → Tells outer end wanted (t ∷ ts) f
 tells_more outer end t ts wanted next h g finished r =
     record {
@@ -106,7 +108,8 @@ tells_more outer end t ts wanted next h g (deep_at at) r = record {
   within = within_more outer wanted next t.kind (kinds_of r.seen) h g r.within;
 }
 
-tells_on : (outer end : ℕ) (t : PlacedTerminal) (ts : List PlacedTerminal) (wanted next : Stack) → outer + depth wanted ≤ GREATEST_NESTING
+tells_on : (outer end : ℕ) (t : PlacedTerminal) (ts : List PlacedTerminal) (wanted next : Stack)
+    → outer + depth wanted ≤ GREATEST_NESTING
     → stack_after wanted t.kind ≡ Some next
     → (outer + depth next ≤ GREATEST_NESTING → Tells outer end next ts (fate outer end next ts))
     → (b : Bool) → nat_lt GREATEST_NESTING (outer + depth next) ≡ b
@@ -129,7 +132,8 @@ tells_on outer end t ts wanted next h g again false i =
     tells_more outer end t ts wanted next h g (fate outer end next ts)
     (again (bool.ltb-false GREATEST_NESTING (outer + depth next) i))
 
-tells_by : (outer end : ℕ) (t : PlacedTerminal) (ts : List PlacedTerminal) (wanted : Stack) → outer + depth wanted ≤ GREATEST_NESTING
+tells_by : (outer end : ℕ) (t : PlacedTerminal) (ts : List PlacedTerminal) (wanted : Stack)
+    → outer + depth wanted ≤ GREATEST_NESTING
     → ((next : Stack) → outer + depth next ≤ GREATEST_NESTING → Tells outer end next ts (fate outer end next ts))
     → (o : Option Stack) → stack_after wanted t.kind ≡ o
     → Tells outer end wanted (t ∷ ts) (fate_after outer o t.at (λ next. fate outer end next ts))

@@ -9,7 +9,8 @@ use Rattle.aadl_tree.specs.TerminalFaults.{place}
 use Rattle.aadl_grammar.specs.proof.GrammarSymbols.{the, Symbol, Row}
 use Rattle.aadl_grammar.specs.proof.ParseTable.{behind, rows, can_omit}
 use Rattle.aadl_grammar.specs.proof.StackMachine.{Stack, Move, takes, omitted, refuses, kind_number, fits, move_by}
-use Rattle.aadl_grammar.specs.proof.StackMachine.{move, chosen, stack_after, ends, depth, Fate, finished, syntax_at, deep_at}
+use Rattle.aadl_grammar.specs.proof.StackMachine.{move, chosen, stack_after, ends, depth, Fate, finished, syntax_at}
+use Rattle.aadl_grammar.specs.proof.StackMachine.{deep_at}
 use Rattle.aadl_grammar.specs.proof.StackMachine.{fate_after, fate}
 use Rattle.aadl_grammar.proofs.DerivationTrees.ForbiddenFollowers.{among, firsts}
 use Rattle.aadl_grammar.proofs.DerivationTrees.TerminalContents.{HasContent, said, fits_with}
@@ -48,7 +49,8 @@ unfolding fate stack_after ends
 fate_is outer end x below [] = by_end outer end (can_omit x) below
 fate_is outer end x below (t ∷ ts) = by_move outer end (move x t.kind) below t ts
 
-pub fate_takes : (outer end : ℕ) (x : Symbol) (below : Stack) (t : PlacedTerminal) (ts : List PlacedTerminal) (f : List Symbol)
+pub fate_takes : (outer end : ℕ) (x : Symbol) (below : Stack) (t : PlacedTerminal) (ts : List PlacedTerminal)
+    (f : List Symbol)
     → move x t.kind ≡ takes f → outer + depth (f ++ below) ≤ GREATEST_NESTING
     → fate outer end (x ∷ below) (t ∷ ts) ≡ fate outer end (f ++ below) ts
 fate_takes outer end x below t ts f e h =
@@ -56,7 +58,8 @@ fate_takes outer end x below t ts f e h =
     ∙ ap (λ b. cond b (deep_at t.at) (fate outer end (f ++ below) ts))
     (le-ltb GREATEST_NESTING (outer + depth (f ++ below)) h)
 
-pub fate_deep : (outer end : ℕ) (x : Symbol) (below : Stack) (t : PlacedTerminal) (ts : List PlacedTerminal) (f : List Symbol)
+pub fate_deep : (outer end : ℕ) (x : Symbol) (below : Stack) (t : PlacedTerminal) (ts : List PlacedTerminal)
+    (f : List Symbol)
     → move x t.kind ≡ takes f → GREATEST_NESTING < outer + depth (f ++ below)
     → fate outer end (x ∷ below) (t ∷ ts) ≡ deep_at t.at
 fate_deep outer end x below t ts f e h =
@@ -77,7 +80,8 @@ pub fate_end : (outer end : ℕ) → fate outer end [] [] ≡ finished
 unfolding fate ends
 fate_end outer end = refl
 
-pub fate_left : (outer end : ℕ) (t : PlacedTerminal) (ts : List PlacedTerminal) → fate outer end [] (t ∷ ts) ≡ syntax_at t.at
+pub fate_left : (outer end : ℕ) (t : PlacedTerminal) (ts : List PlacedTerminal)
+    → fate outer end [] (t ∷ ts) ≡ syntax_at t.at
 unfolding fate stack_after
 fate_left outer end t ts = refl
 
@@ -124,7 +128,8 @@ move_past (r ∷ own) rs b kind e =
     ap (λ z. cond z (takes r.wanted) (move_by (own ++ rs) b kind)) both.0 ∙ move_past own rs b kind both.1
 
 -- The symbol begins as the other one does, and none of its own rows fits.
-expanded : (x y : Symbol) (own : List Row) (more : List Symbol) (ts : List PlacedTerminal) → rows x ≡ own ++ behind more (rows y)
+expanded : (x y : Symbol) (own : List Row) (more : List Symbol) (ts : List PlacedTerminal)
+    → rows x ≡ own ++ behind more (rows y)
     → can_omit y ≡ false → NoneFits own ts
     → move_at x ts ≡ or_by (can_omit x) (followed_by more (move_at y ts))
 unfolding move
@@ -171,7 +176,8 @@ or_false omitted = refl
 or_false refuses = refl
 
 -- a symbol that cannot be omitted moves as the other one does
-pub fate_expands : (outer end : ℕ) (x y : Symbol) (own : List Row) (more : List Symbol) (below : Stack) (ts : List PlacedTerminal)
+pub fate_expands : (outer end : ℕ) (x y : Symbol) (own : List Row) (more : List Symbol) (below : Stack)
+    (ts : List PlacedTerminal)
     → rows x ≡ own ++ behind more (rows y) → can_omit x ≡ false → can_omit y ≡ false → NoneFits own ts
     → fate outer end (x ∷ below) ts ≡ fate outer end (y ∷ more ++ below) ts
 fate_expands outer end x y own more below ts e o p n =
@@ -183,7 +189,8 @@ fate_expands outer end x y own more below ts e o p n =
     ∙ sym (fate_is outer end y (more ++ below) ts)
 
 -- so does a symbol that can be omitted, if the other one takes the terminal
-pub fate_enters : (outer end : ℕ) (x y : Symbol) (own : List Row) (more : List Symbol) (below : Stack) (ts : List PlacedTerminal)
+pub fate_enters : (outer end : ℕ) (x y : Symbol) (own : List Row) (more : List Symbol) (below : Stack)
+    (ts : List PlacedTerminal)
     (f : List Symbol) → rows x ≡ own ++ behind more (rows y) → can_omit y ≡ false → NoneFits own ts
     → move_at y ts ≡ takes f → fate outer end (x ∷ below) ts ≡ fate outer end (y ∷ more ++ below) ts
 fate_enters outer end x y own more below ts f e p n h =
@@ -195,7 +202,8 @@ fate_enters outer end x y own more below ts f e p n h =
     ∙ sym (fate_is outer end y (more ++ below) ts)
 
 -- it is omitted if the other one refuses the terminal
-pub fate_passes : (outer end : ℕ) (x y : Symbol) (own : List Row) (more : List Symbol) (below : Stack) (ts : List PlacedTerminal)
+pub fate_passes : (outer end : ℕ) (x y : Symbol) (own : List Row) (more : List Symbol) (below : Stack)
+    (ts : List PlacedTerminal)
     → rows x ≡ own ++ behind more (rows y) → can_omit x ≡ true → can_omit y ≡ false → NoneFits own ts
     → move_at y ts ≡ refuses → fate outer end (x ∷ below) ts ≡ fate outer end below ts
 fate_passes outer end x y own more below ts e o p n h =

@@ -72,7 +72,8 @@ plain (x ∷ f) = not (is_never_stacked x) && plain f
 
 -- neither the symbol nor its followers begin with `if`
 abbrev pub begins_without_if : Symbol → Bool
-begins_without_if x = not (can_omit x) && (not (among (class_number (the k.If)) (firsts (rows x))) && not (is_never_stacked x))
+begins_without_if x = not (can_omit x) &&
+    (not (among (class_number (the k.If)) (firsts (rows x))) && not (is_never_stacked x))
 
 -- the symbols that may be expected after `end`
 abbrev pub closing_first : List Symbol → Bool

@@ -17,16 +17,19 @@ stack_after_all wanted [] = Some wanted
 stack_after_all wanted (kind ∷ ks) = option_and_then (λ next. stack_after_all next ks) (stack_after wanted kind)
 
 and_then_some : (o : Option Stack) (ks : List PlainTerminal) (last : Stack)
-    → option_and_then (λ next. stack_after_all next ks) o ≡ Some last → (mid : Stack) × (o ≡ Some mid) × (stack_after_all mid ks ≡ Some last)
+    → option_and_then (λ next. stack_after_all next ks) o ≡ Some last
+    → (mid : Stack) × (o ≡ Some mid) × (stack_after_all mid ks ≡ Some last)
 and_then_some (Some mid) ks last e = (mid, refl, e)
 and_then_some None ks last e = absurd cc
 
-pub walk_first : (wanted : Stack) (kind : PlainTerminal) (ks : List PlainTerminal) (last : Stack) → stack_after_all wanted (kind ∷ ks) ≡ Some last
+pub walk_first : (wanted : Stack) (kind : PlainTerminal) (ks : List PlainTerminal) (last : Stack)
+    → stack_after_all wanted (kind ∷ ks) ≡ Some last
     → (mid : Stack) × (stack_after wanted kind ≡ Some mid) × (stack_after_all mid ks ≡ Some last)
 unfolding stack_after_all
 walk_first wanted kind ks last e = and_then_some (stack_after wanted kind) ks last e
 
-pub walk_more : (wanted mid : Stack) (kind : PlainTerminal) (ks : List PlainTerminal) → stack_after wanted kind ≡ Some mid
+pub walk_more : (wanted mid : Stack) (kind : PlainTerminal) (ks : List PlainTerminal)
+    → stack_after wanted kind ≡ Some mid
     → stack_after_all wanted (kind ∷ ks) ≡ stack_after_all mid ks
 unfolding stack_after_all
 walk_more wanted mid kind ks e = ap (λ o. option_and_then (λ next. stack_after_all next ks) o) e
@@ -35,7 +38,8 @@ pub walk_none : (wanted last : Stack) → stack_after_all wanted [] ≡ Some las
 unfolding stack_after_all
 walk_none wanted last e = ap (λ o. unwrap_or o []) e
 
-pub walk_derives : (ks : List PlainTerminal) (wanted last : Stack) (more : List PlainTerminal) → stack_after_all wanted ks ≡ Some last
+pub walk_derives : (ks : List PlainTerminal) (wanted last : Stack) (more : List PlainTerminal)
+    → stack_after_all wanted ks ≡ Some last
     → Derives last more → Derives wanted (ks ++ more)
 walk_derives [] wanted last more e d = subst (λ (x : Stack). Derives x more) (sym (walk_none wanted last e)) d
 walk_derives (kind ∷ ks) wanted last more e d =
@@ -47,7 +51,8 @@ pub record Left (last : Stack) (more : List PlainTerminal) : Type 0 where
   pub clear : Clear last
 
 -- the derivation of the rest after the terminals
-pub derived_left : (ks : List PlainTerminal) (wanted last : Stack) (more : List PlainTerminal) → Clear wanted → stack_after_all wanted ks ≡ Some last
+pub derived_left : (ks : List PlainTerminal) (wanted last : Stack) (more : List PlainTerminal) → Clear wanted
+    → stack_after_all wanted ks ≡ Some last
     → Derives wanted (ks ++ more) → Left last more
 derived_left [] wanted last more c e d =
     subst (λ (x : Stack). Left x more) (walk_none wanted last e) (record { derived = d; clear = c })
@@ -66,7 +71,8 @@ walk_depth outer (kind ∷ ks) wanted last ended good e =
     ap (λ n. nesting_from n (is_end kind) ks) moved.counts
     ∙ walk_depth outer ks got.0 last (is_end kind) moved.after got.2
 
-pub walk_front : (front back : List PlainTerminal) (wanted last : Stack) → stack_after_all wanted (front ++ back) ≡ Some last
+pub walk_front : (front back : List PlainTerminal) (wanted last : Stack)
+    → stack_after_all wanted (front ++ back) ≡ Some last
     → (mid : Stack) × (stack_after_all wanted front ≡ Some mid) × (stack_after_all mid back ≡ Some last)
 unfolding stack_after_all
 walk_front [] back wanted last e = (wanted, refl, e)
@@ -75,10 +81,12 @@ walk_front (kind ∷ front) back wanted last e =
     let rest = walk_front front back got.0 last got.2 in
     (rest.0, walk_more wanted got.0 kind front got.1 ∙ rest.1, rest.2)
 
-pub walk_then : (ks : List PlainTerminal) (wanted last after : Stack) (kind : PlainTerminal) → stack_after_all wanted ks ≡ Some last
+pub walk_then : (ks : List PlainTerminal) (wanted last after : Stack) (kind : PlainTerminal)
+    → stack_after_all wanted ks ≡ Some last
     → stack_after last kind ≡ Some after → stack_after_all wanted (ks ++ kind ∷ []) ≡ Some after
 unfolding stack_after_all
-walk_then [] wanted last after kind e h = walk_more wanted after kind [] (ap (λ o. stack_after (unwrap_or o []) kind) e ∙ h)
+walk_then [] wanted last after kind e h =
+    walk_more wanted after kind [] (ap (λ o. stack_after (unwrap_or o []) kind) e ∙ h)
 walk_then (x ∷ ks) wanted last after kind e h =
     let got = walk_first wanted x ks last e in
     walk_more wanted got.0 x (ks ++ kind ∷ []) got.1 ∙ walk_then ks got.0 last after kind got.2 h
@@ -100,5 +108,6 @@ pub within_more : (outer : ℕ) (wanted next : Stack) (kind : PlainTerminal) (ks
 within_more outer wanted next kind ks h s g [] back mid e w = let P : Stack → Type 0 = λ x. outer + depth x
     ≤ GREATEST_NESTING in subst P (walk_none wanted mid w) h
 within_more outer wanted next kind ks h s g (x ∷ front) back mid e w =
-    let same : stack_after wanted x ≡ Some next = ap (stack_after wanted) (sym (heads kind x ks (front ++ back) e)) ∙ s in
+    let same : stack_after wanted x ≡ Some next =
+    ap (stack_after wanted) (sym (heads kind x ks (front ++ back) e)) ∙ s in
     g front back mid (tails kind x ks (front ++ back) e) (sym (walk_more wanted next x front same) ∙ w)

@@ -14,7 +14,8 @@ use Rattle.aadl_grammar.proofs.DerivationTrees.ForbiddenFollowers.{among, firsts
 use Rattle.aadl_grammar.proofs.DerivationTrees.DerivationsAndMachineSteps.{Member, Goes, goes, member_first}
 use Rattle.aadl_grammar.proofs.DerivationTrees.TerminalContents.{HasContent, said}
 use Rattle.aadl_grammar.proofs.Fates.ProductionNesting.{openers, closers, shift, shift_is, end_is, opened_same, closing}
-use Rattle.aadl_grammar.proofs.Fates.ProductionNesting.{is_never_stacked, plain, begins_without_if, closing_first, good, changes, row_shifts}
+use Rattle.aadl_grammar.proofs.Fates.ProductionNesting.{is_never_stacked, plain, begins_without_if, closing_first, good}
+use Rattle.aadl_grammar.proofs.Fates.ProductionNesting.{changes, row_shifts}
 use Rattle.aadl_grammar.proofs.Fates.ProductionNesting.{rows_shift, rows_shifted, omits_close_nothing}
 use Rattle.std.specs.Cmp.{first_so, second_so}
 use Rattle.std.proofs.lemmas.Option.{same_Some}
@@ -31,14 +32,16 @@ depth_append (x ∷ f) below = let e = depth_append f below in omega arith
 plain_append : (f below : Stack) → plain f ≡ true → plain below ≡ true → plain (f ++ below) ≡ true
 plain_append [] below e h = h
 plain_append (x ∷ f) below e h =
-    and_from (not (is_never_stacked x)) _ (first_so _ _ e) (plain_append f below (second_so (not (is_never_stacked x)) _ e) h)
+    and_from (not (is_never_stacked x)) _ (first_so _ _ e)
+    (plain_append f below (second_so (not (is_never_stacked x)) _ e) h)
 
 good_append : (ended : Bool) (f below : Stack) → good ended f ≡ true → plain below ≡ true
     → good ended (f ++ below) ≡ true
 good_append false f below e h = plain_append f below e h
 good_append true [] below e h = cc
 good_append true (x ∷ f) below e h =
-    and_from (closing x || begins_without_if x) _ (first_so _ _ e) (plain_append f below (second_so (closing x || begins_without_if x) _ e) h)
+    and_from (closing x || begins_without_if x) _ (first_so _ _ e)
+    (plain_append f below (second_so (closing x || begins_without_if x) _ e) h)
 
 shift_by : (outer x before behind rest : ℕ) (a b : Bool)
     → cond a (behind == before + 1) (cond b (behind + 1 == before) (behind == before)) ≡ true
@@ -63,7 +66,8 @@ or_else true b e h = cc
 or_else false b e h = e
 
 -- a row of a symbol of a stack, not after `end`
-row_moved : (outer : ℕ) (x : Symbol) (below : Stack) (r : Row) (kind : PlainTerminal) → not (is_never_stacked x) ≡ true → plain below ≡ true
+row_moved : (outer : ℕ) (x : Symbol) (below : Stack) (r : Row) (kind : PlainTerminal) → not (is_never_stacked x) ≡ true
+    → plain below ≡ true
     → Member r (rows x) → fits r.first kind ≡ true → Moved outer (x ∷ below) (r.wanted ++ below) false kind
 unfolding depth
 row_moved outer x below r kind n p m e =
@@ -101,13 +105,15 @@ by_move outer x below next kind omitted later o n p go h =
     record { after = more.after; counts = ap (λ z. opened (outer + z) false kind) same ∙ more.counts }
 by_move outer x below next kind refuses later g n p go h = absurd cc
 
-step_moves : (outer : ℕ) (wanted next : Stack) (kind : PlainTerminal) → plain wanted ≡ true → stack_after wanted kind ≡ Some next
+step_moves : (outer : ℕ) (wanted next : Stack) (kind : PlainTerminal) → plain wanted ≡ true
+    → stack_after wanted kind ≡ Some next
     → Moved outer wanted next false kind
 unfolding stack_after move
 step_moves outer [] next kind p e = absurd cc
 step_moves outer (x ∷ below) next kind p e =
     let rest = second_so (not (is_never_stacked x)) _ p in
-    by_move outer x below next kind (move x kind) (stack_after below kind) (goes (rows x) (can_omit x) kind) (first_so _ _ p)
+    by_move outer x below next kind (move x kind) (stack_after below kind) (goes (rows x) (can_omit x) kind)
+    (first_so _ _ p)
     rest (λ h. step_moves outer below next kind rest h) e
 
 -- After `end`.

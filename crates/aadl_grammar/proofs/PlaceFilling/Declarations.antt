@@ -3,7 +3,8 @@
 use Rattle.std.proofs.Common.{ℕ, sym, List, [], ◌∷◌, ◌++◌, flat_map}
 use Rattle.aadl_tree.specs.declared.mark.Mark.TheVariants as k
 use Rattle.aadl_tree.specs.Terminals.{mark}
-use Rattle.aadl_tree.specs.SpellingParts.{SpellingPart, token, feature_section, subcomponent_section, connection_section}
+use Rattle.aadl_tree.specs.SpellingParts.{SpellingPart, token, feature_section, subcomponent_section}
+use Rattle.aadl_tree.specs.SpellingParts.{connection_section}
 use Rattle.aadl_tree.specs.SpellingParts.{property_section, parts_if, behind, chained}
 use Rattle.aadl_grammar.proofs.PlaceFilling.FilledTrees.{U, Fills, split, cut, cut_at, nil, joined, consed, list_fill}
 use Rattle.aadl_grammar.proofs.PlaceFilling.FilledTrees.{option_fill, chain_fill, sectioned, section_fill}

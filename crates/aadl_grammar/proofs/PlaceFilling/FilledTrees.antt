@@ -3,7 +3,8 @@ use Rattle.std.proofs.Common.{◌≡◌, ℕ, ◌∙◌, sym, ap, ap₂, Bool, t
 use Rattle.std.proofs.Common.{None, refl}
 use Rattle.aadl_tree.specs.declared.mark.Mark.{Mark}
 use Rattle.aadl_tree.specs.Terminals.{PlainTerminal, mark}
-use Rattle.aadl_tree.specs.SpellingParts.{SpellingPart, token, may, Extra, Section, section_mark, empty_section, marked_if}
+use Rattle.aadl_tree.specs.SpellingParts.{SpellingPart, token, may, Extra, Section, section_mark, empty_section}
+use Rattle.aadl_tree.specs.SpellingParts.{marked_if}
 use Rattle.aadl_tree.specs.SpellingParts.{parts_if, behind}
 use Rattle.aadl_tree.specs.Declarations.{section_parts}
 
@@ -66,7 +67,11 @@ pub cut : (kind : PlainTerminal) (d : List (SpellingPart U)) (b : List (Spelling
     → Behind b (token kind []) d
 cut kind d [] l = absurd l
 cut kind d (token its [] ∷ b) (e, z, l) =
-    record { back = b; is = ap (λ (x : PlainTerminal). let r : List (SpellingPart ℕ) = token x [] ∷ b in r) e; rest = l }
+    record {
+      back = b;
+      is = ap (λ (x : PlainTerminal). let r : List (SpellingPart ℕ) = token x [] ∷ b in r) e;
+      rest = l;
+    }
 cut kind d (token its (p ∷ ps) ∷ b) (e, z, l) = absurd z
 cut kind d (may its ∷ b) l = absurd l
 
@@ -76,16 +81,24 @@ pub record BehindAt (b : List (SpellingPart ℕ)) (kind : PlainTerminal) (d : Li
   pub is : b ≡ token kind (at ∷ []) ∷ back
   pub rest : Like back d
 
-pub cut_at : (kind : PlainTerminal) (u : U) (d : List (SpellingPart U)) (b : List (SpellingPart ℕ)) → Like b (token kind (u ∷ []) ∷ d)
+pub cut_at : (kind : PlainTerminal) (u : U) (d : List (SpellingPart U)) (b : List (SpellingPart ℕ))
+    → Like b (token kind (u ∷ []) ∷ d)
     → BehindAt b kind d
 cut_at kind u d [] l = absurd l
 cut_at kind u d (token its [] ∷ b) (e, z, l) = absurd z
 cut_at kind u d (token its (p ∷ []) ∷ b) (e, z, l) =
-    record { at = p; back = b; is = ap (λ (x : PlainTerminal). let r : List (SpellingPart ℕ) = token x (p ∷ []) ∷ b in r) e; rest = l }
+    record {
+      at = p;
+      back = b;
+      is = ap (λ (x : PlainTerminal). let r : List (SpellingPart ℕ) =
+          token x (p ∷ []) ∷ b in r) e;
+      rest = l;
+    }
 cut_at kind u d (token its (p ∷ q ∷ ps) ∷ b) (e, z, l) = absurd z
 cut_at kind u d (may its ∷ b) l = absurd l
 
-pub cut_may : (extra : Extra) (d : List (SpellingPart U)) (b : List (SpellingPart ℕ)) → Like b (may extra ∷ d) → Behind b (may extra) d
+pub cut_may : (extra : Extra) (d : List (SpellingPart U)) (b : List (SpellingPart ℕ)) → Like b (may extra ∷ d)
+    → Behind b (may extra) d
 cut_may extra d [] l = absurd l
 cut_may extra d (token its ps ∷ b) l = absurd l
 cut_may extra d (may its ∷ b) (e, l) =
@@ -119,7 +132,8 @@ list_fill pa pb f (t ∷ ts) b l =
     let q = list_fill pa pb f ts s.back s.second in
     record { tree = r.tree ∷ q.tree; is = joined r.is q.is s.is }
 
-pub chain_fill : {A B : Type 0} (m : Mark) (pa : A → List (SpellingPart U)) (pb : B → List (SpellingPart ℕ)) → Fills A B pa pb
+pub chain_fill : {A B : Type 0} (m : Mark) (pa : A → List (SpellingPart U)) (pb : B → List (SpellingPart ℕ))
+    → Fills A B pa pb
     → Fills (List A) (List B) (flat_map (behind m pa)) (flat_map (behind m pb))
 chain_fill m pa pb f [] b l = record { tree = []; is = sym (nil b l) }
 chain_fill m pa pb f (t ∷ ts) b l =
@@ -143,7 +157,8 @@ marked_fill m false b l = record { tree = false; is = sym (nil b l) }
 abbrev pub sectioned : {P A : Type 0} → Section → (A → List (SpellingPart P)) → A → List (SpellingPart P)
 sectioned section parts t = section_parts section (parts t)
 
-some_section : (section : Section) (q : SpellingPart U) (qs : List (SpellingPart U)) (b : List (SpellingPart ℕ)) → Like b (q ∷ qs)
+some_section : (section : Section) (q : SpellingPart U) (qs : List (SpellingPart U)) (b : List (SpellingPart ℕ))
+    → Like b (q ∷ qs)
     → section_parts section b ≡ token (mark (section_mark section)) [] ∷ b
 some_section section (token kind us) qs [] l = absurd l
 some_section section (may extra) qs [] l = absurd l

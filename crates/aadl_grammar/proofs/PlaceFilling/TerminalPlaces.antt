@@ -14,7 +14,8 @@ record Starts (kind : PlainTerminal) (more : List PlainTerminal) (ss : List Plac
   kind_is : spot.kind ≡ kind
   kinds : kinds_of left ≡ more
 
-starts : (kind : PlainTerminal) (more : List PlainTerminal) (ss : List PlacedTerminal) → kinds_of ss ≡ kind ∷ more → Starts kind more ss
+starts : (kind : PlainTerminal) (more : List PlainTerminal) (ss : List PlacedTerminal) → kinds_of ss ≡ kind ∷ more
+    → Starts kind more ss
 starts kind more [] e = absurd cc
 starts kind more (s ∷ ss) e =
     record {
@@ -57,7 +58,8 @@ pub record Placed (a : List (SpellingPart U)) (ss : List PlacedTerminal) (rest :
   pub written : Written parts ss left
   pub kinds : kinds_of left ≡ rest
 
-pub placed : (a : List (SpellingPart U)) (ss : List PlacedTerminal) (rest : List PlainTerminal) → Spells a (kinds_of ss) rest → Placed a ss rest
+pub placed : (a : List (SpellingPart U)) (ss : List PlacedTerminal) (rest : List PlainTerminal)
+    → Spells a (kinds_of ss) rest → Placed a ss rest
 placed [] ss rest e = record { parts = []; left = ss; like = tt; written = refl; kinds = e }
 placed (token kind us ∷ a) ss rest (more, e, sp) =
     let s = starts kind more ss e in

@@ -8,18 +8,22 @@ use Rattle.aadl_grammar.proofs.UniquePlacedTrees.PlaceCounts.{quiet, none_of, sh
 
 pub data Alike {P Q : Type 0} (w : P → Q) : List (SpellingPart P) → List (SpellingPart Q) → Type 0 where
   none : Alike w [] []
-  one : {kind : PlainTerminal} {ps : List P} {qs : List Q} {xs : List (SpellingPart P)} {ys : List (SpellingPart Q)} → qs ≡ map w ps
+  one : {kind : PlainTerminal} {ps : List P} {qs : List Q} {xs : List (SpellingPart P)} {ys : List (SpellingPart Q)}
+      → qs ≡ map w ps
       → Alike w xs ys → Alike w (token kind ps ∷ xs) (token kind qs ∷ ys)
-  extra : {e : Extra} {xs : List (SpellingPart P)} {ys : List (SpellingPart Q)} → Alike w xs ys → Alike w (may e ∷ xs) (may e ∷ ys)
+  extra : {e : Extra} {xs : List (SpellingPart P)} {ys : List (SpellingPart Q)} → Alike w xs ys
+      → Alike w (may e ∷ xs) (may e ∷ ys)
 
-pub both : {P Q : Type 0} {w : P → Q} {a b : List (SpellingPart P)} {c d : List (SpellingPart Q)} → Alike w a c → Alike w b d
+pub both : {P Q : Type 0} {w : P → Q} {a b : List (SpellingPart P)} {c d : List (SpellingPart Q)} → Alike w a c
+    → Alike w b d
     → Alike w (a ++ b) (c ++ d)
 both none e = e
 both (one h x) e = one h (both x e)
 both (extra x) e = extra (both x e)
 
 -- they have the same spelling
-pub alike_spells : {P Q : Type 0} {w : P → Q} {a : List (SpellingPart P)} {b : List (SpellingPart Q)} (ks rest : List PlainTerminal)
+pub alike_spells : {P Q : Type 0} {w : P → Q} {a : List (SpellingPart P)} {b : List (SpellingPart Q)}
+    (ks rest : List PlainTerminal)
     → Alike w a b → Spells a ks rest → Spells b ks rest
 alike_spells ks rest none e = e
 alike_spells ks rest (one h x) (more, e, sp) = (more, e, alike_spells more rest x sp)
@@ -27,7 +31,8 @@ alike_spells ks rest (extra x) (inl sp) = inl (alike_spells ks rest x sp)
 alike_spells ks rest (extra x) (inr (more, e, sp)) = inr (more, e, alike_spells more rest x sp)
 
 -- they keep the same terminals
-pub alike_kept : {P Q : Type 0} {w : P → Q} {a : List (SpellingPart P)} {b : List (SpellingPart Q)} → Alike w a b → kept a ≡ kept b
+pub alike_kept : {P Q : Type 0} {w : P → Q} {a : List (SpellingPart P)} {b : List (SpellingPart Q)} → Alike w a b
+    → kept a ≡ kept b
 alike_kept none = refl
 alike_kept (one {kind = kind} h x) = ap (λ l. kind ∷ l) (alike_kept x)
 alike_kept (extra x) = alike_kept x
@@ -37,7 +42,8 @@ none_mapped : {P Q : Type 0} (w : P → Q) (ps : List P) → none_of ps ≡ none
 none_mapped w [] = refl
 none_mapped w (p ∷ ps) = ap (λ l. tt ∷ l) (none_mapped w ps)
 
-pub alike_shape : {P Q : Type 0} {w : P → Q} {a : List (SpellingPart P)} {b : List (SpellingPart Q)} → Alike w a b → shape a ≡ shape b
+pub alike_shape : {P Q : Type 0} {w : P → Q} {a : List (SpellingPart P)} {b : List (SpellingPart Q)} → Alike w a b
+    → shape a ≡ shape b
 alike_shape none = refl
 alike_shape {w = w} (one {kind = kind} {ps = ps} h x) =
     ap₂ (λ n ns. cond (quiet kind) ns (n ∷ ns)) (none_mapped w ps ∙ ap none_of (sym h)) (alike_shape x)
@@ -48,7 +54,8 @@ pub each : {P Q A B : Type 0} {w : P → Q} (f : A → List (SpellingPart P)) (g
 each f g h alike [] = none
 each f g h alike (x ∷ xs) = both (alike x) (each f g h alike xs)
 
-pub chain : {P Q A B : Type 0} {w : P → Q} (m : Mark) (f : A → List (SpellingPart P)) (g : B → List (SpellingPart Q)) (h : A → B)
+pub chain : {P Q A B : Type 0} {w : P → Q} (m : Mark) (f : A → List (SpellingPart P)) (g : B → List (SpellingPart Q))
+    (h : A → B)
     → ((x : A) → Alike w (f x) (g (h x))) → (xs : List A)
     → Alike w (flat_map (behind m f) xs) (flat_map (behind m g) (map h xs))
 chain m f g h alike [] = none

@@ -2,7 +2,8 @@
 -- one tree.
 use Rattle.std.proofs.Common.{refl, List}
 use Rattle.aadl_tree.specs.declared.mark.Mark.TheVariants as k
-use Rattle.aadl_tree.specs.SpellingParts.{SpellingPart, Section, feature_section, subcomponent_section, connection_section}
+use Rattle.aadl_tree.specs.SpellingParts.{SpellingPart, Section, feature_section, subcomponent_section}
+use Rattle.aadl_tree.specs.SpellingParts.{connection_section}
 use Rattle.aadl_tree.specs.SpellingParts.{property_section}
 use Rattle.aadl_tree.specs.Names as n
 use Rattle.aadl_tree.specs.Annexes as x
@@ -15,7 +16,8 @@ use Rattle.aadl_grammar.proofs.PlaceIndependence.NamesAndValues.{identifier_alik
 use Rattle.aadl_grammar.proofs.PlaceIndependence.NamesAndValues.{associations_alike, properties_alike, dotted_alike}
 use Rattle.aadl_grammar.proofs.PlaceIndependence.Annexes.{annex_alike}
 
-section_alike : {P Q : Type 0} {f : P → Q} {xs : List (SpellingPart P)} {ys : List (SpellingPart Q)} (section : Section) → Alike f xs ys
+section_alike : {P Q : Type 0} {f : P → Q} {xs : List (SpellingPart P)} {ys : List (SpellingPart Q)}
+    (section : Section) → Alike f xs ys
     → Alike f (d.section_parts section xs) (d.section_parts section ys)
 section_alike section none = extra none
 section_alike section (one h y) = one refl (one h y)

@@ -71,7 +71,8 @@ pub unit_opens : OpensOr s.unit unit_builders None
 unit_opens None ks rest e = inr (refl, e)
 unit_opens (Some x) ks rest (more, e, sp) = inl (inl (uses x.spelling tt more e sp))
 
-quantity_by : (sign : Option Sign) (g : v.UnsignedNumber) (u : Option (n.Identifier NoPlace)) (ks rest : List PlainTerminal)
+quantity_by : (sign : Option Sign) (g : v.UnsignedNumber) (u : Option (n.Identifier NoPlace))
+    (ks rest : List PlainTerminal)
     → Spells (parts s.quantity (record { number = record { sign = sign; figure = g }; unit = u })) ks rest
     → InRows s.quantity (rows s.quantity) quantity_builders
     (record { number = record { sign = sign; figure = g }; unit = u }) ks rest

@@ -10,7 +10,8 @@ use Rattle.aadl_tree.specs.Expressions as e
 use Rattle.aadl_tree.specs.Actions as a
 use Rattle.aadl_grammar.specs.proof.GrammarSymbols as s
 use Rattle.aadl_grammar.specs.proof.ParseTable.{rows}
-use Rattle.aadl_grammar.specs.proof.SymbolTrees.{NoPlace, LoopHead, after_target_parts, act, head_parts, body_parts, more_of}
+use Rattle.aadl_grammar.specs.proof.SymbolTrees.{NoPlace, LoopHead, after_target_parts, act, head_parts, body_parts}
+use Rattle.aadl_grammar.specs.proof.SymbolTrees.{more_of}
 use Rattle.aadl_grammar.proofs.DerivationTrees.TreeBuilders.{respell, AllGive, behind_give}
 use Rattle.aadl_grammar.proofs.ProductionTrees.Actions.{test_builders, whole_number_builders, bound_builders}
 use Rattle.aadl_grammar.proofs.ProductionTrees.Actions.{after_target_builders, loop_head_builders, action_builders}
@@ -19,7 +20,8 @@ use Rattle.aadl_grammar.proofs.ProductionTrees.Actions.{after_semicolon_builders
 use Rattle.aadl_grammar.proofs.ProductionTrees.Actions.{elsifs_builders, otherwise_builders, end_if_builders}
 use Rattle.aadl_grammar.proofs.ProductionTrees.Actions.{closing_if_builders, block_builders, body_builders, body_joins}
 
-act_gives : (w : List ℕ) (y : e.Expression NoPlace ⊎ e.Expression NoPlace) (ks rest : List PlainTerminal) → Spells (after_target_parts y) ks rest
+act_gives : (w : List ℕ) (y : e.Expression NoPlace ⊎ e.Expression NoPlace) (ks rest : List PlainTerminal)
+    → Spells (after_target_parts y) ks rest
     → Spells (a.action_parts (act w y)) (word w ∷ ks) rest
 act_gives w (inl y) ks rest sp = (ks, refl, sp)
 act_gives w (inr y) ks rest sp = (ks, refl, sp)
@@ -29,7 +31,8 @@ pub loop_same : (q r l h b : List (SpellingPart NoPlace))
     ≡ q ++ (plain k.Colon ∷ (r ++ (plain k.In ∷ (l ++ (plain k.Range ∷ (h ++ (plain k.ParenClose ∷ b)))))))
 loop_same q r l h b = simp append_assoc
 
-loop_gives : (y : LoopHead) (z : a.Block NoPlace) (ks rest : List PlainTerminal) → Spells (head_parts y ++ a.block_parts z) ks rest
+loop_gives : (y : LoopHead) (z : a.Block NoPlace) (ks rest : List PlainTerminal)
+    → Spells (head_parts y ++ a.block_parts z) ks rest
     → Spells (a.action_parts (a.loop tt y.counter y.data_type y.low y.high z)) (mark k.For ∷ ks) rest
 loop_gives y z ks rest (more, i, sp) = (
   ks,
@@ -53,7 +56,8 @@ mores_gives (a.block (a.actions y z)) ks rest sp = (
       (sym (append_assoc (a.action_parts y) (a.mores_parts z) (may last_semicolon ∷ []))) sp,
 )
 
-block_gives : (y : a.Block NoPlace) (ks rest : List PlainTerminal) → Spells (body_parts y ++ plain k.BraceClose ∷ []) ks rest
+block_gives : (y : a.Block NoPlace) (ks rest : List PlainTerminal)
+    → Spells (body_parts y ++ plain k.BraceClose ∷ []) ks rest
     → Spells (a.block_parts y) (mark k.BraceOpen ∷ ks) rest
 block_gives a.no_block ks rest sp = (ks, refl, sp)
 block_gives (a.block y) ks rest sp = (ks, refl, sp)

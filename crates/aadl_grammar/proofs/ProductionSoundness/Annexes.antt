@@ -25,7 +25,8 @@ use Rattle.aadl_grammar.proofs.ProductionTrees.Annexes.{annex_builders, annexes_
 use Rattle.aadl_grammar.proofs.ProductionSoundness.Expressions.{expression_give}
 use Rattle.aadl_grammar.proofs.ProductionSoundness.Actions.{block_give}
 
-transition_gives : (w : List ℕ) (y : Option (n.Identifier NoPlace) × Option (x.Guard NoPlace)) (target : n.Identifier NoPlace)
+transition_gives : (w : List ℕ) (y : Option (n.Identifier NoPlace) × Option (x.Guard NoPlace))
+    (target : n.Identifier NoPlace)
     (effect : Option (a.Block NoPlace)) (ks rest : List PlainTerminal)
     → Spells (after_word_parts y
     ++ (n.identifier_parts target ++ (parts_if a.block_parts effect ++ plain k.Semicolon ∷ []))) ks rest

@@ -6,7 +6,8 @@ use Rattle.aadl_tree.specs.declared.mark.Mark.TheVariants as k
 use Rattle.aadl_tree.specs.declared.declarations.Category.{Category}
 use Rattle.aadl_tree.specs.declared.declarations.Category.TheVariants as categories
 use Rattle.aadl_tree.specs.Terminals.{PlainTerminal, mark}
-use Rattle.aadl_tree.specs.SpellingParts.{SpellingPart, Section, feature_section, subcomponent_section, connection_section}
+use Rattle.aadl_tree.specs.SpellingParts.{SpellingPart, Section, feature_section, subcomponent_section}
+use Rattle.aadl_tree.specs.SpellingParts.{connection_section}
 use Rattle.aadl_tree.specs.SpellingParts.{property_section, section_mark, Spells, plain}
 use Rattle.aadl_tree.specs.SpellingParts as p
 use Rattle.aadl_tree.specs.Names as n
@@ -14,7 +15,8 @@ use Rattle.aadl_tree.specs.Values as v
 use Rattle.aadl_tree.specs.Declarations as d
 use Rattle.aadl_grammar.specs.proof.GrammarSymbols as s
 use Rattle.aadl_grammar.specs.proof.ParseTable.{rows}
-use Rattle.aadl_grammar.specs.proof.SymbolTrees.{NoPlace, DeclarationRest, type_rest, implementation_rest, declaration_of}
+use Rattle.aadl_grammar.specs.proof.SymbolTrees.{NoPlace, DeclarationRest, type_rest, implementation_rest}
+use Rattle.aadl_grammar.specs.proof.SymbolTrees.{declaration_of}
 use Rattle.aadl_grammar.specs.proof.SymbolTrees.{rest_parts, section_rest}
 use Rattle.aadl_grammar.proofs.DerivationTrees.TreeBuilders.{respell, AllGive, behind_give}
 use Rattle.aadl_grammar.proofs.ProductionTrees.NamesAndValues.{reference_builders, association_builders}
@@ -36,7 +38,8 @@ use Rattle.aadl_grammar.proofs.ProductionTrees.Declarations.{after_category_buil
 use Rattle.aadl_grammar.proofs.ProductionTrees.Declarations.{more_names_builders, withs_builders, a_package_builders}
 use Rattle.aadl_grammar.proofs.ProductionSoundness.NamesAndValues.{reference_give, association_give}
 
-section_gives : (section : Section) (ps : List (SpellingPart NoPlace)) (ks rest : List PlainTerminal) → Spells (section_rest ps) ks rest
+section_gives : (section : Section) (ps : List (SpellingPart NoPlace)) (ks rest : List PlainTerminal)
+    → Spells (section_rest ps) ks rest
     → Spells (d.section_parts section ps) (mark (section_mark section) ∷ ks) rest
 section_gives section [] ks rest (q, h, (r, i, sp)) =
     inr (r, ap (λ l. mark (section_mark section) ∷ l) (h ∙ ap (λ l. mark k.Nothing ∷ l) i), sp)
@@ -46,7 +49,8 @@ property_same : (u : v.Association NoPlace) (z : v.Associations NoPlace)
     → v.association_parts u ++ v.associations_parts z ≡ section_rest (v.associations_parts (v.associate u z))
 property_same (v.association name operator constant y paths) z = refl
 
-declaration_gives : (c : Category) (y : DeclarationRest) (z : List (d.Declaration NoPlace)) (ks rest : List PlainTerminal)
+declaration_gives : (c : Category) (y : DeclarationRest) (z : List (d.Declaration NoPlace))
+    (ks rest : List PlainTerminal)
     → Spells (rest_parts y ++ flat_map d.declaration_parts z) ks rest
     → Spells (flat_map d.declaration_parts (declaration_of c y ∷ z)) (mark (d.category_mark c) ∷ ks) rest
 declaration_gives c (type_rest name features own annexes end_name) z ks rest sp = (ks, refl, sp)

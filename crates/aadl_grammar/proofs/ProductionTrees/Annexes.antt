@@ -37,8 +37,14 @@ abbrev pub complete_builders : Builders s.complete (rows s.complete)
 complete_builders = ((λ w ts. true), tt)
 
 abbrev pub state_builders : Builders s.state (rows s.state)
-state_builders =
-    ((λ w ts. record { names = record { first = identifier_of w; rest = ts.0 }; initial = ts.1.1.0; complete = ts.1.1.1.0 }), tt)
+state_builders = (
+  (λ w ts. record {
+    names = record { first = identifier_of w; rest = ts.0 };
+    initial = ts.1.1.0;
+    complete = ts.1.1.1.0;
+  }),
+  tt,
+)
 
 abbrev pub state_list_joins : Joins s.state_list s.state (s.state_list ∷ [])
 state_list_joins u ts = u ∷ ts.0

@@ -23,8 +23,15 @@ abbrev pub data_type_builders : Builders s.data_type (rows s.data_type)
 data_type_builders = behind_builders s.data_type s.reference [] (rows s.reference) data_type_joins reference_builders
 
 abbrev pub feature_builders : Builders s.feature (rows s.feature)
-feature_builders =
-    ((λ w ts. record { name = identifier_of w; direction = ts.1.0; data_type = ts.1.1.1.1.0; properties = ts.1.1.1.1.1.0 }), tt)
+feature_builders = (
+  (λ w ts. record {
+    name = identifier_of w;
+    direction = ts.1.0;
+    data_type = ts.1.1.1.1.0;
+    properties = ts.1.1.1.1.1.0;
+  }),
+  tt,
+)
 
 abbrev pub subcomponent_builders : Builders s.subcomponent (rows s.subcomponent)
 subcomponent_builders =
@@ -34,8 +41,15 @@ abbrev pub connection_end_builders : Builders s.connection_end (rows s.connectio
 connection_end_builders = ((λ w ts. record { first = identifier_of w; second = ts.0 }), tt)
 
 abbrev pub connection_builders : Builders s.connection (rows s.connection)
-connection_builders =
-    ((λ w ts. record { name = identifier_of w; source = ts.1.1.0; target = ts.1.1.1.1.0; properties = ts.1.1.1.1.1.0 }), tt)
+connection_builders = (
+  (λ w ts. record {
+    name = identifier_of w;
+    source = ts.1.1.0;
+    target = ts.1.1.1.1.0;
+    properties = ts.1.1.1.1.1.0;
+  }),
+  tt,
+)
 
 abbrev pub feature_list_joins : Joins s.feature_list s.feature (s.feature_list ∷ [])
 feature_list_joins u ts = u ∷ ts.0

@@ -112,8 +112,10 @@ abbrev pub more_paths_builders : Builders s.more_paths (rows s.more_paths)
 more_paths_builders = ((λ w ts. ts.0 ∷ ts.1.0), tt)
 
 abbrev pub association_builders : Builders s.association (rows s.association)
-association_builders =
-    ((λ w ts. v.association (record { first = identifier_of w; rest = ts.0 }) ts.1.0 ts.1.1.0 ts.1.1.1.0 ts.1.1.1.1.0), tt)
+association_builders = (
+  (λ w ts. v.association (record { first = identifier_of w; rest = ts.0 }) ts.1.0 ts.1.1.0 ts.1.1.1.0 ts.1.1.1.1.0),
+  tt,
+)
 
 abbrev pub associations_joins : Joins s.associations s.association (s.associations ∷ [])
 associations_joins u ts = v.associate u ts.0

@@ -22,7 +22,8 @@ fresh_none : (b : Bool) (xs : List ℕ) → placed (e.fresh_parts b) xs ≡ xs
 fresh_none true xs = refl
 fresh_none false xs = refl
 
-logic_none : (o : LogicOperator) (ps : List (SpellingPart ℕ)) (xs : List ℕ) → placed (e.logic_parts o ++ ps) xs ≡ placed ps xs
+logic_none : (o : LogicOperator) (ps : List (SpellingPart ℕ)) (xs : List ℕ)
+    → placed (e.logic_parts o ++ ps) xs ≡ placed ps xs
 logic_none logic.And ps xs = refl
 logic_none logic.Or ps xs = refl
 logic_none logic.Xor ps xs = refl
@@ -64,7 +65,8 @@ mutual
       record { tree = ap₂ e.named a.tree g; rest = sym (fresh_none b xs) ∙ a.rest ∙ fresh_none c ys }
   primary_fixed (e.group at x) (e.group bt y) xs ys s h =
       let g : at ≡ bt = cc in
-      let i : placed (e.expression_parts x ++ plain k.ParenClose ∷ []) xs ≡ placed (e.expression_parts y ++ plain k.ParenClose ∷ []) ys = cc in
+      let i : placed (e.expression_parts x ++ plain k.ParenClose ∷ []) xs
+      ≡ placed (e.expression_parts y ++ plain k.ParenClose ∷ []) ys = cc in
       let a =
       expression_fixed x y _ _ (cc)
       (in_turn (e.expression_parts x) (plain k.ParenClose ∷ []) (e.expression_parts y)

@@ -8,7 +8,8 @@ use Rattle.aadl_tree.specs.proof.PlaceMaps.{package_to}
 use Rattle.aadl_grammar.proofs.PlaceIndependence.Declarations.{package_alike}
 
 -- the terminals that the tree keeps, among the terminals that spell it
-abbrev pub survivors : (a : List (SpellingPart ℕ)) (ss rest : List PlacedTerminal) → Written a ss rest → List PlacedTerminal
+abbrev pub survivors : (a : List (SpellingPart ℕ)) (ss rest : List PlacedTerminal) → Written a ss rest
+    → List PlacedTerminal
 survivors [] ss rest e = []
 survivors (token kind places ∷ a) ss rest (s, more, e, is, at, v) = s ∷ survivors a more rest v
 survivors (may others ∷ a) ss rest (inl v) = survivors a ss rest v

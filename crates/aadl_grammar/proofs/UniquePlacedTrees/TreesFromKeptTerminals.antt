@@ -51,7 +51,8 @@ moves_to (s ∷ ss) (t ∷ ts) e (b, r) =
 moves_to [] (t ∷ ts) e r = absurd cc
 moves_to (s ∷ ss) [] e r = absurd cc
 
-behind_have : (n : ℕ) (ks : List PlainTerminal) (ss rest : List PlacedTerminal) → HaveKinds ks ss rest → Behind n ss → Behind n rest
+behind_have : (n : ℕ) (ks : List PlainTerminal) (ss rest : List PlacedTerminal) → HaveKinds ks ss rest → Behind n ss
+    → Behind n rest
 behind_have n [] ss rest e b = subst (λ (l : List PlacedTerminal). Behind n l) e b
 behind_have n (kind ∷ ks) ss rest (s, more, e, is, h) b = let c = subst (λ (l : List PlacedTerminal). Behind n l) e b in
     behind_have n ks more rest h c.1
@@ -60,7 +61,8 @@ rising_have : (ks : List PlainTerminal) (ss rest : List PlacedTerminal) → Have
 rising_have [] ss rest e r = subst Rising e r
 rising_have (kind ∷ ks) ss rest (s, more, e, is, h) r = let c = subst Rising e r in rising_have ks more rest h c.1
 
-behind_survive : (n : ℕ) (a : List (SpellingPart ℕ)) (ss rest : List PlacedTerminal) (v : Written a ss rest) → Behind n ss
+behind_survive : (n : ℕ) (a : List (SpellingPart ℕ)) (ss rest : List PlacedTerminal) (v : Written a ss rest)
+    → Behind n ss
     → Behind n (survivors a ss rest v)
 behind_survive n [] ss rest e b = tt
 behind_survive n (token kind places ∷ a) ss rest (s, more, e, is, at, v) b = let c =

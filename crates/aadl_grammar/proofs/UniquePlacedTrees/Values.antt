@@ -36,7 +36,8 @@ option_fixed to parts f None (Some u) xs ys s h = absurd cc
 option_fixed to parts f (Some t) None xs ys s h = absurd cc
 
 -- none of these parts keeps a place
-number_none : (x : v.Number) (ps : List (SpellingPart ℕ)) (xs : List ℕ) → placed (v.number_parts x ++ ps) xs ≡ placed ps xs
+number_none : (x : v.Number) (ps : List (SpellingPart ℕ)) (xs : List ℕ)
+    → placed (v.number_parts x ++ ps) xs ≡ placed ps xs
 number_none x ps xs = by_parts x.sign x.figure ps xs where
   by_parts : (o : Option Sign) (f : v.UnsignedNumber) (qs : List (SpellingPart ℕ)) (ys : List ℕ)
       → placed (v.number_parts (record { sign = o; figure = f }) ++ qs) ys ≡ placed qs ys

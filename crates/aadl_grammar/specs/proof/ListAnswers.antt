@@ -74,7 +74,8 @@ pub record ItemsOf {X : Type 0} (r : Reader) (before : Option Mark) (answers : A
       → Parses r (Allows allowed) (item ∷ []) parts at result
 
 -- the new list is the old one followed by the items read here
-pub record Grows {X : Type 0} (parts : X → List (SpellingPart ℕ)) (old new : List X) (ss rest : List PlacedTerminal) : Type 0 where
+pub record Grows {X : Type 0} (parts : X → List (SpellingPart ℕ)) (old new : List X)
+    (ss rest : List PlacedTerminal) : Type 0 where
   pub more : List X
   pub whole : new ≡ old ++ more
   pub reads : Reads (flat_map parts more) ss rest

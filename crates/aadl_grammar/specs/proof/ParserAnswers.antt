@@ -98,7 +98,8 @@ pub record Reads (ps : List (SpellingPart ℕ)) (ss rest : List PlacedTerminal) 
 
 -- The contract of a function that parses the expected symbols: it follows the machine and returns the tree that it
 -- read.
-pub record Parses {X : Type 0} (r : Reader) (Allowed : ℕ → Type 0) (wanted : Stack) (parts : X → List (SpellingPart ℕ)) (at : ℕ)
+pub record Parses {X : Type 0} (r : Reader) (Allowed : ℕ → Type 0) (wanted : Stack) (parts : X → List (SpellingPart ℕ))
+    (at : ℕ)
     (result : Result (X × ℕ) ParseFault) : Type 0 where
   pub runs : (outer : ℕ) (below : Stack) → Allowed (outer + depth (wanted ++ below))
       → RunsTo (λ (y : X × ℕ). y.1) r outer below (fate outer r.end (wanted ++ below) (here r at)) result

@@ -52,8 +52,10 @@ pub record LoopHead : Type 0 where
 
 -- a declaration without its category
 pub data DeclarationRest : Type 0 where
-  type_rest : n.Identifier NoPlace → List (d.Feature NoPlace) → v.Associations NoPlace → List (x.Annex NoPlace) → n.Identifier NoPlace → DeclarationRest
-  implementation_rest : d.ImplementationName NoPlace → List (d.Subcomponent NoPlace) → List (d.Connection NoPlace) → v.Associations NoPlace
+  type_rest : n.Identifier NoPlace → List (d.Feature NoPlace) → v.Associations NoPlace → List (x.Annex NoPlace)
+      → n.Identifier NoPlace → DeclarationRest
+  implementation_rest : d.ImplementationName NoPlace → List (d.Subcomponent NoPlace) → List (d.Connection NoPlace)
+      → v.Associations NoPlace
       → List (x.Annex NoPlace) → d.ImplementationName NoPlace → DeclarationRest
 
 abbrev pub declaration_of : Category → DeclarationRest → d.Declaration NoPlace
@@ -147,7 +149,8 @@ abbrev pub after_word_parts : Option (n.Identifier NoPlace) × Option (x.Guard N
 after_word_parts (None, g) = guarded_parts g
 after_word_parts (Some y, g) = plain k.Colon ∷ (n.identifier_parts y ++ guarded_parts g)
 
-abbrev pub transition_of : n.Identifier NoPlace → Option (n.Identifier NoPlace) × Option (x.Guard NoPlace) → n.Identifier NoPlace
+abbrev pub transition_of : n.Identifier NoPlace → Option (n.Identifier NoPlace) × Option (x.Guard NoPlace)
+    → n.Identifier NoPlace
     → Option (a.Block NoPlace) → x.Transition NoPlace
 transition_of first (None, g) target effect =
     record { label = None; source = first; guard = g; target = target; effect = effect }

@@ -34,7 +34,8 @@ pub record IsNode (network : ChainSearchContext) (node : NumberedThread) : Type 
   pub stands : number_at_path (tree_of network) network.root (reverse node.path.now) ≡ Some node.declaration
 
 -- all chains of a kind, in an order
-abbrev pub Shows : ChainSearchContext → (PackageTree ℕ → ℕ → CarriedChain → Type 0) → (CarriedChain → CarriedChain → Type 0) → List Chain → Type 0
+abbrev pub Shows : ChainSearchContext → (PackageTree ℕ → ℕ → CarriedChain → Type 0)
+    → (CarriedChain → CarriedChain → Type 0) → List Chain → Type 0
 Shows network Kind Before chains =
     AreShown (tree_of network) network.root (paths_in network) (Kind (tree_of network) network.root) Before chains
 

@@ -7,7 +7,8 @@ use Rattle.aadl_lex.specs.declared.rules.First.TheVariants.{Skipped, Taken, Body
 use Rattle.aadl_lex.specs.declared.rules.Reading.{Reading}
 use Rattle.aadl_lex.specs.declared.rules.Reading.TheVariants.{Inside}
 use Rattle.aadl_lex.specs.Rules.{first, after}
-use Rattle.aadl_lex.specs.TokensAndFirstFaults.{token, Lexes, Adds, ended, skips, takes, reads, Faults, refused, past_skipped}
+use Rattle.aadl_lex.specs.TokensAndFirstFaults.{token, Lexes, Adds, ended, skips, takes, reads, Faults, refused}
+use Rattle.aadl_lex.specs.TokensAndFirstFaults.{past_skipped}
 use Rattle.aadl_lex.specs.TokensAndFirstFaults.{past_token, in_body, past_body}
 use Rattle.aadl_lex.proofs.+read.Goals as goal
 

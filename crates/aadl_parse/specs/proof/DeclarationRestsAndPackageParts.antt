@@ -1,6 +1,7 @@
 -- Declarations without their category, and the parts of a package.
 use Rattle.std.specs.Prelude.{ℕ, List, ◌∷◌, ◌++◌, flat_map, map}
-use Rattle.aadl_tree.specs.SpellingParts.{SpellingPart, plain, feature_section, subcomponent_section, connection_section}
+use Rattle.aadl_tree.specs.SpellingParts.{SpellingPart, plain, feature_section, subcomponent_section}
+use Rattle.aadl_tree.specs.SpellingParts.{connection_section}
 use Rattle.aadl_tree.specs.SpellingParts.{property_section}
 use Rattle.aadl_tree.specs.Names.{identifier_parts}
 use Rattle.aadl_tree.specs.Values.{associations_parts}

@@ -28,7 +28,8 @@ pub record ExistenceLaws : Type 0 where
   -- a package has an instance, with a list of its violations, or a first fault
   pub instance_or_fault : (tree : PackageTree ℕ) (root : List ℕ) → HasFirstFault tree root ⊎ HasInstance tree root
   pub named : (tree : PackageTree ℕ) (root : List ℕ) (fault : PackageFault) → IsFault tree root fault → fault ≢ Memory
-  pub list : (tree : PackageTree ℕ) (root : List ℕ) (parts : InstanceParts) → IsFlat tree root parts → HasList tree parts
+  pub list : (tree : PackageTree ℕ) (root : List ℕ) (parts : InstanceParts) → IsFlat tree root parts
+      → HasList tree parts
   -- if there is no violation there is a design, which satisfies the rules of designs
   pub there : (tree : PackageTree ℕ) (root : List ℕ) (parts : InstanceParts) → IsGiven tree → IsFlat tree root parts
       → AreViolations tree (shown_by tree parts) [] → (design : DesignParts) × IsDesignIn tree root design

@@ -30,4 +30,5 @@ EachBundleHasAnAnswer = (command : Command) (bundle : List ℕ) → IsWithinRing
 -- and only one, if the command is not `run`
 abbrev pub EachBundleHasOneAnswer : Type 0
 EachBundleHasOneAnswer =
-    (command : Command) (bundle : List ℕ) → is_run command ≡ false → IsWithinRingLimits command → HasOneAnswer command bundle
+    (command : Command) (bundle : List ℕ) → is_run command ≡ false → IsWithinRingLimits command
+    → HasOneAnswer command bundle

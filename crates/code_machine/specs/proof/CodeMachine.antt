@@ -13,7 +13,8 @@ use Rattle.bus_machine.specs.NodeEvents.{running_step, finished_with, fired}
 use Rattle.bus_machine.specs.BusStates.{BusState, opening, node_at, with_node}
 use Rattle.bus_machine.specs.Plans.{plan_of}
 use Rattle.bus_machine.specs.RunParameters.{Run}
-use Rattle.bus_machine.specs.Machine.{BusEvent, Start, Step, Finish, Send, Arrive, Drop, Repeat, after, is_allowed, on_step}
+use Rattle.bus_machine.specs.Machine.{BusEvent, Start, Step, Finish, Send, Arrive, Drop, Repeat, after, is_allowed}
+use Rattle.bus_machine.specs.Machine.{on_step}
 use Rattle.bus_machine.specs.Replay.{Replays, entries}
 use Rattle.pals_bus.specs.proof.StepCodesOfNodes.{code_at}
 

@@ -1,7 +1,8 @@
 -- The periods that are long enough, and the shortest of them. Times are nanoseconds.
 use Rattle.std.specs.Prelude.{◌↔◌, ℕ, ◌+◌, ◌-◌, ◌*◌, ◌<◌, ◌≤◌, max}
 use Rattle.pals_base.specs.declared.period_bound_and_releases.Gamma.{Gamma}
-use Rattle.pals_base.specs.PeriodBoundAndReleases.{backoff, least_period, step_period, sent_steps, release_offset, alarm}
+use Rattle.pals_base.specs.PeriodBoundAndReleases.{backoff, least_period, step_period, sent_steps, release_offset}
+use Rattle.pals_base.specs.PeriodBoundAndReleases.{alarm}
 use Rattle.bound_checker.specs.proof.MessageTimes.{IsNear, IsStarted, IsCarried}
 
 -- ---- one sender
@@ -60,10 +61,12 @@ DesignsAreExact = (g : Gamma) (t k : ℕ) → IsPlatform g → ArrivesBetween g 
 -- ---- steps
 -- each step that begins in time, this long before the next one, is done before the next one has to begin
 abbrev pub HasTime : Gamma → ℕ → Type 0
-HasTime g apart = (alarm begin done : ℕ) → begin < alarm + g.eps → done ≤ begin + g.alpha_max → done < alarm + apart + g.eps
+HasTime g apart = (alarm begin done : ℕ) → begin < alarm + g.eps → done ≤ begin + g.alpha_max
+    → done < alarm + apart + g.eps
 
 abbrev pub StepsHaveTimeExactly : Type 0
-StepsHaveTimeExactly = (g : Gamma) (t k : ℕ) → IsPlatform g → 1 ≤ k → HasTime g (step_period t k) ↔ (k * g.alpha_max ≤ t)
+StepsHaveTimeExactly = (g : Gamma) (t k : ℕ) → IsPlatform g → 1 ≤ k
+    → HasTime g (step_period t k) ↔ (k * g.alpha_max ≤ t)
 
 -- ---- how close the bound is
 -- at the maximum rate k both messages and steps have time

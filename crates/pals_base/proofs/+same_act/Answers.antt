@@ -6,13 +6,17 @@ use Rattle.pals_base.specs.proof.TreeViews.{action_of, actions_along, branches_a
 use Rattle.pals_base.proofs.TreeViews.{action_of-If, action_of-For}
 use Rattle.pals_base.proofs.SameTreeLengths.{same_acts-length, same_branches-length}
 use Rattle.pals_base.proofs.+same_act.Goals as goal
-use Rattle.pals_base.proofs.+same_act.Goals.{behaviour::Act::same-then-low-other_low, behaviour::Act::same-else-low-other_low}
+use Rattle.pals_base.proofs.+same_act.Goals.{behaviour::Act::same-then-low-other_low}
+use Rattle.pals_base.proofs.+same_act.Goals.{behaviour::Act::same-else-low-other_low}
 
 pub behaviour::Act::same-returns-then-same_branches : goal.behaviour::Act::same-returns-then-same_branches
 behaviour::Act::same-returns-then-same_branches t c =
     let here = c.in-If-If in
-    let left : action_of c.args.self.now ≡ If (branches_along here.branches.items) (actions_along here.otherwise.items) = ap action_of here.is-0 ∙ action_of-If here.branches here.otherwise in
-    let right : action_of c.args.other.now ≡ If (branches_along here.other_branches.items) (actions_along here.other_otherwise.items) = ap action_of here.is-1 ∙ action_of-If here.other_branches here.other_otherwise in
+    let left : action_of c.args.self.now ≡ If (branches_along here.branches.items)
+    (actions_along here.otherwise.items) = ap action_of here.is-0 ∙ action_of-If here.branches here.otherwise in
+    let right : action_of c.args.other.now ≡ If (branches_along here.other_branches.items)
+    (actions_along here.other_otherwise.items) =
+    ap action_of here.is-1 ∙ action_of-If here.other_branches here.other_otherwise in
     let firsts = (rw (c.deref.ensures.value, c.deref-in-If-If.ensures.value) at c.same_branches.ensures) in
     let same_firsts : branches_along here.branches.items ≡ branches_along here.other_branches.items =
     firsts.0 c.if-same_branches.true in
@@ -24,8 +28,11 @@ behaviour::Act::same-returns-then-same_branches t c =
 pub behaviour::Act::same-returns-else-same_branches : goal.behaviour::Act::same-returns-else-same_branches
 behaviour::Act::same-returns-else-same_branches t c =
     let here = c.in-If-If in
-    let left : action_of c.args.self.now ≡ If (branches_along here.branches.items) (actions_along here.otherwise.items) = ap action_of here.is-0 ∙ action_of-If here.branches here.otherwise in
-    let right : action_of c.args.other.now ≡ If (branches_along here.other_branches.items) (actions_along here.other_otherwise.items) = ap action_of here.is-1 ∙ action_of-If here.other_branches here.other_otherwise in
+    let left : action_of c.args.self.now ≡ If (branches_along here.branches.items)
+    (actions_along here.otherwise.items) = ap action_of here.is-0 ∙ action_of-If here.branches here.otherwise in
+    let right : action_of c.args.other.now ≡ If (branches_along here.other_branches.items)
+    (actions_along here.other_otherwise.items) =
+    ap action_of here.is-1 ∙ action_of-If here.other_branches here.other_otherwise in
     let firsts = rw (c.deref.ensures.value, c.deref-in-If-If.ensures.value) at c.same_branches.ensures in
     let no = c.if-same_branches.false in
     (λ yes. cc, λ same. firsts.1 (cc))

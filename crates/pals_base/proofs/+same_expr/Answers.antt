@@ -11,7 +11,9 @@ behaviour::Expr::same-returns-then-same t c =
     let here = c.in-Chain-Chain in
     let left : tree_of c.args.self.now ≡ Chain (tree_of here.first.value) (operands_along here.rest.items) =
     ap tree_of here.is-0 ∙ tree_of-Chain here.first here.rest in
-    let right : tree_of c.args.other.now ≡ Chain (tree_of here.other_first.value) (operands_along here.other_rest.items) = ap tree_of here.is-1 ∙ tree_of-Chain here.other_first here.other_rest in
+    let right : tree_of c.args.other.now ≡ Chain (tree_of here.other_first.value)
+    (operands_along here.other_rest.items) =
+    ap tree_of here.is-1 ∙ tree_of-Chain here.other_first here.other_rest in
     let firsts : tree_of here.first.value ≡ tree_of here.other_first.value = grind (arith, common_steps) in
     let rests = rw (c.deref-then-same.ensures.value, c.deref-then-same-2.ensures.value) at c.same_operands.ensures in
     (λ yes. let e = rests.0 yes in cc, λ same. rests.1 (cc))

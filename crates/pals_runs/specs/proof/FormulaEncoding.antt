@@ -51,7 +51,8 @@ decode_formula (gcons (gnum (suc (suc zero))) v) = Not (decode_formula v)
 decode_formula (gcons (gnum (suc (suc (suc zero)))) v) = Previous (decode_formula v)
 decode_formula (gcons (gnum (suc (suc (suc (suc zero))))) v) = Once (decode_formula v)
 decode_formula (gcons (gnum (suc (suc (suc (suc (suc zero)))))) v) = Historically (decode_formula v)
-decode_formula (gcons (gnum (suc (suc (suc (suc (suc (suc zero))))))) (gcons a b)) = And (decode_formula a) (decode_formula b)
+decode_formula (gcons (gnum (suc (suc (suc (suc (suc (suc zero))))))) (gcons a b)) =
+    And (decode_formula a) (decode_formula b)
 decode_formula (gcons (gnum (suc (suc (suc (suc (suc (suc (suc zero)))))))) (gcons a b)) =
     Or (decode_formula a) (decode_formula b)
 decode_formula (gcons (gnum (suc (suc (suc (suc (suc (suc (suc (suc n))))))))) (gcons a b)) =
@@ -67,8 +68,10 @@ decode_encode (Not f) = ap Not (decode_encode f)
 decode_encode (Previous f) = ap Previous (decode_encode f)
 decode_encode (Once f) = ap Once (decode_encode f)
 decode_encode (Historically f) = ap Historically (decode_encode f)
-decode_encode (And f g) = ap (λ h. And h (decode_formula (encode_formula g))) (decode_encode f) ∙ ap (And f) (decode_encode g)
-decode_encode (Or f g) = ap (λ h. Or h (decode_formula (encode_formula g))) (decode_encode f) ∙ ap (Or f) (decode_encode g)
+decode_encode (And f g) = ap (λ h. And h (decode_formula (encode_formula g))) (decode_encode f)
+    ∙ ap (And f) (decode_encode g)
+decode_encode (Or f g) = ap (λ h. Or h (decode_formula (encode_formula g))) (decode_encode f)
+    ∙ ap (Or f) (decode_encode g)
 decode_encode (Since f g) =
     ap (λ h. Since h (decode_formula (encode_formula g))) (decode_encode f) ∙ ap (Since f) (decode_encode g)
 

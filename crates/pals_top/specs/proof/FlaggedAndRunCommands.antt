@@ -6,7 +6,8 @@ use Rattle.pals_top.specs.CommandWords.{is_plain, command_by}
 
 -- a word with a root and one flag
 abbrev pub flagged_command : List ℕ → List ℕ → List ℕ → Option Command
-flagged_command flag word root = if is_plain word && is_plain root then command_by (word ∷ root ∷ []) (flag ∷ []) else None
+flagged_command flag word root = if is_plain word
+    && is_plain root then command_by (word ∷ root ∷ []) (flag ∷ []) else None
 
 -- the one command that is given the program's host
 abbrev pub is_run : Command → Bool

@@ -27,7 +27,11 @@ pub record PairMember : Type 0 where
   pub sources : List PortSource
 
 abbrev pub member_of_pair : PairedComponent → PairMember
-member_of_pair side = record { partner = side.partner; component = side.wired.component.now; sources = side.wired.sources.now }
+member_of_pair side = record {
+  partner = side.partner;
+  component = side.wired.component.now;
+  sources = side.wired.sources.now;
+}
 
 -- ---- the inputs
 abbrev pub brought_at : RoundInputs → PairMember → ℕ → PortSource → PortValue
@@ -48,7 +52,8 @@ from_link round pair_member step last number (Some link) =
 
 abbrev pub side_value : RoundInputs → PairMember → ℕ → Option (List PortValue) → PortSource → PortValue
 side_value round pair_member step last source.Nothing = brought_at round pair_member step source.Nothing
-side_value round pair_member step last (source.Feed feed root) = brought_at round pair_member step (source.Feed feed root)
+side_value round pair_member step last (source.Feed feed root) =
+    brought_at round pair_member step (source.Feed feed root)
 side_value round pair_member step last (source.Link number) =
     from_link round pair_member step last number (slice_get round.design.now.links number)
 

@@ -65,7 +65,8 @@ link_by design pairs values before left rate step number (Some link) =
     else if is_to_controller pairs link then left link.source.0 link.out_port step
     else brought design values before rate step (source.Link number)
 
-abbrev pub read_by : DesignParts → List Pair → List PortValue → Configuration → LeftValues → ℕ → ℕ → PortSource → PortValue
+abbrev pub read_by : DesignParts → List Pair → List PortValue → Configuration → LeftValues → ℕ → ℕ → PortSource
+    → PortValue
 read_by design pairs values before left rate step source.Nothing = brought design values before rate step source.Nothing
 read_by design pairs values before left rate step (source.Feed feed root) =
     brought design values before rate step (source.Feed feed root)

@@ -22,10 +22,11 @@ abbrev pub pair_member : DesignParts → ℕ → ℕ → Component → PairMembe
 pair_member design node partner c = record { partner = partner; component = c; sources = sources_of design node c }
 
 -- in a pair, with its frame in these parts
-pub record IsPaired (design : DesignParts) (parts : List Part) (node partner : ℕ) (side : PairedComponent) : Type 0 where
-  pub wired_is : IsWired design node side.wired
-  pub partner_is : side.partner ≡ partner
-  pub from_is : side.from.now ≡ slice_index_or (frames_of parts) node no_frame
+pub record IsPaired (design : DesignParts) (parts : List Part) (node partner : ℕ) (side : PairedComponent) : Type 0
+  where
+    pub wired_is : IsWired design node side.wired
+    pub partner_is : side.partner ≡ partner
+    pub from_is : side.from.now ≡ slice_index_or (frames_of parts) node no_frame
 
 -- ---- the results of the round
 abbrev pub rows_of : List Stage → List (List (List PortValue))

@@ -7,7 +7,8 @@ use Rattle.pals_runs.specs.declared.journal.Stop.{Stop}
 use Rattle.pals_runs.specs.declared.journal.JournalEntry.{JournalEntry}
 use Rattle.pals_runs.specs.JournalLines.{node_word, link_word, entry_line}
 use Rattle.run_laws.specs.EntriesOfDesigns.{IsEntryIn}
-use Rattle.run_laws.specs.LineForms.{LineForm, ArriveLine, StartLine, StepLine, FinishLine, SendLine, DropLine, RepeatLine}
+use Rattle.run_laws.specs.LineForms.{LineForm, ArriveLine, StartLine, StepLine, FinishLine, SendLine, DropLine}
+use Rattle.run_laws.specs.LineForms.{RepeatLine}
 use Rattle.run_laws.specs.LineForms.{EarlyLine, MissedLine, form_of}
 use Rattle.run_laws.specs.EntriesInLines.{entry_of_line}
 use Rattle.pals_runs.specs.declared.journal.Stop.TheVariants as stop
@@ -52,9 +53,11 @@ LinesDiffer = OfEntries (λ design e.
 
 -- and each line that denotes an entry denotes an entry of the design
 abbrev pub ToldAreIn : Type 0
-ToldAreIn = (design : DesignParts) (line : List ℕ) (e : JournalEntry) → entry_of_line design line ≡ Some e → IsEntryIn design e
+ToldAreIn = (design : DesignParts) (line : List ℕ) (e : JournalEntry) → entry_of_line design line ≡ Some e
+    → IsEntryIn design e
 
 -- a line that denotes an entry of a design is that entry's line, byte by byte
 abbrev pub ToldAreLines : Type 0
 ToldAreLines =
-    (design : DesignParts) (line : List ℕ) (e : JournalEntry) → entry_of_line design line ≡ Some e → line ≡ entry_line design e
+    (design : DesignParts) (line : List ℕ) (e : JournalEntry) → entry_of_line design line ≡ Some e
+    → line ≡ entry_line design e

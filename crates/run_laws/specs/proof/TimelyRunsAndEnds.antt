@@ -37,7 +37,8 @@ IsDueAfterAlarm run number round = let source = (link_at run.design number).sour
 -- each message is in time for the start that takes it, and none is due at a start of its own round, or of an earlier
 -- one
 abbrev pub InTime : Run → Clocks → Type 0
-InTime run Meet = EachLink run (λ number. (round : ℕ) → (IsLate run number round → ⊥) × IsDueAfterAlarm run number round)
+InTime run Meet = EachLink run (λ number. (round : ℕ)
+    → (IsLate run number round → ⊥) × IsDueAfterAlarm run number round)
 InTime run (Lists clocks) =
     EachLink run (λ number. (round : ℕ) → IsTimely run clocks number round × IsDueAfterStarts run clocks number round)
 

@@ -20,5 +20,6 @@ pub record AreLooseEvents (design : DesignParts) (events : List Event) : Type 0 
 
 abbrev pub EventsAreLoose : Type 0
 EventsAreLoose =
-    (bytes root : List ℕ) (design : DesignParts) (scenario : Scenario) → Means bytes design (loose_world_command root) (Ok scenario)
+    (bytes root : List ℕ) (design : DesignParts) (scenario : Scenario)
+    → Means bytes design (loose_world_command root) (Ok scenario)
     → AreLooseEvents design scenario.events

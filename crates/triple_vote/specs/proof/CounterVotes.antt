@@ -35,7 +35,8 @@ xs_in v = flat_map (λ frames. map (λ (frame : Frame). slice_index_or frame.var
 
 abbrev pub counted : List VoteFault → List (List ℤ)
 counted faults =
-    map (λ round. xs_in (voted_composition two_counters no_env (true ∷ false ∷ []) (first_round faults) (suc round))) (upwards 0 3)
+    map (λ round. xs_in (voted_composition two_counters no_env (true ∷ false ∷ []) (first_round faults) (suc round)))
+    (upwards 0 3)
 
 abbrev pub four : ℕ → List ℤ
 four x = pos x ∷ pos x ∷ pos x ∷ pos x ∷ []

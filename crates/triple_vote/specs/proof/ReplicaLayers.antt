@@ -62,11 +62,13 @@ rows_made design values received_messages frames node c =
     outputs c.behaviour (slice_index_or frames node no_frame) (inputs_of design values received_messages node c)
 
 -- its frame, and the rows of its stage
-pub record IsRun (design : DesignParts) (values : List PortValue) (received_messages : List (List PortValue)) (frames : List Frame)
+pub record IsRun (design : DesignParts) (values : List PortValue) (received_messages : List (List PortValue))
+    (frames : List Frame)
     (next : List Part) (stages : List Stage)
     (node : ℕ) (c : Component) : Type 0 where
   pub frame : slice_get (frames_of next) node ≡ Some (frame_made design values received_messages frames node c)
-  pub rows : slice_get (map (λ (s : Stage). s.rows) stages) node ≡ Some (rows_made design values received_messages frames node c)
+  pub rows : slice_get (map (λ (s : Stage). s.rows) stages) node
+      ≡ Some (rows_made design values received_messages frames node c)
 
 -- the results of all existing components
 abbrev pub AreRun : DesignParts → List PortValue → List (List PortValue) → List Bool → List Frame → List Part
@@ -100,13 +102,16 @@ pub record StaysPut (old new : Layer) : Type 0 where
 
 abbrev pub own_rows_of : DesignParts → List PortValue → List (List PortValue) → Layer → ℕ → Component
     → List (List PortValue)
-own_rows_of design values received_messages layer node c = rows_made design values received_messages (frames_of layer.parts) node c
+own_rows_of design values received_messages layer node c =
+    rows_made design values received_messages (frames_of layer.parts) node c
 
 -- it has the next frame, the messages and the whole tuples of each component that is there
 pub record IsMade (design : DesignParts) (values : List PortValue) (received_messages : List (List PortValue))
     (layer : Layer) : Type 0 where
-  pub frames : (node : ℕ) (c : Component) → slice_get design.components node ≡ Some c → has_replica layer.there node ≡ true
-      → slice_get (frames_of layer.next) node ≡ Some (frame_made design values received_messages (frames_of layer.parts) node c)
+  pub frames : (node : ℕ) (c : Component) → slice_get design.components node ≡ Some c
+      → has_replica layer.there node ≡ true
+      → slice_get (frames_of layer.next) node ≡ Some
+      (frame_made design values received_messages (frames_of layer.parts) node c)
   pub sent : (l : ℕ) (link : Link) (c : Component) → slice_get design.links l ≡ Some link
       → slice_get design.components link.source.0 ≡ Some c
       → has_replica layer.there link.source.0 ≡ true
@@ -116,7 +121,8 @@ pub record IsMade (design : DesignParts) (values : List PortValue) (received_mes
   pub shown : (n : ℕ) (tap : Tap) (c : Component) → slice_get design.taps n ≡ Some tap
       → slice_get design.components tap.source.0 ≡ Some c
       → has_replica layer.there tap.source.0 ≡ true
-      → slice_get layer.shown n ≡ Some (column tap.out_port (own_rows_of design values received_messages layer tap.source.0 c))
+      → slice_get layer.shown n ≡ Some (column tap.out_port
+      (own_rows_of design values received_messages layer tap.source.0 c))
 
 -- over to the frames that were made
 pub record IsSwapped (old new : Layer) : Type 0 where

@@ -12,7 +12,8 @@ use Rattle.pals_runs.specs.declared.replica_faults.VoteFault.{VoteFault}
 use Rattle.sync_product.specs.proof.ProductSizes.{message_sizes}
 use Rattle.sync_product.specs.proof.Rounds.{frames_of}
 use Rattle.triple_vote.specs.declared.replica_layer.Layer.{Layer}
-use Rattle.triple_vote.specs.VotedComposition.{is_replicated, copies_of, VotedConfiguration, for_replicas, for_receivers, is_fault, fault_or}
+use Rattle.triple_vote.specs.VotedComposition.{is_replicated, copies_of, VotedConfiguration, for_replicas}
+use Rattle.triple_vote.specs.VotedComposition.{for_receivers, is_fault, fault_or}
 use Rattle.triple_vote.specs.VotedComposition.{vote_of}
 use Rattle.triple_vote.specs.proof.ReplicaLayers.{lengths, HasRoom, has_replica, IsMade}
 
@@ -57,7 +58,8 @@ abbrev pub AreReceived : DesignParts → List Bool → List VoteFault → List L
 AreReceived design replicated faults layers target received_messages =
     (l : ℕ) (link : Link) → slice_get design.links l ≡ Some link
     → has_replica (slice_index_or (there_in layers) target []) link.target.0 ≡ true
-    → slice_get received_messages l ≡ Some (received_of (is_replicated replicated link.source.0) faults (sent_in layers) l target)
+    → slice_get received_messages l ≡ Some (received_of (is_replicated replicated link.source.0) faults
+    (sent_in layers) l target)
 
 -- what a root out port shows of it
 abbrev pub shown_of : Bool → List (List (List PortValue)) → ℕ → List PortValue
@@ -96,7 +98,8 @@ AreMade design values received_messages layers =
 -- each layer's replicas receive
 abbrev pub AllReceived : DesignParts → List Bool → List VoteFault → List Layer → List (List (List PortValue)) → Type 0
 AllReceived design replicated faults layers received_messages =
-    (target : ℕ) → target < 3 → AreReceived design replicated faults layers target (slice_index_or received_messages target [])
+    (target : ℕ) → target < 3 → AreReceived design replicated faults layers target
+    (slice_index_or received_messages target [])
 
 -- over to the frames that were made
 pub record AreSwapped (old new : List Layer) : Type 0 where

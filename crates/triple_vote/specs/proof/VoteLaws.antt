@@ -14,7 +14,8 @@ use Rattle.pals_model.specs.DesignRules.{IsDesign}
 use Rattle.pals_runs.specs.declared.replica_faults.VoteFault.{VoteFault}
 use Rattle.pals_model.specs.RoundTexts.{report}
 use Rattle.triple_vote.specs.Votes.{vote}
-use Rattle.triple_vote.specs.VotedComposition.{source_in, is_replicated, copies_of, VotedConfiguration, frame_at, received_at}
+use Rattle.triple_vote.specs.VotedComposition.{source_in, is_replicated, copies_of, VotedConfiguration, frame_at}
+use Rattle.triple_vote.specs.VotedComposition.{received_at}
 use Rattle.triple_vote.specs.VotedComposition.{voted_composition, voted_tap}
 use Rattle.triple_vote.specs.VotedText.{voted_report, tripled_report}
 use Rattle.triple_vote.specs.OutvotedFaults.{AreOutvoted}
@@ -109,7 +110,8 @@ pub record StandsAt (design : DesignParts) (env : Env) (replicated : List Bool) 
     (rounds : ℕ) : Type 0 where
   pub design_is : (voted_state_after design env replicated faults rounds).design ≡ design
   pub replicated_is : (voted_state_after design env replicated faults rounds).replicated ≡ replicated
-  pub voted_is : (voted_state_after design env replicated faults rounds).voted ≡ voted_composition design env replicated faults rounds
+  pub voted_is : (voted_state_after design env replicated faults rounds).voted
+      ≡ voted_composition design env replicated faults rounds
 
 abbrev pub StandsAtVotes : Type 0
 StandsAtVotes =

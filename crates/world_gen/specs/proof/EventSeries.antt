@@ -46,7 +46,8 @@ event_of_kind (Send node) number = event.Send node
 event_of_kind (Arrive link) number = event.Arrive link number
 
 abbrev pub series_events : ℕ → EventSeries → List Event
-series_events moment series = event_list (number_at_moment (time_of series) series.count moment) (event_of_kind series.event_kind)
+series_events moment series = event_list (number_at_moment (time_of series) series.count moment)
+    (event_of_kind series.event_kind)
 
 -- ---- courses
 -- what they do at a moment

@@ -66,7 +66,8 @@ sends_at design rounds moment node =
 
 abbrev pub arrivals_at : DesignParts → ℕ → ℕ → ℕ → List Event
 arrivals_at design rounds moment link =
-    event_list (number_at_moment (arrive_time design link) rounds moment) (λ round. event.Arrive (record { 0 = link }) round)
+    event_list (number_at_moment (arrive_time design link) rounds moment)
+    (λ round. event.Arrive (record { 0 = link }) round)
 
 abbrev pub finishes : DesignParts → ℕ → ℕ → List Event
 finishes design rounds moment = all_of (length design.components) (finishes_at design rounds moment)

@@ -14,7 +14,8 @@ pub returns-in-Some : goal.returns-in-Some
 unfolding move depth
 returns-in-Some c = let f : SFits w64 c.in-Some.value = search rules in
     let e : to_z w64 (of_z w64 c.in-Some.value) ≡ c.in-Some.value = grind (arith, to_z-of_z) in record {
-      runs = λ outer below h. takes_row outer c.args.reader.now.end s.figure (below) c.in-Some.ensures refl (omega arith);
+      runs = λ outer below h. takes_row outer c.args.reader.now.end s.figure (below) c.in-Some.ensures refl
+          (omega arith);
       reads = respelled (ap (λ z. token (whole z) [] ∷ []) (sym e)) (told c.in-Some.ensures nothing);
     }
 

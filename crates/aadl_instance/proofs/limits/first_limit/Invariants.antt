@@ -7,4 +7,5 @@ use Rattle.aadl_instance.proofs.limits.first_limit.Given as goal
 -- the limits so far are not exceeded
 abbrev pub invariant-loop-limit : goal.invariant-loop-limit
 invariant-loop-limit l =
-    (other : Limit) → line_of other < 5 + l.limit-index → IsExceeded (placed l.wires.uses.names.tree.now) l.root other → ⊥
+    (other : Limit) → line_of other < 5 + l.limit-index → IsExceeded (placed l.wires.uses.names.tree.now) l.root other
+    → ⊥

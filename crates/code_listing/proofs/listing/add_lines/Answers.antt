@@ -22,6 +22,7 @@ returns-clause-ok c =
     (c.in_ok-add_taps.ensures.ok
     ∙ ap (λ xs. c.add_feeds.new.out.items ++ text_of (map (tap_line design) xs)) c.as_slice-3.ensures.value) in
     line_last c.add_line.result _ (codes "end") (listing_lines design c.args.codes.now) taps
-    (six_lists (period_and_bounds_lines design) all (map (link_line design) design.links) (map (feed_line design) design.feeds)
+    (six_lists (period_and_bounds_lines design) all (map (link_line design) design.links)
+    (map (feed_line design) design.feeds)
     (map (tap_line design) design.taps) (codes "end" ∷ []))
     c.add_line.ensures.ok

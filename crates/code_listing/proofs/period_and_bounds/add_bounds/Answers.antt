@@ -16,5 +16,6 @@ returns-clause-ok c =
     let execution =
     line_behind _ (range_line (codes "execution") gamma.alpha_min gamma.alpha_max) skew
     c.in_ok-add_range.ensures.ok in
-    line_last c.add_range-2.result _ (range_line (codes "network") gamma.mu_min gamma.mu_max) (period_and_bounds_lines design)
+    line_last c.add_range-2.result _ (range_line (codes "network") gamma.mu_min gamma.mu_max)
+    (period_and_bounds_lines design)
     execution refl c.add_range-2.ensures.ok

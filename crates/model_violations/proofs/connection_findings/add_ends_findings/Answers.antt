@@ -14,8 +14,10 @@ returns c = λ x is.
     let view = connection_view kept_place c.args.connection.now in
     let wire = c.wire_at-wire.ensures x view is in
     let source : c.kind_at-source.result ≡ kind_at tree x view.source =
-    c.kind_at-source.ensures x is.declared ∙ ap (λ (w : ConnectionPorts). option_and_then (site_kind tree x) w.source) wire in
+    c.kind_at-source.ensures x is.declared ∙ ap (λ (w : ConnectionPorts). option_and_then (site_kind tree x) w.source)
+    wire in
     let target : c.kind_at-target.result ≡ kind_at tree x view.target =
-    c.kind_at-target.ensures x is.declared ∙ ap (λ (w : ConnectionPorts). option_and_then (site_kind tree x) w.target) wire in
+    c.kind_at-target.ensures x is.declared ∙ ap (λ (w : ConnectionPorts). option_and_then (site_kind tree x) w.target)
+    wire in
     c.in_ok-expect.ensures ∙ ap (λ s. c.args.found.now ++ misfit view.name.at s c.kind_at-target.result) source
     ∙ ap (λ t. c.args.found.now ++ misfit view.name.at (kind_at tree x view.source) t) target

@@ -13,5 +13,6 @@ abbrev pub invariant-loop-number : goal.invariant-loop-number
 invariant-loop-number l =
     l.found ≡ l.fn.found ++ flat_map
     (declaration_findings (placed l.in_use.wires.now.uses.names.tree.now) l.in_use.root
-    (has l.in_use.implementations.now.keys) (has l.in_use.types.now.keys) (carries l.in_use.carriers.now)) (enumerate_from 0
+    (has l.in_use.implementations.now.keys) (has l.in_use.types.now.keys) (carries l.in_use.carriers.now))
+    (enumerate_from 0
     (map (declaration_view kept_place) (take l.number l.in_use.wires.now.uses.names.tree.now.declarations.items)))

@@ -30,7 +30,8 @@ loop-connection-preserved c =
     c.loop-connection.connection-iterator
     c.next.new.self c.next.result first second c.loop-connection.yielded_by _ c.in-Some.is c.next.ensures.steps in
     let is = turn.2 c.in-Some.connection.now in
-    let wire_is = made_of view (ports_of_connection tree x) c.args.x.now.connections.items (length c.loop-connection.yielded)
+    let wire_is = made_of view (ports_of_connection tree x) c.args.x.now.connections.items
+    (length c.loop-connection.yielded)
     c.in-Some.connection.now c.in-Some.wire.now turn.0 is turn.3 in
     rw (length_push c.loop-connection.yielded _)
     (next_found (λ xs. flat_map faults (map view xs)) (λ a. faults (view a)) (λ a xs. refl) _ _ _ _ _ _ turn.0 is

@@ -8,6 +8,7 @@ use Rattle.pals_report.proofs.row.add_component_lines.Given as goal
 abbrev pub invariant-loop-node : goal.invariant-loop-node
 invariant-loop-node g l = record {
   begun : BeginsWith l.out.items l.fn.out.items;
-  rest : l.out.items ++ text_of (component_lines_from (g.P.RoundParts.part_of l.parts) l.node (drop l.node l.components))
+  rest : l.out.items ++ text_of (component_lines_from (g.P.RoundParts.part_of l.parts) l.node
+      (drop l.node l.components))
       ≡ l.fn.out.items ++ text_of (component_lines_from (g.P.RoundParts.part_of l.parts) 0 l.components);
 }

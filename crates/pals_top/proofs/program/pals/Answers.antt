@@ -14,7 +14,8 @@ use Rattle.pals_top.proofs.program.pals.Goals as goal
 pub returns-in-Ok-Run : goal.returns-in-Ok-Run
 returns-in-Ok-Run g c =
     let command : Command = Run c.in-Ok-Run.root c.in-Ok-Run.trace in
-    let asked : command_of_words c.args.words.now ≡ Some command = c.in-Ok-Run.ensures.0 ∙ ap Some c.in-Ok-Run.field-0-is in
+    let asked : command_of_words c.args.words.now ≡ Some command =
+    c.in-Ok-Run.ensures.0 ∙ ap Some c.in-Ok-Run.field-0-is in
     let answered = c.answer_run.result in
     let is = of_words _ command _ asked answered c.answer_run.ensures.ok in
     let un = none_of_words _ command _ asked answered c.answer_run.ensures.err in

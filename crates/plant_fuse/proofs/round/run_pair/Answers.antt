@@ -35,7 +35,8 @@ pub make_pair_steps-run-requires-clause-plant : goal.make_pair_steps-run-require
 make_pair_steps-run-requires-clause-plant c =
     paired_fits c.args.round.design.now c.args.parts.now c.args.next.now c.args.stages.now.items
     c.args.pair.now.plant.0 c.args.pair.now.controller.0 c.paired.result c.take_stage-stage.result
-    c.take_part-part.result c.paired.ensures c.requires.parts c.requires.next c.requires.stages c.take_stage-stage.ensures.was
+    c.take_part-part.result c.paired.ensures c.requires.parts c.requires.next c.requires.stages
+    c.take_stage-stage.ensures.was
     c.take_part-part.ensures.was
 
 -- the controller's stage and part are the ones in the lists
@@ -57,7 +58,8 @@ make_pair_steps-run-requires-clause-controller c =
     let in_stages : pair.controller.0 < length stages =
     omega (arith, inside, count_of_stages design stages c.requires.stages) in
     paired_fits design c.args.parts.now next stages pair.controller.0 pair.plant.0 c.paired-2.result
-    c.index_mut.result.now c.index_mut-2.result.now c.paired-2.ensures c.requires.parts c.requires.next c.requires.stages
+    c.index_mut.result.now c.index_mut-2.result.now c.paired-2.ensures c.requires.parts c.requires.next
+    c.requires.stages
     (stands stages c.take_stage-stage.new.stages.items pair c.take_stage-stage.result c.index_mut.result.now
     c.take_stage-stage.ensures is_pair.two in_stages c.index_mut.ensures.value)
     (stands next c.take_part-part.new.parts pair c.take_part-part.result c.index_mut-2.result.now

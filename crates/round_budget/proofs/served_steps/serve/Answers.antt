@@ -30,7 +30,8 @@ loop-release-preserved c =
     (c.most-most.ensures
     ∙ ap (λ (p : CodeParts). capped (weight_of p)) c.index-codes-release.is
     ∙ sym (ap most_in (slice_get-get_or codes node code can.code))) in
-    let takes : c.from-in-loop-release.result * c.from-in-loop-release-2.result ≡ nanos * by_most codes (release_value x) =
+    let takes : c.from-in-loop-release.result * c.from-in-loop-release-2.result
+    ≡ nanos * by_most codes (release_value x) =
     ap₂ (λ a b. a * b) c.from-in-loop-release.ensures (c.from-in-loop-release-2.ensures ∙ most) in
     let begin : c.max-begin.result ≡ max x.time free = omega (arith, c.max-begin.ensures, c.from.ensures) in
     let begun = c.max-begin.result in

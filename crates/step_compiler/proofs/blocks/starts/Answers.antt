@@ -18,5 +18,6 @@ loop-state-preserved c =
     c.start_in.ensures ∙ ap (λ ls. capped (start_in ls order s)) listed ∙ starts_capped b order s c.requires in
     c.in_ok-push.ensures.items
     ∙ ap (λ xs. xs ++ c.in_ok-place_behind.field-0 ∷ []) c.loop-state.invariant
-    ∙ ap (λ n. before ++ n ∷ []) (c.in_ok-place_behind.ensures (start_of b order s) summed ∙ zero-add (start_of b order s))
+    ∙ ap (λ n. before ++ n ∷ []) (c.in_ok-place_behind.ensures (start_of b order s) summed
+    ∙ zero-add (start_of b order s))
     ∙ sym (map_upwards_more (start_of b order) s)

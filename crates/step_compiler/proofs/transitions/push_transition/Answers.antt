@@ -27,7 +27,8 @@ returns c =
     c.is_complete-never_taken.ensures
     ∙ ap (λ ss. completes (slice_get ss c.transition.inside.source)) c.states.ensures.value
     ∙ ap (λ (x : Edge). is_complete b x.source) seen in
-    let past_is : c.in_ok-false_guard_target.false_guard_target ≡ false_guard_target complete e p = c.in_ok-false_guard_target.ensures ∙ ap (λ t. false_guard_target t e c.len.result) never
+    let past_is : c.in_ok-false_guard_target.false_guard_target ≡ false_guard_target complete e p =
+    c.in_ok-false_guard_target.ensures ∙ ap (λ t. false_guard_target t e c.len.result) never
     ∙ ap (false_guard_target complete e) c.len.ensures in
     let trigger : trigger_of c.transition.inside.guard ≡ e.trigger = ap (λ (x : Edge). x.trigger) seen in
     let actions : actions_along c.deref.result.now ≡ e.actions = ap actions_along c.deref.ensures.value

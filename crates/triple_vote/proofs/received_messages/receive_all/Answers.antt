@@ -21,7 +21,8 @@ receive-requires-clause-number c =
 
 pub receive-requires-clause-sent : goal.receive-requires-clause-sent
 receive-requires-clause-sent c =
-    sent_fit c.args.design.now c.args.replicated.now c.args.table.faults.now c.args.layers.now c.args.at c.requires.layers
+    sent_fit c.args.design.now c.args.replicated.now c.args.table.faults.now c.args.layers.now c.args.at
+    c.requires.layers
     c.requires.faults c.loop-number.received_messages
     c.loop-number.invariant.sizes c.links-link-items.result.now c.loop-number.number no_link
     c.index_mut-tuple.result.now c.links-link-items.ensures.value

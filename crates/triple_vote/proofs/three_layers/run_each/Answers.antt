@@ -31,9 +31,11 @@ loop-at-preserved c =
     let values = c.args.values.now in
     let received_messages = c.args.received_messages.now in
     let within : at < length layers = omega (arith, c.loop-at.layers.ok.0, c.loop-at-test.true) in
-    let inside : at < length received_messages = omega (arith, within, c.loop-at.invariant.rooms.three, c.requires.received_messages) in
+    let inside : at < length received_messages =
+    omega (arith, within, c.loop-at.invariant.rooms.three, c.requires.received_messages) in
     let messages =
-    c.as_slice.ensures.value ∙ c.index-received_messages-at.is ∙ get_or_default received_messages at c.index-received_messages-at.result [] inside in
+    c.as_slice.ensures.value ∙ c.index-received_messages-at.is
+    ∙ get_or_default received_messages at c.index-received_messages-at.result [] inside in
     record {
       made = made_more design values received_messages layers at new within
           (subst (λ (ms : List (List PortValue)). IsMade design values ms new) messages c.in_ok-run.ensures.made)

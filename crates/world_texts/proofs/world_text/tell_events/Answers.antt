@@ -28,5 +28,6 @@ loop-index-preserved c =
     c.in_ok-add_sent_messages.ensures.ok
     ∙ ap (λ (b : BusValue). so_far ++ text_of (told_by b told)) c.bus.ensures
     ∙ ap (λ (e : Event). so_far ++ text_of (told_by new.bus e)) same in
-    telling_more c.args.world.now old new events first done c.args.sent.now.items so_far c.add_sent_messages.new.sent.items
+    telling_more c.args.world.now old new events first done c.args.sent.now.items so_far
+    c.add_sent_messages.new.sent.items
     within c.loop-index.invariant fine moves lines

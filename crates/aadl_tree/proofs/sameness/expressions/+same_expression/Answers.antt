@@ -45,11 +45,13 @@ pub same_sum-returns-then-same_term : goal.same_sum-returns-then-same_term
 same_sum-returns-then-same_term t c =
     let left = view-out-sum no_place c.args.left.now in
     let right = view-out-sum no_place c.args.right.now in
-    let signs : option_map (leading_view no_place) (out-Sum c.args.left.now).sign ≡ option_map (leading_view no_place) (out-Sum c.args.right.now).sign = elim c.if-same_option.branch [
+    let signs : option_map (leading_view no_place) (out-Sum c.args.left.now).sign
+    ≡ option_map (leading_view no_place) (out-Sum c.args.right.now).sign = elim c.if-same_option.branch [
       | same_sum-then-same_option w ↦ c.same_option.ensures.0 w.if-same_option.true
       | same_sum-else-same_option w ↦ (let e = w.value-is in let f = c.if-same_term.true in absurd cc)
     ] in
-    let firsts : term_view no_place (out-Sum c.args.left.now).first ≡ term_view no_place (out-Sum c.args.right.now).first = elim c.if-same_option.branch [
+    let firsts : term_view no_place (out-Sum c.args.left.now).first
+    ≡ term_view no_place (out-Sum c.args.right.now).first = elim c.if-same_option.branch [
       | same_sum-then-same_option w ↦ w.same_term.ensures.0 (sym w.value-is ∙ c.if-same_term.true)
       | same_sum-else-same_option w ↦ (let e = w.value-is in let f = c.if-same_term.true in absurd cc)
     ] in

@@ -16,8 +16,10 @@ is_sound-returns-in_ok-are_sound-in-If t c =
     let parts = c.args.parts.now in
     let loops = c.args.loops in
     let around = c.args.around in
-    let shape : action_of c.args.act.now ≡ If (branches_along here.branches.items) (actions_along here.otherwise.items) = ap action_of here.is ∙ action_of-If here.branches here.otherwise in
-    let first : c.in_ok-branches_are_sound-in-If.field-0 ≡ branches_are_sound (branches_along here.branches.items) parts loops around
+    let shape : action_of c.args.act.now ≡ If (branches_along here.branches.items)
+    (actions_along here.otherwise.items) = ap action_of here.is ∙ action_of-If here.branches here.otherwise in
+    let first : c.in_ok-branches_are_sound-in-If.field-0
+    ≡ branches_are_sound (branches_along here.branches.items) parts loops around
     =
     c.in_ok-branches_are_sound-in-If.ensures
     ∙ ap (λ bs. branches_are_sound (branches_along bs) parts loops around) c.deref.ensures.value in
@@ -35,8 +37,10 @@ is_sound-returns-else-branch t c =
     let parts = c.args.parts.now in
     let loops = c.args.loops in
     let around = c.args.around in
-    let shape : action_of c.args.act.now ≡ If (branches_along here.branches.items) (actions_along here.otherwise.items) = ap action_of here.is ∙ action_of-If here.branches here.otherwise in
-    let first : c.in_ok-branches_are_sound-in-If.field-0 ≡ branches_are_sound (branches_along here.branches.items) parts loops around
+    let shape : action_of c.args.act.now ≡ If (branches_along here.branches.items)
+    (actions_along here.otherwise.items) = ap action_of here.is ∙ action_of-If here.branches here.otherwise in
+    let first : c.in_ok-branches_are_sound-in-If.field-0
+    ≡ branches_are_sound (branches_along here.branches.items) parts loops around
     =
     c.in_ok-branches_are_sound-in-If.ensures
     ∙ ap (λ bs. branches_are_sound (branches_along bs) parts loops around) c.deref.ensures.value in

@@ -17,6 +17,7 @@ returns c =
           voted_report design scenario.env (replicated_in design rs) (faults_of scenario.faults) scenario.rounds) same;
       outvoted = λ fits.
           c.in_ok-text.ensures.outvoted fits
-          ∙ ap (λ (rs : List NodeNo). tripled_report design scenario.env (replicated_in design rs) scenario.rounds) same;
+          ∙ ap (λ (rs : List NodeNo). tripled_report design scenario.env (replicated_in design rs) scenario.rounds)
+          same;
       alone = λ none. c.in_ok-text.ensures.alone (same ∙ none);
     }

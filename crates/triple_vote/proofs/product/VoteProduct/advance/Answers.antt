@@ -15,7 +15,8 @@ invariant_of-self-2 c =
     let received_messages = c.receive_each.new.received_messages.items in (
       tables_stay design inside.replicated inside.sources inside.stages.items c.run_each.new.stages.items
           c.self.invariant.0 c.in_ok-run_each.ensures.stages,
-      replicas_turn design inside.replicated inside.layers.items layers c.swap_each.new.layers.items inside.received_messages.items
+      replicas_turn design inside.replicated inside.layers.items layers c.swap_each.new.layers.items
+          inside.received_messages.items
           received_messages inside.shown c.show_each.new.shown
           c.self.invariant.1 c.in_ok-run_each.ensures.stay
           (subst (λ (d : DesignParts). AreThree d layers) c.deref-2.ensures c.in_ok-run_each.ensures.layers)

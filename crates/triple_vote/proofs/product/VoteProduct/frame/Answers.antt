@@ -24,7 +24,8 @@ returns c =
     before_three c.args.self.now.replicated node c.args.replica c.requires.low c.requires.high in
     let there : replica < length layers = omega (arith, three, c.self.invariant.1.layers_fit.three) in
     ap (λ (p : Part). p.frame) (sym c.index-as_slice-node.is)
-    ∙ frame_read design inside.replicated layers inside.received_messages.items node replica layer part within below there
+    ∙ frame_read design inside.replicated layers inside.received_messages.items node replica layer part within below
+    there
     c.index-layer.ensures
     (parts_there design layers replica node layer c.self.invariant.1.layers_fit there c.index-layer.ensures within)
     (c.index-as_slice-node.is ∙ ap (λ (ps : List Part). slice_index_or ps node part) c.as_slice.ensures.value)

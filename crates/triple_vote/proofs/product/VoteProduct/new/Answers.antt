@@ -38,7 +38,8 @@ invariant_of-result c =
       record {
         layers_fit = opened.layers_fit;
         layers_are = opened.layers_are;
-        heard_fit = are_heard design c.in_ok-received_messages.received_messages.items (c.in_ok-received_messages.ensures ∙ ap silent c.deref-4.ensures);
+        heard_fit = are_heard design c.in_ok-received_messages.received_messages.items
+            (c.in_ok-received_messages.ensures ∙ ap silent c.deref-4.ensures);
         shown_fit =
             ap lengths (c.in_ok-shown.ensures ∙ ap absent_taps c.deref-5.ensures) ∙ shown_fits design design.taps;
       },

@@ -43,7 +43,8 @@ bounds-as_slice-link c =
     omega (
       arith,
       tuple_within (λ (x : Link). rate_of design x.source.0) design.links tuples
-          (received_sizes design received_messages target tuples c.self.invariant.1.heard_fit there c.index-tuples.ensures) l within,
+          (received_sizes design received_messages target tuples c.self.invariant.1.heard_fit there
+          c.index-tuples.ensures) l within,
       c.as_slice.ensures.len,
     )
 
@@ -69,9 +70,11 @@ returns c =
     let there : target < length received_messages = omega (arith, three, c.self.invariant.1.heard_fit.three) in
     let within : l < length design.links =
     omega (arith, ap (λ (s : VotedState). length s.design.links) c.self.view_is, c.requires.link) in
-    received_read design inside.replicated (parts_in inside.layers.items) received_messages l target link tuples tuple is below
+    received_read design inside.replicated (parts_in inside.layers.items) received_messages l target link tuples tuple
+    is below
     there c.index-tuples.ensures
     (tuple_within (λ (x : Link). rate_of design x.source.0) design.links tuples
-    (received_sizes design received_messages target tuples c.self.invariant.1.heard_fit there c.index-tuples.ensures) l within)
+    (received_sizes design received_messages target tuples c.self.invariant.1.heard_fit there c.index-tuples.ensures) l
+    within)
     (c.index-as_slice-link.is ∙ ap (λ (ts : List (List PortValue)). slice_index_or ts l tuple) c.as_slice.ensures.value)
     ∙ ap (λ (s : VotedState). received_at s.voted l target) c.self.view_is

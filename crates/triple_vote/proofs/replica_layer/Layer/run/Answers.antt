@@ -20,7 +20,8 @@ returns-clause-made c =
     let shown = c.show_all.new.shown in
     let layer : Layer = record { there = there; parts = parts; next = next; sent = sent; shown = shown } in
     is_made design values received_messages layer stages
-    (subst (λ (ps : List Part). AreRun design values received_messages there (frames_of ps) next stages) c.as_slice-2.ensures.value
+    (subst (λ (ps : List Part). AreRun design values received_messages there (frames_of ps) next stages)
+    c.as_slice-2.ensures.value
     (subst (λ (t : List Bool). AreRun design values received_messages t (frames_of c.as_slice-2.result.now) next stages)
     c.as_slice.ensures.value c.in_ok-run_all.ensures.run))
     (c.in_ok-run_all.ensures.stages ∙ c.requires.stages)
