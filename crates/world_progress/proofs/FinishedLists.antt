@@ -3,9 +3,9 @@
 -- lowers the remaining work.
 use Rattle.std.proofs.Common.{◌≡◌, ◌⊎◌, inl, inr, ℕ, zero, suc, ◌+◌, ◌≤◌, ◌<◌, nat_le, Bool, true, false, List, [], ◌∷◌}
 use Rattle.std.proofs.Common.{◌++◌, length, Option, Some, None, refl, sym, ap, ◌∙◌, subst, arith}
-use Rattle.std.specs.Prelude.{min, not, ◌&&◌, if◌then◌else◌}
+use Rattle.std.specs.Prelude.{min, max, not, ◌&&◌, if◌then◌else◌}
 use Rattle.std.specs.Option.{option_map_or}
-use Rattle.std.proofs.lemmas.Bool.{leb-from}
+use Rattle.std.proofs.lemmas.Bool.{le-leb}
 use Rattle.pals_runs.specs.declared.events_and_faults.Event.{Event}
 use Rattle.pals_runs.specs.declared.events_and_faults.Event.TheVariants as event
 use Rattle.pals_runs.specs.declared.phase.Phase.{Phase}
@@ -14,12 +14,13 @@ use Rattle.bus_machine.specs.declared.plan.Plan.{Plan}
 use Rattle.bus_machine.specs.Plans.{plan_of, component_at}
 use Rattle.bus_machine.specs.Nodes.{NodeState, finished_steps}
 use Rattle.bus_machine.specs.NodeEvents.{may_send}
+use Rattle.bus_machine.specs.AlarmsAndReleases.{release_reading}
 use Rattle.bus_machine.specs.BusStates.{node_at}
 use Rattle.bus_machine.specs.RunParameters.{Run}
 use Rattle.bus_machine.specs.proof.AgreementLaws.{IsRunOf}
 use Rattle.run_laws.specs.Meetings.{AllDone}
-use Rattle.run_laws.specs.Worlds.{World, opening_world, world_after}
-use Rattle.run_laws.specs.Deadlines.{phase_deadline, send_deadline, lesser, node_deadline}
+use Rattle.run_laws.specs.Worlds.{World, opening_world, world_after, ready_at}
+use Rattle.run_laws.specs.Deadlines.{last_before, phase_deadline, send_deadline, lesser, node_deadline}
 use Rattle.run_laws.specs.EventFaults.{fault_of}
 use Rattle.run_laws.specs.EventLists.{IsWithin, world_left}
 use Rattle.run_laws.specs.proof.WorldInvariant.{KeepsDeadline, KeepsTime}
@@ -59,7 +60,10 @@ module _ (run : Run) (w : World) (rules : IsRunOf run) (keeps : KeepsTime run w)
       is in
       let few = (plan_rules run node rules within).few in
       ap (λ p. not n.sent && option_map_or (nat_le plan.sent_steps) (finished_steps plan.rate p) false) is
-      ∙ ap (λ b. not b && nat_le plan.sent_steps plan.rate) unsent ∙ leb-from plan.sent_steps plan.rate few
+      ∙ ap (λ b. not b && nat_le plan.sent_steps plan.rate) unsent ∙ le-leb plan.sent_steps plan.rate few
+
+  abbrev last_send : ℕ
+  last_send = max (ready_at w node) (last_before (release_reading plan n) run.design.gamma.eps)
 
   abbrev by_phase : Phase → Option ℕ
   by_phase p = lesser (phase_deadline run w node p) (send_deadline run w node)
@@ -69,7 +73,8 @@ module _ (run : Run) (w : World) (rules : IsRunOf run) (keeps : KeepsTime run w)
   last_in (Running step) is = inr (has_lesser _ (send_deadline run w node))
   last_in (Between steps) is = inr (has_lesser _ (send_deadline run w node))
   last_in Holding is =
-      inr (has_same (send_deadline run w node) _ (ap (λ b. if b then Some _ else None) (held_may_send is)))
+      inr (has_same (send_deadline run w node) last_send
+      (ap (λ (b : Bool). if b then Some last_send else None) (held_may_send is)))
   last_in Done is = inl refl
 
   done_or_last : (n.phase ≡ Done) ⊎ HasLast (node_deadline run w node)
@@ -116,8 +121,7 @@ module _ (run : Run) (rules : IsRunOf run) where
   from work below w keeps most =
       elim (first_or_none (λ node. HasLast (node_deadline run w node)) (λ node. (node_at w.bus node).phase ≡ Done)
       (length run.design.components)
-      (λ node within. elim (done_or_last run w rules keeps node within)
-      [ inl done ↦ inr done | inr last ↦ inl last ])) [
+      (λ node within. elim (done_or_last run w rules keeps node within) [ inl done ↦ inr done | inr last ↦ inl last ])) [
         | inr done ↦ record { events = []; within = tt; done = done }
         | inl first ↦
             until work below first.found.last w keeps most first.place first.found.last first.within first.found.is

@@ -137,7 +137,7 @@ module _ (run : Run) (w : World) (rules : IsRunOf run) (keeps : KeepsTime run w)
   ]
 
 -- ---- lists
-left_keeps : (run : Run) (w : World) (events : List Event) → IsRunOf run → KeepsTime run w → IsWithin run w events
+pub left_keeps : (run : Run) (w : World) (events : List Event) → IsRunOf run → KeepsTime run w → IsWithin run w events
     → KeepsTime run (world_left run w events)
 left_keeps run w [] rules keeps within = keeps
 left_keeps run w (e ∷ events) rules keeps within =

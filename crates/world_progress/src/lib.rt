@@ -1,5 +1,5 @@
-//! Progress of worlds: no list of timed events within the bounds leads to a world in which nothing can happen.
-//! Definitions and their law.
+//! Progress of worlds: each list of timed events within the bounds can be continued, and finished: it is the first part
+//! of a list within the bounds after which all nodes have done all rounds. Definitions and their laws.
 #![tactic(auto)]
 
 pub mod laws;
