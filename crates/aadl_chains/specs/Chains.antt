@@ -43,7 +43,7 @@ abbrev pub Leads : PackageTree ℕ → ℕ → List ConnectionAt → Port → Po
 Leads tree root [] from to = from ≡ to
 Leads tree root (c ∷ cs) from to = (mid : Port) × Leads tree root cs from mid × Goes tree root c mid to
 
--- the port of a component, if it has one of this number
+-- the port of a component with this number, if there is one
 abbrev pub port_of : PackageTree ℕ → ℕ → Port → Option (Feature ℕ)
 port_of tree root p = slice_get (ports_at tree (component_at tree root p.path)) p.port
 

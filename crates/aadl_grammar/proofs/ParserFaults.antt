@@ -14,7 +14,7 @@ along a b Memory h f = tt
 along a b (Syntax at) h f = h ∙ f
 along a b (TooDeep at) h f = h ∙ f
 
--- the exits by `?`
+-- early returns by `?`
 pub exits : {X : Type 0} (next : X → ℕ) (r : Reader) (outer : ℕ) (below : Stack) (was : Fate) (e : ParseFault)
     (result : Result X ParseFault) → IsErrAnd result (λ y. y ≡ e) → FailsAs was e → RunsTo next r outer below was result
 exits next r outer below was e (Ok x) h g = absurd h

@@ -57,7 +57,7 @@ pub regroup : (ps qs : List (SpellingPart ℕ)) {rs : List (SpellingPart ℕ)} {
     → Reads rs mid rest → Reads (ps ++ (qs ++ rs)) ss rest
 regroup ps qs {rs} a b = respelled (append_assoc ps qs rs) (then a b)
 
--- one more of a list of parts
+-- one more element of a list of parts
 pub listed : {A B : Type 0} (f : B → List (SpellingPart ℕ)) (g : A → B) (xs : List A) (x : A)
     → flat_map f (map g (xs ++ x ∷ [])) ≡ flat_map f (map g xs) ++ f (g x)
 listed f g [] x = append-nil (f (g x))

@@ -23,7 +23,7 @@ none_left : (ss : List PlacedTerminal) → kinds_of ss ≡ [] → ss ≡ []
 none_left [] e = refl
 none_left (s ∷ ss) e = absurd cc
 
--- terminals that spell a package are written by one, at its places
+-- a package whose parts are at the places of these terminals
 pub record IsWritten (ss : List PlacedTerminal) : Type 0 where
   pub tree : PackageTree ℕ
   pub written : Written (package_parts tree) ss []

@@ -28,7 +28,7 @@ pub other_bytes : (p : ℕ → Bool) (c d : ℕ) → p c ≡ true → p d ≡ fa
 other_bytes p c d h fails =
     false_from_ne_true (d == c) (λ e. let same = eqb-true d c e in let f = ap p same in absurd cc)
 
--- blanks are passed over
+-- the lexer skips blanks
 pub space_first : (r : Reading) (at : ℕ) (s : List ℕ) → first r at (32 ∷ s) ≡ Skipped 1
 unfolding first
 space_first r at s = refl

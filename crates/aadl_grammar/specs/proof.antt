@@ -1,5 +1,4 @@
--- Definitions that the program's theorem does not depend on: those of the contracts of its parts, of laws, and of
--- proofs.
+-- Definitions that the program's theorem does not depend on: the contracts of its parts, laws, and proofs use them.
 pub mod GrammarSymbols
 pub mod ParseTable
 pub mod StackMachine

@@ -23,7 +23,7 @@ fn next_item(reader: &Reader<'_>, at: usize, before: Option<Mark>) -> Option<usi
 }
 
 /// Parses `{ mark item }`, or `{ item }` for items that begin with a word, and appends the items to those
-/// already found.
+/// already found. Errors: a fault of an item.
 pub fn followers<T: Drop, F: Fn(usize) -> Parsed<T>>(
     reader: &Reader<'_>,
     at: usize,
@@ -44,7 +44,8 @@ pub fn followers<T: Drop, F: Fn(usize) -> Parsed<T>>(
     Ok((found, rest))
 }
 
-/// Parses `[ keyword ( "none" ";" | item { item } ) ]` for items that begin with a word.
+/// Parses `[ keyword ( "none" ";" | item { item } ) ]` for items that begin with a word. Errors: `Syntax` if
+/// the keyword is not followed by `none ;` or an item, or a fault of an item.
 pub fn section<T: Drop, F: Fn(usize) -> Parsed<T>>(
     reader: &Reader<'_>,
     at: usize,

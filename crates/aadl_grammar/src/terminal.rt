@@ -81,6 +81,7 @@ pub fn narrow(place: usize) -> Result<u32, AllocError>
 }
 
 /// Returns the terminals of the tokens. `inside` states whether the first token is inside a behaviour annex.
+/// Errors: out of memory, or a text of 4 GiB or more.
 #[inline(never)]
 pub fn resolve(
     alloc: Global,

@@ -26,7 +26,7 @@ abbrev pub total : List (List ℕ) → ℕ
 total [] = 0
 total (x ∷ xs) = length x + 1 + total xs
 
--- one dot fewer than there are names
+-- the number of dots is one less than the number of names
 dotted_total : (x : List ℕ) (xs : List (List ℕ)) → length (dotted_names (x ∷ xs)) + 1 ≡ total (x ∷ xs)
 dotted_total x [] = omega arith
 dotted_total x (y ∷ xs) =
@@ -59,7 +59,7 @@ weight_at : (tree : PackageTree ℕ) (n s : ℕ) (sub : Subcomponent ℕ) → su
 weight_at tree n s sub e =
     ap (λ r. get_or r s 0) (row tree.declarations n) ∙ cell (subcomponents_of (implementation_at tree n)) s sub e
 
--- ---- from the root's side
+-- ---- along a path from the root
 module _ (tree : PackageTree ℕ) (n s k : ℕ) (sub : Subcomponent ℕ) (declared : sub_at tree n s ≡ Some sub)
     (names : below tree n s ≡ Some k) where
   standing_inside : (r : List ℕ) → number_at_path tree n (r ++ s ∷ []) ≡ number_at_path tree k r

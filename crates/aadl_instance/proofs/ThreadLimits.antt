@@ -58,7 +58,7 @@ pub some_over : (tree : PackageTree ℕ) (used : List ℕ) (part : ThreadPart) (
     → is_thread_in (implementation_at tree n) ≡ true → most part < count_at tree n part → HasTooMany tree used part
 some_over tree used part n h thread over = some_by tree used part n h (implementation_at tree n) refl thread over
 
--- none of them has
+-- none of them exceeds the limit
 pub none_over : (tree : PackageTree ℕ) (used : List ℕ) (part : ThreadPart) (k : ℕ) → length tree.declarations ≤ k
     → ((n : ℕ) (x : Implementation ℕ) → n < k → IsUsedThread tree used n x → most part < count_of tree x part → ⊥)
     → HasTooMany tree used part → ⊥

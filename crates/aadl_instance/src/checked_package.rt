@@ -62,7 +62,7 @@ impl<'t> Checked<'t> {
     }
 }
 
-/// Returns the package with its look-ups below the named root, or its first fault.
+/// Returns the package with its look-ups below the named root. Errors: the package's first fault.
 pub fn check_package<'t>(
     alloc: Global,
     tree: &'t PackageTree,

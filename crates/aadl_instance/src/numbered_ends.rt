@@ -13,7 +13,7 @@ use aadl_uses::standing;
 use pals_base::{NodeNo, Text};
 use std::alloc::{AllocError, Global};
 
-/// Returns the first port of a connection chain.
+/// Returns the first port of a connection chain. Errors: out of memory.
 pub fn start_end(
     alloc: Global,
     network: &ChainSearchContext<'_>,

@@ -131,7 +131,7 @@ string_shape (c ∷ t) front close =
       line = all_taken is_in_string t;
     }
 
--- an annex that is not read
+-- an annex of another language
 
 unread_shape : (s : List ℕ) (n : ℕ) → starts_with nat_eq s (codes "{**") ≡ true → close_from 0 (drop 3 s) ≡ Some n
     → IsUnread (take (n + 6) s)

@@ -1,4 +1,4 @@
--- The longest run of a word's bytes, from a letter on, is a word.
+-- The longest run of word bytes that begins with a letter is a word.
 use Rattle.std.proofs.Common.{◌≡◌, ℕ, suc, ◌+◌, ◌<◌, Bool, true, false, cond, ◌&&◌, ◌∙◌, ap, ap₂, refl, List, [], ◌∷◌}
 use Rattle.std.proofs.Common.{length, take, get_or, arith, nat_le}
 use Rattle.std.specs.Prelude.{take_while}

@@ -38,7 +38,7 @@ run p s = length (take_while p s)
 abbrev pub is_word : List ℕ → Bool
 is_word s = is_ascii_alphabetic (slice_index s 0) && list_all is_in_word s && nat_le (length s) NAME_BYTES
 
--- A word is the longest run of its bytes.
+-- A word is the longest run of word bytes.
 abbrev pub word_first : ℕ → List ℕ → First
 word_first at s = if nat_le (run is_in_word s) NAME_BYTES then Taken Word (run is_in_word s) else Refused (LongName at)
 

@@ -98,7 +98,7 @@ fn print_loop(printer: &mut Printer, turns: &Loop) -> Result<(), AllocError>
     print_block(printer, &turns.body)
 }
 
-/// Prints a block. The recursion is as deep as the block.
+/// Prints a block. The recursion is as deep as the block. Errors: out of memory.
 #[cycle(action)]
 pub fn print_block(printer: &mut Printer, block: &Block) -> Result<(), AllocError>
     ensures { OnOk result (printer.new ≡ printed printer.old (block_parts (block_view no_place block.now))) }

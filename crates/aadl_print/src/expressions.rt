@@ -76,7 +76,7 @@ impl PrintItem for LeadingSign {
     }
 }
 
-/// Prints an expression. The recursion is as deep as the expression.
+/// Prints an expression. The recursion is as deep as the expression. Errors: out of memory.
 #[cycle(expression)]
 pub fn print_expression(printer: &mut Printer, expression: &Expression) -> Result<(), AllocError>
     ensures { OnOk result (printer.new

@@ -38,7 +38,7 @@ impl<T: PrintItem> PrintItem for Box<T> {
     }
 }
 
-/// Prints one item after another.
+/// Prints one item after another. Errors: out of memory.
 pub fn print_all<T: PrintItem>(printer: &mut Printer, items: &[T]) -> Result<(), AllocError>
     ensures { OnOk result (printer.new ≡ printed printer.old (flat_map T.parts (map T.tree items.now))) }
 {
@@ -48,7 +48,7 @@ pub fn print_all<T: PrintItem>(printer: &mut Printer, items: &[T]) -> Result<(),
     Ok(())
 }
 
-/// Prints an optional item.
+/// Prints an optional item. Errors: out of memory.
 pub fn print_option<T: PrintItem>(printer: &mut Printer, item: &Option<T>) -> Result<(), AllocError>
     ensures { OnOk result (printer.new ≡ printed printer.old (parts_if T.parts (option_map T.tree item.now))) }
 {
@@ -58,7 +58,7 @@ pub fn print_option<T: PrintItem>(printer: &mut Printer, item: &Option<T>) -> Re
     }
 }
 
-/// Prints a symbol and an item, if there is an item.
+/// Prints a symbol and an item, if there is an item. Errors: out of memory.
 pub fn print_behind<T: PrintItem>(
     printer: &mut Printer,
     before: Mark,
@@ -74,7 +74,7 @@ pub fn print_behind<T: PrintItem>(
     Ok(())
 }
 
-/// Prints one or more items, with a symbol before each further one.
+/// Prints one or more items, with a symbol before each further one. Errors: out of memory.
 pub fn print_chain<T: PrintItem>(
     printer: &mut Printer,
     separator: Mark,
@@ -92,7 +92,7 @@ pub fn print_chain<T: PrintItem>(
     Ok(())
 }
 
-/// Prints an optional keyword.
+/// Prints an optional keyword. Errors: out of memory.
 pub fn print_if(printer: &mut Printer, keyword: Mark, stands: bool) -> Result<(), AllocError>
     ensures { OnOk result (printer.new ≡ printed printer.old (marked_if {P = Unit {0}} keyword stands)) }
 {
@@ -102,7 +102,7 @@ pub fn print_if(printer: &mut Printer, keyword: Mark, stands: bool) -> Result<()
     Ok(())
 }
 
-/// Prints an optional list of declarations of an annex after its keyword.
+/// Prints an optional list of declarations of an annex after its keyword. Errors: out of memory.
 pub fn print_declared<T: PrintItem>(
     printer: &mut Printer,
     word: Mark,
@@ -119,7 +119,7 @@ pub fn print_declared<T: PrintItem>(
     Ok(())
 }
 
-/// Prints a section after its keyword; nothing if the section is empty.
+/// Prints a section after its keyword; nothing if the section is empty. Errors: out of memory.
 pub fn print_section<T: PrintItem>(
     printer: &mut Printer,
     word: Mark,

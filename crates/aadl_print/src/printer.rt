@@ -38,7 +38,7 @@ impl Printer {
         }
     }
 
-    /// Prints a keyword or a symbol.
+    /// Prints a keyword or a symbol. Errors: out of memory.
     #[tactic(auto, unfolding(crate::specs::proof::PrintedText::put))]
     pub fn mark(&mut self, next: Mark) -> Result<(), AllocError>
         ensures { OnOk result (self.new ≡ put self.old (mark next)) }
@@ -51,7 +51,7 @@ impl Printer {
         Ok(())
     }
 
-    /// Prints a word, a real, a string or an annex of another language, byte for byte.
+    /// Prints a word, a real, a string or an annex of another language, byte for byte. Errors: out of memory.
     #[tactic(auto, unfolding(crate::specs::proof::PrintedText::put))]
     pub fn verbatim(&mut self, bytes: &[u8]) -> Result<(), AllocError>
         ensures word { OnOk result (self.new ≡ put self.old (word bytes.now)) }
@@ -65,7 +65,7 @@ impl Printer {
         Ok(())
     }
 
-    /// Prints a whole number, in decimal digits.
+    /// Prints a whole number, in decimal digits. Errors: out of memory.
     #[tactic(auto, unfolding(crate::specs::proof::PrintedText::put))]
     pub fn whole(&mut self, value: i64) -> Result<(), AllocError>
         ensures { OnOk result (self.new ≡ put self.old (whole value)) }

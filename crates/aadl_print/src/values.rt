@@ -102,7 +102,7 @@ fn print_applies(printer: &mut Printer, paths: &[Path]) -> Result<(), AllocError
     print_chain(printer, Mark::Comma, first, rest)
 }
 
-/// Prints a value. The recursion is as deep as the value.
+/// Prints a value. The recursion is as deep as the value. Errors: out of memory.
 #[cycle(value)]
 pub fn print_value(printer: &mut Printer, value: &Value) -> Result<(), AllocError>
     ensures { OnOk result (printer.new ≡ printed printer.old (value_parts (value_view no_place value.now))) }
@@ -178,7 +178,7 @@ fn print_associations(printer: &mut Printer, associations: &[Association]) -> Re
     Ok(())
 }
 
-/// Prints properties in braces; nothing if there are none.
+/// Prints properties in braces; nothing if there are none. Errors: out of memory.
 pub fn print_properties(printer: &mut Printer, properties: &[Association]) -> Result<(), AllocError>
     ensures { OnOk result (printer.new
         ≡ printed printer.old (properties_parts (associations_view no_place properties.now))) }
@@ -191,7 +191,8 @@ pub fn print_properties(printer: &mut Printer, properties: &[Association]) -> Re
     printer.mark(Mark::BraceClose)
 }
 
-/// Prints the section of the properties of a type or an implementation; nothing if there are none.
+/// Prints the section of the properties of a type or an implementation; nothing if there are none. Errors: out
+/// of memory.
 pub fn print_own_properties(
     printer: &mut Printer,
     properties: &[Association],

@@ -1,4 +1,4 @@
--- Lists whose plain trees without places are the same have the same length. For the comparison of trees.
+-- Lists with equal plain trees without places have equal lengths. For the comparison of trees.
 use Rattle.std.proofs.Common.{◌≡◌, suc, List, [], ◌∷◌, length, refl, ap}
 use Rattle.aadl_tree.specs.declared.values.Value.{Value}
 use Rattle.aadl_tree.specs.declared.values.Association.{Association}

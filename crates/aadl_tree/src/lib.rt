@@ -4,9 +4,9 @@
 //! here store the meaning of a text and the byte offsets of its parts. They do not store comments, sections of
 //! `none ;`, or a `;` after the last action, and the canonical text omits these too.
 //!
-//! The definitions in `specs/` are the grammar that all contracts cite: which trees a text has, what its
-//! canonical text is, and where a text without a tree has its first fault. The crate compares trees, but does
-//! not parse or print them.
+//! The definitions in `specs/` are the grammar that all contracts cite: the trees of a text, its canonical
+//! text, and the first fault of a text without a tree. The crate compares trees, but does not parse or print
+//! them.
 //!
 //! Trees with several lists implement `Drop` by hand, so that dropping one is a single call in its owner.
 #![tactic(auto)]

@@ -252,7 +252,7 @@ pub counted_all : (limit : ℕ) (g : Graph) (marks : List Bool) (n i count : ℕ
 counted_all limit g marks n i count past x =
     record { paths = x.paths; listed = all_listed g marks n i x.paths past x.listed; count_is = x.count_is }
 
--- ---- by the code's reads
+-- ---- by the tables that the code reads
 pub below_is : (g : Graph) (n i : ℕ) (ts : List (Option ℕ)) → ts ≡ targets_in g n → i < length ts
     → below_in g n i ≡ get_or ts i None
 below_is g n i ts e lt =

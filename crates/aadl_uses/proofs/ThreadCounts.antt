@@ -27,7 +27,7 @@ use Rattle.aadl_uses.specs.proof.ContainmentOrders.{IsOrder}
 use Rattle.aadl_uses.specs.proof.MarkedPathCounts.{stands_at, IsMarkedAt, Counted}
 use Rattle.aadl_uses.specs.proof.OrderedLists.{Among, Ordered, AreListed}
 
--- ---- paths from outside and from inside
+-- ---- paths with the outermost or the innermost subcomponent first
 stands_end : (g : Graph) (n s : ℕ) (p : List ℕ)
     → stands_at g n (p ++ s ∷ []) ≡ option_and_then (λ k. below_in g k s) (stands_at g n p)
 stands_end g n s [] = sym (kept_as_is (below_in g n s))

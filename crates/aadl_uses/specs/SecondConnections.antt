@@ -4,7 +4,7 @@ use Rattle.std.specs.Option.{option_and_then}
 use Rattle.aadl_names.specs.declared.numbered_port.NumberedPort.{NumberedPort}
 use Rattle.aadl_uses.specs.declared.connections_by_target.ConnectionPorts.{ConnectionPorts}
 
--- the port into which a connection goes, if it is declared
+-- the target port of a connection, if it is declared
 abbrev pub target_in : List ConnectionPorts → ℕ → Option NumberedPort
 target_in wires n = option_and_then (λ wire. wire.target) (slice_get wires n)
 

@@ -85,7 +85,7 @@ impl Connections {
     }
 }
 
-// The port into which a connection goes.
+// The target port of a connection.
 fn target_at(wires: &[ConnectionPorts], number: usize) -> Option<NumberedPort>
     ensures { result ≡ spec.target_in wires.now number }
 {

@@ -11,7 +11,7 @@ use aadl_tree::Declaration;
 use pals_base::ItemList;
 use std::alloc::{AllocError, Global};
 
-/// The number of the type of each declaration that is an implementation.
+/// Returns the number of the type of each declaration that is an implementation. Errors: out of memory.
 pub fn types_of(
     alloc: Global,
     names: &Names<'_>,

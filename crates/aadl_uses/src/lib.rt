@@ -1,6 +1,6 @@
-//! A package whose names are looked up once, and what follows from these look-ups. Subcomponents, the types of
-//! implementations and the ports that connections join are all numbers: the indices of declarations, features
-//! and connections in the text.
+//! A package whose names are looked up once, and the results of these look-ups. Subcomponents, the types of
+//! implementations and the ports that connections join are all numbers: the indices of declarations,
+//! subcomponents and features in the text.
 //!
 //! From these numbers the crate computes the declarations in use below a root, the first implementation that
 //! contains itself, the connections by their target, and the threads below a root with their paths. Each result

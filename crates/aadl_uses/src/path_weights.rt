@@ -137,7 +137,7 @@ fn found_from(found: &[Option<usize>], target: Option<usize>) -> Option<usize>
     }
 }
 
-// The weight of a path through a subcomponent of a weight.
+// The weight of a path that begins with a subcomponent, up to the limit.
 fn through(weight: usize, below: Option<usize>, limit: usize) -> Option<usize>
     ensures { result ≡ option_map (λ w. min limit (weight + w)) below }
 {

@@ -119,7 +119,7 @@ fn own_path(alloc: Global, marks: &[bool], number: usize) -> Result<Vec<Vec<usiz
     Ok(row)
 }
 
-// Adds the paths that go through a subcomponent.
+// Adds the paths that begin with a subcomponent.
 fn add_below(
     alloc: Global,
     row: &mut Vec<Vec<usize>>,
@@ -135,7 +135,7 @@ fn add_below(
     Ok(())
 }
 
-// The path that goes through a subcomponent first.
+// The path that begins with a subcomponent.
 fn through(alloc: Global, sub: usize, path: &[usize]) -> Result<Vec<usize>, AllocError>
     ensures { IfOk result (λ longer. longer.items ≡ sub ∷ path.now) }
 {

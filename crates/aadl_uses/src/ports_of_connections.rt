@@ -15,7 +15,7 @@ use aadl_tree::{Connection, Declaration};
 use pals_base::ItemList;
 use std::alloc::{AllocError, Global};
 
-/// The connections of each declaration.
+/// Returns the connections of each declaration. Errors: out of memory.
 pub fn wiring_of(
     alloc: Global,
     uses: &Uses<'_>,

@@ -15,7 +15,8 @@ use aadl_names::type_ports::port_number;
 use aadl_tree::{ConnectionEnd, Identifier};
 use std::alloc::{AllocError, Global};
 
-/// Returns the port that an end of a connection of an implementation names, if it is declared.
+/// Returns the port that an end of a connection of an implementation names, if it is declared. Errors: out of
+/// memory.
 pub fn site_of(
     alloc: Global,
     uses: &Uses<'_>,

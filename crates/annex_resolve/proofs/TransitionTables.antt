@@ -120,7 +120,7 @@ module _ (b : BehaviourParts) (es : List Edge) (e : Edge) where
         ap (row_by b (es ++ e ∷ [])) e' ∙ row_marked within)
         (λ i other. row_stays i (ne_eqb e.source i (λ is. other (omega (arith, is)))))
 
-  -- from one that is complete
+  -- from a complete state
   pub table-stays : is_complete b e.source ≡ true → table_by b (es ++ e ∷ []) ≡ table_by b es
   table-stays complete =
       map_upwards_same (row_by b (es ++ e ∷ [])) (row_by b es) 0 (length b.states)

@@ -89,7 +89,7 @@ fn is_integer(kind: Option<Kind>) -> bool
     matches!(kind, Some(Kind::Integer))
 }
 
-/// Resolves a block, within loops with `around` iterations, and appends its violations.
+/// Resolves a block, within loops with `around` iterations, and appends its violations. Errors: out of memory.
 #[cycle(action)]
 pub fn resolve_block(
     alloc: Global,

@@ -14,7 +14,7 @@ use aadl_tree::{AnnexTree, Transition};
 use pals_base::{BehaviourParts, ItemList, NoMemory, Transition as Edge};
 use std::alloc::Global;
 
-// The transitions of an annex; none if the section is absent.
+// The transitions of an annex; an absent section has no transitions.
 fn transitions_of(annex: &AnnexTree) -> &[Transition]
     ensures { map (transition_view kept_place) result.now ≡ transitions_of (annex_tree_view kept_place annex.now) }
 {

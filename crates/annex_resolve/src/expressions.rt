@@ -51,7 +51,7 @@ pub fn fits(given: Option<Kind>, wanted: Option<Kind>) -> bool
     }
 }
 
-/// Appends a violation if a value does not have the expected type.
+/// Appends a violation if a value does not have the expected type. Errors: out of memory.
 pub fn expect(
     alloc: Global,
     found: &mut ItemList<Violation>,

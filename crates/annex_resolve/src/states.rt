@@ -132,7 +132,7 @@ fn initial_are_complete(states: &[StateAt]) -> bool
         .all(|state| state.complete)
 }
 
-/// Whether exactly one state is initial, and it is complete.
+/// Returns whether exactly one state is initial, and it is complete.
 pub fn has_initial(states: &[StateAt]) -> bool
     ensures { result ≡ has_initial states.now }
 {

@@ -70,7 +70,7 @@ impl Violation {
     }
 }
 
-/// Appends a violation without details under a condition.
+/// Appends a violation without details under a condition. Errors: out of memory.
 pub fn add_if(
     alloc: Global,
     found: &mut ItemList<Violation>,

@@ -220,8 +220,8 @@ fn transitions(reader: &Reader<'_>, at: usize, room: usize) -> Parsed<Option<Vec
     Ok((Some(found), end))
 }
 
-/// The body of a behaviour annex, without the `{**` and the `**}` around it: `[ variables ] [ states ] [
-/// transitions ]`.
+/// The body of a behaviour annex, without the `{**` and the `**}` around it:
+/// `[ variables ] [ states ] [ transitions ]`.
 pub fn body(reader: &Reader<'_>, at: usize, room: usize) -> Parsed<AnnexTree>
     ensures { Parses reader.now (Room room) annex_body
         (λ x. annex_tree_parts (annex_tree_view kept_place x)) at result }

@@ -45,7 +45,8 @@ fn check_case<P: Answers>(
     check_answer(rt, name, number, case, answer.as_slice())
 }
 
-/// Prints whether the output for a case is the expected one, and prints a wrong output.
+/// Prints whether the output for a case is the expected one, and prints a wrong output. Errors: standard output
+/// fails.
 pub fn check_answer(
     rt: &HostRuntime,
     name: &str,

@@ -47,7 +47,7 @@ from_filter p xs x c =
     All-contains (Contains xs) (filter p xs) x (All-filter p (Contains xs) xs (All-contains_itself xs)) c
 
 -- ---- each finding has another kind or is a possible one
--- a finding of this kind has no content besides its position
+-- the position is the only content of a finding of this kind
 abbrev pub IsWrongKind : PackageFault → Type 0
 IsWrongKind f = number_of f ≡ number_of (WrongKind 0)
 
@@ -114,7 +114,7 @@ pub covered_flat : {X : Type 0} (g h : X → List PackageFault) → ((x : X) →
 covered_flat g h all xs =
     covered_each g xs (flat_map h xs) (λ x there. covered_wider (λ f here. among_all h xs x f there here) (all x))
 
--- ---- each of the names may be found a second time
+-- ---- each name is a possible duplicate
 pub record Named (names : List SpelledName) (possible : List PackageFault) : Type 0 where
   pub each : (e : SpelledName) → Contains names e → Contains possible (Twice e.name e.at)
 

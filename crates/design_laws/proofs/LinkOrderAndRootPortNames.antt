@@ -100,7 +100,7 @@ module _ {tree : PackageTree ℕ} {name : List ℕ} {parts : InstanceParts} (fla
       subst (λ l. port_number tree parts.root p < port_number tree parts.root (record { path = l; port = q.port })) e
       (by_ports p.path p.port q.port i turned lt)
 
-  -- ---- in order of targets
+  -- ---- the order of targets
   pub targets_rise : (a b : CarriedChain) → InPort a.to → InPort b.to → TargetBefore a b
       → model.port_place (node_at parts.threads a.to.path).0 (port_number tree parts.root a.to) < model.port_place
       (node_at parts.threads b.to.path).0 (port_number tree parts.root b.to)

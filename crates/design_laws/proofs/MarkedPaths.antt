@@ -1,4 +1,4 @@
--- Each declaration has a list of the paths to the marked ones below it, made declaration by declaration.
+-- Each declaration has a list of the paths to the marked ones below it, built declaration by declaration.
 use Rattle.std.proofs.Common.{◌≡◌, ◌⊎◌, inl, inr, ℕ, zero, suc, ◌+◌, ◌<◌, ◌≤◌, Bool, false, List, ◌∷◌, ◌++◌, length}
 use Rattle.std.proofs.Common.{map, Option, Some, None, slice_get, get_or, refl, ap, subst, sym, ◌∙◌, arith}
 use Rattle.std.proofs.lemmas.Bool.{cases_lt}

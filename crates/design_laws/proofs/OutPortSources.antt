@@ -29,7 +29,7 @@ abbrev pub NoneLeads : PackageTree ℕ → ℕ → Port → Type 0
 NoneLeads tree root end = (cs : List ConnectionAt) (from : Port) → IsStart tree root from → Leads tree root cs from end
     → ⊥
 
--- one does, from a thread
+-- a connection chain leads to it, from a thread
 abbrev pub Gives : PackageTree ℕ → ℕ → Port → Type 0
 Gives tree root end = ((from : Port) × IsGiver tree root end from) ⊎ NoneLeads tree root end
 

@@ -27,8 +27,8 @@ abbrev pub of_associations : Associations ℕ → List PackageFault
 of_associations xs = flat_map of_association (listed xs)
 
 -- ---- annexes
--- The findings of the transitions are given: none for a type's annex, the findings of its behaviour for an
--- implementation's.
+-- The findings of the transitions are given. A type's annex has none; an implementation's annex has the findings of
+-- its behaviour.
 abbrev pub of_variable : VariableDeclaration ℕ → List PackageFault
 of_variable x = of_identifiers x.names ++ of_associations x.properties
 

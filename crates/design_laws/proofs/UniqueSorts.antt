@@ -1,4 +1,4 @@
--- A list has only one result of a stable sort.
+-- The result of a stable sort is unique.
 use Rattle.std.proofs.Common.{◌≡◌, ◌∙◌, ℕ, suc, ◌<◌, ◌≤◌, Bool, true, false, cond, not, ◌&&◌, List, [], ◌∷◌, length}
 use Rattle.std.proofs.Common.{get_or, sym, ap, subst, arith}
 use Rattle.std.specs.List.{filter}

@@ -45,7 +45,7 @@ thread_behaviour tree thread = option_and_then (behaviour_in tree) (component_of
 abbrev pub component_in : PackageTree ℕ → ℕ → ThreadAt → Option Component
 component_in tree root thread = component_by thread.path (thread_rate tree root thread) (thread_behaviour tree thread)
 
--- a thread's behaviour, if it has one, keeps the rules of behaviours
+-- a thread's behaviour, if it has one, satisfies the rules of behaviours
 abbrev pub HasRules : PackageTree ℕ → ThreadAt → Type 0
 HasRules tree thread = (b : BehaviourParts) → thread_behaviour tree thread ≡ Some b → IsBehaviour b
 

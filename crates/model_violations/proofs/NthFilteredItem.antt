@@ -29,7 +29,7 @@ found_later p v xs i n m x within is passes later =
     ap (λ l. slice_get l n) (tested p v xs i x true within is passes)
     ∙ ap (slice_get (v x ∷ filter p (map v (drop (i + 1) xs)))) (later ∙ add-one m)
 
--- this one does not count
+-- this element does not pass
 pub not_here : {A B : Type 0} (p : B → Bool) (v : A → B) (xs : List A) (i n : ℕ) (x : A) → i < length xs
     → x ≡ get_or xs i x → p (v x) ≡ false
     → slice_get (filter p (map v (drop i xs))) n ≡ slice_get (filter p (map v (drop (i + 1) xs))) n

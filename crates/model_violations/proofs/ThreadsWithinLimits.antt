@@ -95,7 +95,7 @@ counted_variables : (x : Implementation ℕ) (b : ℕ × AnnexTree ℕ) → firs
     → length (variables_of b.1) ≡ variable_count x
 counted_variables x b is = count_by b.1.variables ∙ sym (first_counted (names.behaviours x.annexes) b is)
 
--- ---- threads in use are small
+-- ---- threads in use are within the limits
 pub is_small : {tree : PackageTree ℕ} {name : List ℕ} {parts : InstanceParts} → IsFlat tree name parts
     → (path : List ℕ) (x : Implementation ℕ) → IsThreadOf tree parts.root path x → IsSmall tree x
 is_small flat path x thread = record {

@@ -14,7 +14,7 @@ use Rattle.component_checks.specs.AdaptorTexts.{adaptor_named}
 use Rattle.model_violations.specs.ChainEnds.{end_name, end_kind, end_rate}
 use Rattle.model_violations.specs.ConnectionsAndCarriers.{connection_of, is_delayed, adaptor_text}
 
--- for the rates at both ends; none if one rate is missing
+-- for the rates at both ends; if one rate is missing, there are no violations
 abbrev pub rated : ℕ → List ℕ → Option (Option Adaptor) → Option Kind → Option ℕ → Option ℕ → List Violation
 rated at name given kind None q = []
 rated at name given kind (Some p) None = []

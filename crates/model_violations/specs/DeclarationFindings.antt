@@ -12,12 +12,12 @@ use Rattle.model_violations.specs.IgnoredProperties.{is_root_type}
 use Rattle.aadl_names.specs.declared.recognised_properties.PropertyHolder.TheVariants as holders
 use Rattle.model_violations.specs.ThreadBehaviours as threads
 
--- ---- a type: its ports, and times above an hour
+-- ---- a type: its ports, and times above one hour
 abbrev pub type_findings : Bool → TypeDeclaration ℕ → List Violation
 type_findings of_root x =
     flat_map port_findings x.features ++ list_big (holders.Declaration x.category of_root) x.properties
 
--- ---- an implementation: times above an hour, its connections, and the behaviour of a thread
+-- ---- an implementation: times above one hour, its connections, and the behaviour of a thread
 abbrev pub sub_findings : Subcomponent ℕ → List Violation
 sub_findings s = list_big (holders.Subcomponent s.category) s.properties
 

@@ -39,7 +39,7 @@ fn is_plain(adaptor: Option<Option<Adaptor>>, source: Option<u32>, target: Optio
     }
 }
 
-// Appends the violations of an adaptor between two rates; none if one rate is missing.
+// Appends the violations of an adaptor between two rates. If one rate is missing, there are no violations.
 fn add_rated(
     alloc: Global,
     carrier: &Carrier,

@@ -137,7 +137,7 @@ fn check_relation(
     }
 }
 
-/// Reports wrong uses of names in an expression.
+/// Reports wrong uses of names in an expression. Errors: out of memory.
 #[cycle(uses)]
 pub fn check_expression(
     finder: &mut FaultFinder,
@@ -228,7 +228,7 @@ fn check_actions(
     Ok(())
 }
 
-/// Reports wrong uses of names in actions.
+/// Reports wrong uses of names in actions. Errors: out of memory.
 #[cycle(actions)]
 pub fn check_block(
     finder: &mut FaultFinder,

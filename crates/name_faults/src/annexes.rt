@@ -51,7 +51,7 @@ fn check_annex_variables(finder: &mut FaultFinder, annex: &Annex) -> Result<(), 
     check_variable_list(finder, variables_in(annex))
 }
 
-/// Reports faults in the properties of variables in annexes.
+/// Reports faults in the properties of variables in annexes. Errors: out of memory.
 pub fn check_variables(finder: &mut FaultFinder, annexes: &[Annex]) -> Result<(), AllocError>
     ensures { OnOk result (finder.new ≡ found finder.old
         (flat_map spec.variables_faults (map (annex_view kept_place) annexes.now))) }

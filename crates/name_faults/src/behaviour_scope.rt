@@ -35,7 +35,7 @@ impl<'t> BehaviourScope<'t> {
     ghost use Rattle.aadl_names.specs.proof.NameTables.{value_of};
     ghost use Rattle.name_faults.specs.proof.BehaviourScopes.{loop_roles, known_by};
 
-    /// Creates the scope of a behaviour outside its loops. Errors: out of memory.
+    /// Creates the scope of a behaviour outside its loops.
     pub fn new(
         alloc: Global,
         first: &'t NameTable<Role>,
@@ -66,7 +66,7 @@ impl<'t> BehaviourScope<'t> {
         })
     }
 
-    /// Returns the role of a name.
+    /// Returns the role of a name. Errors: out of memory.
     pub fn role_of(&self, name: &str) -> Result<Option<Role>, AllocError>
         ensures { IfOk result (λ role. role ≡ known_by self.now name.now) }
     {

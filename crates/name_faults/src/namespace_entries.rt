@@ -22,7 +22,7 @@ use aadl_tree::{
 use pals_base::ItemList;
 use std::alloc::{AllocError, Global};
 
-/// The names of ports.
+/// Returns the entries of ports. Errors: out of memory.
 pub fn port_entries(alloc: Global, ports: &[Feature]) -> Result<ItemList<SpelledName>, AllocError>
     ensures { IfOk result (λ entries. entries ≡ spec.port_entries (map (feature_view kept_place) ports.now)) }
 {
@@ -33,7 +33,7 @@ pub fn port_entries(alloc: Global, ports: &[Feature]) -> Result<ItemList<Spelled
     Ok(entries)
 }
 
-/// The names of subcomponents and connections.
+/// Returns the entries of subcomponents and connections. Errors: out of memory.
 pub fn member_entries(
     alloc: Global,
     x: &Implementation,
@@ -74,7 +74,7 @@ fn add_connections(
     Ok(())
 }
 
-/// The names of a behaviour's variables.
+/// Returns the entries of a behaviour's variables. Errors: out of memory.
 pub fn variable_entries(
     alloc: Global,
     behaviour: &AnnexTree,
@@ -88,7 +88,7 @@ pub fn variable_entries(
     Ok(entries)
 }
 
-/// The names of a behaviour's states.
+/// Returns the entries of a behaviour's states. Errors: out of memory.
 pub fn state_entries(
     alloc: Global,
     behaviour: &AnnexTree,
@@ -102,7 +102,7 @@ pub fn state_entries(
     Ok(entries)
 }
 
-/// The names of types.
+/// Returns the entries of types. Errors: out of memory.
 pub fn type_entries(alloc: Global, tree: &PackageTree) -> Result<ItemList<SpelledName>, AllocError>
     ensures { IfOk result (λ entries. entries ≡ filter_map spec.type_entry (placed tree.now).declarations) }
 {
@@ -113,7 +113,7 @@ pub fn type_entries(alloc: Global, tree: &PackageTree) -> Result<ItemList<Spelle
     Ok(entries)
 }
 
-/// The names of implementations.
+/// Returns the entries of implementations. Errors: out of memory.
 pub fn implementation_entries(
     alloc: Global,
     tree: &PackageTree,

@@ -122,7 +122,7 @@ fn ports_in(declaration: &Declaration) -> &[Feature]
     }
 }
 
-/// The port names of all types.
+/// Returns the port names of all types. Errors: out of memory.
 pub fn all_port_names(alloc: Global, tree: &PackageTree) -> Result<AllPortNames, AllocError>
     ensures { IfOk result (AreAllNamesOf (placed tree.now)) }
 {

@@ -1,4 +1,5 @@
--- The law of selected readings: those of a scripted clock never decrease, and each is at least its target.
+-- The law of selected readings: the readings that a scripted clock selects never decrease, and each is at least its
+-- target.
 use Rattle.std.proofs.Common.{◌≡◌, ℕ, zero, suc, ◌<◌, ◌≤◌, true, false, cond, List, [], ◌∷◌, length, get_or, take, refl}
 use Rattle.std.proofs.Common.{ap, arith, ltb}
 use Rattle.std.specs.List.Sorted.{IsNonDecreasing}

@@ -30,7 +30,7 @@ pub length-each_column : (n : ℕ) (lists : List (List PortValue)) → All (λ c
 length-each_column n lists =
     All-from_recursion (λ c. length c ≡ length lists) (columns n lists) (each_column lists (upwards 0 n))
 
--- the n-th place of each list, place by place
+-- the value at an index of each list, list by list
 pub get_or-column : (lists : List (List PortValue)) (at p : ℕ)
     → slice_index_or (column at lists) p Absent ≡ slice_index_or (slice_index_or lists p []) at Absent
 get_or-column [] at p = refl

@@ -139,7 +139,7 @@ arrives b e fresh at sizes =
     (acts_keeps (length b.vars) (length b.outs) e.actions at.frame fresh at.outs sizes.0 sizes.2)
     (λ done has. (refl, (has.0, sizes.1, has.1)))
 
--- a transition that leaves a state goes to a state
+-- the target of a well-formed transition is declared
 target_within : (b : BehaviourParts) (e : Edge) → is_edge b e ≡ true → e.target < length b.states
 target_within b e sound =
     let n = length b.states in

@@ -22,7 +22,8 @@ value_names b =
 abbrev pub has_word : StateDecl → Bool
 has_word s = is_word s.name
 
--- ports, variables and states have words for names; a thread's ports and variables differ, and so do its states
+-- the names of ports, variables and states are words; the names of a thread's ports and variables are distinct, and
+-- so are the names of its states
 pub record HasNames (b : BehaviourParts) : Type 0 where
   pub values : IsTrue (list_all is_word (value_names b))
   pub values_differ : AreDistinct (value_names b)
@@ -40,7 +41,8 @@ has_condition b Dispatch = true
 has_condition b Always = true
 has_condition b (When e) = (kinds_of e b 0).boolean
 
--- a transition goes from a state to a state, and its guard and actions are well typed, with short loops
+-- the source and the target of a transition are declared, its guard and actions are well typed, and its loops are
+-- short
 abbrev pub is_edge : BehaviourParts → Edge → Bool
 is_edge b e =
     nat_lt e.source (length b.states) && nat_lt e.target (length b.states) && has_condition b e.trigger

@@ -1,4 +1,4 @@
--- Expressions, actions and transitions as plain trees, without their place in memory.
+-- Expressions, actions and transitions as plain trees, without addresses.
 use Rattle.std.specs.Prelude.{ℕ, ℤ}
 use Rattle.pals_base.specs.declared.behaviour.Op.{Op}
 
@@ -33,7 +33,7 @@ mutual
     NoBranch : Branches
     Where : Expression → Actions → Branches → Branches
 
--- when a transition is taken
+-- the condition of a transition
 pub data Trigger : Type 0 where
   Dispatch : Trigger
   Always : Trigger

@@ -18,7 +18,7 @@ abbrev pub is_led_by_letter : List ℕ → Bool
 is_led_by_letter [] = false
 is_led_by_letter (c ∷ cs) = is_letter c
 
--- a word: a letter and then letters, digits and `_`, at most 64 bytes
+-- a word: a letter followed by letters, digits and `_`, at most 64 bytes in total
 abbrev pub is_word : List ℕ → Bool
 is_word name = nat_le (length name) NAME_BYTES && is_led_by_letter name && list_all is_word_byte name
 
@@ -29,6 +29,6 @@ is_dot c = nat_eq c 46
 abbrev pub is_path : List ℕ → Bool
 is_path path = list_all is_word (slice_split is_dot path)
 
--- no two names are the same
+-- the names are pairwise distinct
 abbrev pub AreDistinct : List (List ℕ) → Type 0
 AreDistinct names = AllPairs (λ a b. a ≢ b) names

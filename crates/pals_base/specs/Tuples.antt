@@ -4,7 +4,7 @@ use Rattle.pals_base.specs.declared.basic_types.PortValue.{PortValue}
 use Rattle.pals_base.specs.declared.basic_types.PortValue.TheVariants.{Absent}
 use Rattle.pals_base.specs.UpwardNumbers.{upwards}
 
--- the n-th place of each list
+-- the value at index n of each list
 abbrev pub column : ℕ → List (List PortValue) → List PortValue
 column n lists = map (λ list. slice_index_or list n Absent) lists
 

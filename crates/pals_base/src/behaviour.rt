@@ -21,7 +21,7 @@ pub struct PortDecl {
     pub kind: Kind,
 }
 
-/// A variable: its name, its type and its first value.
+/// A variable: its name, its type and its initial value.
 #[derive(Drop)]
 pub struct VarDecl {
     pub name: Text,

@@ -6,7 +6,7 @@ use Rattle.std.proofs.lemmas.List.Sums.{suffix_len-le-length}
 abbrev pub behind_line_end : List ℕ → ℕ
 behind_line_end bytes = suffix_len (λ byte. not (nat_eq byte 10)) bytes
 
--- at most all of them
+-- at most all bytes
 pub behind_within : (text : List ℕ) (i : ℕ) → behind_line_end (take i text) ≤ i
 behind_within text i =
     omega (arith, suffix_len-le-length (λ (byte : ℕ). not (nat_eq byte 10)) (take i text), length-take i text)

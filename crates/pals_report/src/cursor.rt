@@ -70,7 +70,8 @@ impl<'t> Cursor<'t> {
         self.go_on(at);
     }
 
-    /// Appends `LINE:COLUMN` of the byte at an offset.
+    /// Appends `LINE:COLUMN` of the byte at an offset. Errors: out of memory; a part of the text may then be in
+    /// the buffer.
     pub fn add_position(&mut self, out: &mut Vec<u8>, at: usize) -> Result<(), NoMemory>
         ensures text { self.new.text.now ≡ self.old.text.now }
         ensures ok { OnOk result (out.new.items ≡ out.old.items ++ position_text self.old.text.now at) }

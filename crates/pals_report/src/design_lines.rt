@@ -64,7 +64,7 @@ fn add_ignored(out: &mut Vec<u8>, name: &Text) -> Result<(), NoMemory>
     out.extend_from_slice(b"\n")
 }
 
-/// Appends a line for each component.
+/// Appends a line for each component. Errors: out of memory; a part of the text may then be in the buffer.
 pub fn add_components(out: &mut Vec<u8>, components: &[Component]) -> Result<(), NoMemory>
     ensures ok { OnOk result
         (out.new.items ≡ out.old.items ++ text_of (map component_line components.now)) }
@@ -76,7 +76,8 @@ pub fn add_components(out: &mut Vec<u8>, components: &[Component]) -> Result<(),
     Ok(())
 }
 
-/// Appends a line for each of these links of the design.
+/// Appends a line for each of these links of the design. Errors: out of memory; a part of the text may then be
+/// in the buffer.
 #[tactic(auto, using(crate::proofs::LinePerItem::lines_turn))]
 pub fn add_links(out: &mut Vec<u8>, design: &DesignParts, links: &[Link]) -> Result<(), NoMemory>
     ensures ok { OnOk result
@@ -89,7 +90,8 @@ pub fn add_links(out: &mut Vec<u8>, design: &DesignParts, links: &[Link]) -> Res
     Ok(())
 }
 
-/// Appends a line for each of these feeds of the design.
+/// Appends a line for each of these feeds of the design. Errors: out of memory; a part of the text may then be
+/// in the buffer.
 pub fn add_feeds(out: &mut Vec<u8>, design: &DesignParts, feeds: &[Feed]) -> Result<(), NoMemory>
     ensures ok { OnOk result
         (out.new.items ≡ out.old.items ++ text_of (map (feed_line design.now) feeds.now)) }
@@ -101,7 +103,8 @@ pub fn add_feeds(out: &mut Vec<u8>, design: &DesignParts, feeds: &[Feed]) -> Res
     Ok(())
 }
 
-/// Appends a line for each of these taps of the design.
+/// Appends a line for each of these taps of the design. Errors: out of memory; a part of the text may then be
+/// in the buffer.
 pub fn add_taps(out: &mut Vec<u8>, design: &DesignParts, taps: &[Tap]) -> Result<(), NoMemory>
     ensures ok { OnOk result
         (out.new.items ≡ out.old.items ++ text_of (map (tap_line design.now) taps.now)) }
@@ -113,7 +116,8 @@ pub fn add_taps(out: &mut Vec<u8>, design: &DesignParts, taps: &[Tap]) -> Result
     Ok(())
 }
 
-/// Appends a line for each name without meaning.
+/// Appends a line for each name without meaning. Errors: out of memory; a part of the text may then be in the
+/// buffer.
 pub fn add_ignored_name_lines(out: &mut Vec<u8>, names: &[Text]) -> Result<(), NoMemory>
     ensures ok { OnOk result
         (out.new.items ≡ out.old.items ++ text_of (map ignored_line names.now)) }

@@ -45,7 +45,8 @@ fn add_shortest(out: &mut Vec<u8>, shortest: Option<Nanos>) -> Result<(), NoMemo
 }
 
 /// Appends the lines of a design's period, of the minimum period that its bound allows, of the shortest period
-/// that also suits its rates, and of its backoff.
+/// that also suits its rates, and of its backoff. Errors: out of memory; a part of the text may then be in the
+/// buffer.
 pub fn add_periods(
     out: &mut Vec<u8>,
     design: &DesignParts,

@@ -19,7 +19,8 @@ fn add_port_name(out: &mut Vec<u8>, ports: &[PortDecl], port: u32) -> Result<(),
     }
 }
 
-/// Appends the name of an in port: its component's path, a `.`, and its own name.
+/// Appends the name of an in port: its component's path, a `.`, and its own name. Errors: out of memory; a part
+/// of the text may then be in the buffer.
 pub fn add_target(
     out: &mut Vec<u8>,
     design: &DesignParts,
@@ -37,7 +38,8 @@ pub fn add_target(
     add_port_name(out, component.behaviour.ins(), port)
 }
 
-/// Appends the name of an out port in the same form.
+/// Appends the name of an out port in the same form. Errors: out of memory; a part of the text may then be in
+/// the buffer.
 pub fn add_source(
     out: &mut Vec<u8>,
     design: &DesignParts,
@@ -75,7 +77,8 @@ fn add_adaptor_text(out: &mut Vec<u8>, adaptor: Adaptor) -> Result<(), NoMemory>
     }
 }
 
-/// Appends a space and an adaptor, if there is one.
+/// Appends a space and an adaptor, if there is one. Errors: out of memory; a part of the text may then be in
+/// the buffer.
 pub fn add_adaptor(out: &mut Vec<u8>, adaptor: Option<Adaptor>) -> Result<(), NoMemory>
     ensures ok { OnOk result (out.new.items ≡ out.old.items ++ and_adaptor adaptor) }
     ensures err { OnErr result (BeginsWith out.new.items out.old.items) }

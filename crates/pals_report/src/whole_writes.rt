@@ -3,7 +3,7 @@ ghost use Rattle.std.specs.Prelude.{◌≡◌, take, OnOk, OnErr};
 
 use pals_base::NoMemory;
 
-/// Removes everything from `start` on if the call failed.
+/// Removes everything from `start` on if the call failed. Returns the result of the call.
 pub fn whole_or_none(
     out: &mut Vec<u8>,
     start: usize,

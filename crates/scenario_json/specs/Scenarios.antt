@@ -157,7 +157,7 @@ scen d design command =
     entries (codes "scenario") d >>= λ es. only_known (find (λ e. not (is_field e.0)) es) (fields_in d design command)
 
 -- ---- bytes
--- the JSON value that bytes are
+-- the bytes encode this JSON value
 abbrev pub IsValue : List ℕ → Data → Type 0
 IsValue bytes d = IsUtf8 bytes × (read bytes ≡ Some d)
 

@@ -7,7 +7,7 @@ use Rattle.aadl_tree.specs.Names as n
 use Rattle.aadl_grammar.specs.proof.SymbolTrees.{NoPlace, identifier_of}
 use Rattle.aadl_grammar.proofs.DerivationTrees.TreeBuilders.{respell}
 
--- all but the last, and the last
+-- the elements before the last one, and the last one
 abbrev before_last : {A : Type 0} → A → List A → List A
 before_last x [] = []
 before_last x (y ∷ ys) = x ∷ before_last y ys

@@ -1,4 +1,4 @@
--- The content of a terminal besides its class, such as the spelling of a word.
+-- The content of a terminal in addition to its class, such as the spelling of a word.
 use Rattle.std.proofs.Common.{◌≡◌, ℕ, ◌≤◌, true, sym, ap, refl, eq-eqb, arith}
 use Rattle.std.specs.Prelude.{nat_lt}
 use Rattle.std.proofs.lemmas.Bool.{eqb-true, ltb-true}

@@ -16,7 +16,7 @@ use Rattle.aadl_grammar.proofs.UniquePlacedTrees.Names.{Fixed}
 use Rattle.aadl_grammar.proofs.UniquePlacedTrees.Annexes.{annex_tree_fixed}
 use Rattle.aadl_grammar.proofs.UniquePlacedTrees.Declarations.{package_fixed}
 
--- two trees of one tree without places
+-- two trees with one shape
 from_bare : {T U : Type 0} (to : T → U) (parts : T → List (SpellingPart ℕ)) (bare : U → List (SpellingPart (Unit {0})))
     → ((t : T) → Alike no_place (parts t) (bare (to t))) → Fixed T U to parts
     → (ss : List PlacedTerminal) (t u : T) → to t ≡ to u → Written (parts t) ss [] → Written (parts u) ss [] → t ≡ u

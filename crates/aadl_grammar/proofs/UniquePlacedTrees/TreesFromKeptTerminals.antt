@@ -80,7 +80,7 @@ rising_survive (may others ∷ a) ss rest (inl v) r = rising_survive a ss rest v
 rising_survive (may others ∷ a) ss rest (inr (more, h, v)) r =
     rising_survive a more rest v (rising_have (extra_kinds others) ss more h r)
 
--- without places it is the same tree
+-- both have the same shape
 same_bare : (t : PackageTree ℕ) (f : ℕ → ℕ) (ts : List PlacedTerminal) → Written (package_parts (package_to f t)) ts []
     → kinds_of ts ≡ kept (package_parts t) → package_to no_place (package_to f t) ≡ package_to no_place t
 same_bare t f ts w e = one_package (kinds_of ts) (package_to no_place (package_to f t)) (package_to no_place t)

@@ -31,6 +31,6 @@ spots_of text ts = map (spot_of text) ts
 abbrev pub is_word_at : List ℕ → Terminal → Bool
 is_word_at text x = is_word (between text x.start x.end)
 
--- the bytes of each word are a word
+-- the bytes of each word terminal are a word
 abbrev pub AreWords : List ℕ → List Terminal → Type 0
 AreWords text ts = All (λ (x : Terminal). x.kind ≡ t.Word → is_word_at text x ≡ true) ts

@@ -47,7 +47,7 @@ ElsifTied f g x = pair_to f (elsif_view g x) ≡ elsif_view (λ n. f (g n)) x
 abbrev LoopTied : {P Q : Type 0} → (P → Q) → (ℕ → P) → Loop → Type 0
 LoopTied f g x = action_to f (loop_view g x) ≡ loop_view (λ n. f (g n)) x
 
--- each with its tie
+-- a tree with the proof that mapping its places commutes with the view
 abbrev AAction : {P Q : Type 0} → (P → Q) → (ℕ → P) → Type 0
 AAction f g = (x : Action) × ActionTied f g x
 

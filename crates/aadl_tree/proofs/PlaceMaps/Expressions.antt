@@ -48,7 +48,7 @@ SumTied f g x = sum_to f (sum_view g x) ≡ sum_view (λ n. f (g n)) x
 abbrev TermTied : {P Q : Type 0} → (P → Q) → (ℕ → P) → Term → Type 0
 TermTied f g x = term_to f (term_view g x) ≡ term_view (λ n. f (g n)) x
 
--- each with its tie
+-- a tree with the proof that mapping its places commutes with the view
 abbrev AFactor : {P Q : Type 0} → (P → Q) → (ℕ → P) → Type 0
 AFactor f g = (x : Factor) × FactorTied f g x
 

@@ -8,7 +8,7 @@ use Rattle.aadl_uses.specs.proof.NumbersByPort.{is_port}
 abbrev pub first_into : List ConnectionPorts → NumberedPort → Option ℕ
 first_into wires target = first_number (λ wire. is_port target wire.target) wires
 
--- there is a number, and it is below another
+-- a first number exists and is below the other
 abbrev pub is_before : Option ℕ → ℕ → Bool
 is_before None n = false
 is_before (Some first) n = nat_lt first n

@@ -14,7 +14,7 @@ abbrev pub is_suspect : List ℕ → Bool → ℕ → Option ℕ → Bool
 is_suspect levels any n None = false
 is_suspect levels any n (Some m) = any || nat_le (level_in levels n) (level_in levels m)
 
--- the list grows by those of the first `subs` subcomponents of a declaration that may lead back
+-- the list grows by the suspects among the first `subs` subcomponents of a declaration
 pub record AreSuspected (g : Graph) (levels : List ℕ) (any : Bool) (n subs : ℕ) (old new : List (ℕ × ℕ)) : Type 0 where
   pub kept : (x : ℕ × ℕ) → Contains old x → Contains new x
   pub all : (s : ℕ) → s < subs → is_suspect levels any n (below_in g n s) ≡ true → Contains new (n, s)

@@ -1,5 +1,5 @@
 -- The times at which the messages of a round are sent and arrive, and at which rounds start. Times are global
--- nanoseconds; readings are those of a node's clock.
+-- nanoseconds; readings come from a node's clock.
 use Rattle.std.specs.Prelude.{ℕ, ◌+◌, ◌-◌, ◌*◌, ◌<◌, ◌≤◌, max}
 use Rattle.pals_base.specs.declared.period_bound_and_releases.Gamma.{Gamma}
 use Rattle.pals_base.specs.PeriodBoundAndReleases.{step_period, sent_steps, release, alarm}

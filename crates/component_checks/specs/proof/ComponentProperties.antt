@@ -27,7 +27,7 @@ timed_by lists = record { period = period_at (first_in Period lists); periodic =
 abbrev pub nearer : ComponentProperties → ComponentProperties → ComponentProperties
 nearer a b = record { period = option_or a.period b.period; periodic = option_or a.periodic b.periodic }
 
--- ---- at each number of a declaration, or of a subcomponent there
+-- ---- by the numbers of declarations and subcomponents
 abbrev pub type_timed : Declaration ℕ → ComponentProperties
 type_timed d = timed_by (type_lists (type_in (Some d)))
 

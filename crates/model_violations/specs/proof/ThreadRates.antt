@@ -1,4 +1,4 @@
--- The threads of an instance with their rates.
+-- The threads of an instance model with their rates.
 use Rattle.std.specs.Prelude.{◌≡◌, ◌<◌, ℕ, List, Option, Some, slice_get}
 use Rattle.aadl_tree.specs.Declarations.{PackageTree}
 use Rattle.aadl_tree.specs.proof.PackageViews.{placed}
