@@ -7,8 +7,8 @@ use Rattle.model_violations.specs.Violations.{shown_by, AreViolations}
 use Rattle.pals_model.specs.declared.design.DesignParts.{DesignParts}
 use Rattle.pals_model.specs.DesignRules.{IsDesign}
 use Rattle.pals_model.specs.RoundTexts.{line_end, text_of as lines_text}
-use Rattle.pals_report.specs.PackageFaultLines.{package_fault_line}
-use Rattle.pals_report.specs.ViolationLines.{violation_lines}
+use Rattle.bundle_designs.specs.PackageFaultLines.{package_fault_line}
+use Rattle.bundle_designs.specs.ViolationLines.{violation_lines}
 use Rattle.bundle_designs.specs.AcceptedAndRefusedPackages.{IsRefusedIn, IsAccepted}
 use Rattle.pals_top.specs.declared.status.TheConstants.{TEXT_REFUSED, DESIGN_REFUSED}
 use Rattle.pals_top.specs.RefusalAnswers.{IsBundleRefused}

@@ -11,9 +11,9 @@ use Rattle.aadl_instance.specs.InstancesByPaths.{InstanceParts}
 use Rattle.annex_resolve.specs.declared.violation.Violation.{Violation}
 use Rattle.model_violations.specs.Violations.{shown_by, AreViolations}
 use Rattle.aadl_names.specs.declared.fault.PackageFault.{PackageFault}
-use Rattle.pals_report.specs.TextFaultLines.{text_fault_line}
-use Rattle.pals_report.specs.PackageFaultLines.{package_fault_line}
-use Rattle.pals_report.specs.ViolationLines.{violation_lines}
+use Rattle.bundle_designs.specs.TextFaultLines.{text_fault_line}
+use Rattle.bundle_designs.specs.PackageFaultLines.{package_fault_line}
+use Rattle.bundle_designs.specs.ViolationLines.{violation_lines}
 use Rattle.design_laws.specs.PackageDesigns as laws
 use Rattle.design_laws.proofs.UniqueInstancesAndDesigns.{one_instance, one_list, no_list}
 use Rattle.bundle_designs.specs.ParsedBundles.{IsParsed}

@@ -9,8 +9,8 @@ use Rattle.model_violations.specs.Violations.{shown_by, AreViolations}
 use Rattle.design_laws.specs.PackageDesigns.{IsDesignIn}
 use Rattle.pals_model.specs.declared.design.DesignParts.{DesignParts}
 use Rattle.pals_model.specs.RoundTexts.{line_end, text_of as lines_text}
-use Rattle.pals_report.specs.PackageFaultLines.{package_fault_line}
-use Rattle.pals_report.specs.ViolationLines.{violation_lines}
+use Rattle.bundle_designs.specs.PackageFaultLines.{package_fault_line}
+use Rattle.bundle_designs.specs.ViolationLines.{violation_lines}
 use Rattle.bundle_designs.specs.ParsedBundles.{IsParsed}
 use Rattle.aadl_names.specs.declared.fault.PackageFault.TheVariants as flat
 

@@ -1,3 +1,7 @@
+pub mod LinesAndColumns
+pub mod TextFaultLines
+pub mod PackageFaultLines
+pub mod ViolationLines
 pub mod AcceptedAndRefusedPackages
 pub mod Bundles
 pub mod ParsedBundles

@@ -4,7 +4,7 @@ use Rattle.aadl_parse.specs.declared.text_fault.TextFault.{TextFault}
 use Rattle.aadl_parse.specs.declared.text_fault.TextFault.TheVariants.{Memory}
 use Rattle.aadl_parse.specs.ParseResults.{IsFaultOfText}
 use Rattle.pals_model.specs.RoundTexts.{line_end}
-use Rattle.pals_report.specs.TextFaultLines.{text_fault_line, no_divider_line}
+use Rattle.bundle_designs.specs.TextFaultLines.{text_fault_line, no_divider_line}
 use Rattle.bundle_designs.specs.Bundles.{IsSplit, HasNoDivider}
 
 -- The bundle has no dividing line, and the output states this.

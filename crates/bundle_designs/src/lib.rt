@@ -8,10 +8,14 @@
 mod accepted_bundle;
 mod bundle;
 mod canonical_text;
+mod cursor;
+mod package_faults;
 mod parsed_bundle;
 mod refusal;
 mod refused_package;
 mod refused_text;
+mod text_faults;
+mod violations;
 
 pub use accepted_bundle::{Accepted, accept};
 pub use bundle::split;

@@ -2,13 +2,14 @@
 ghost use Rattle.std.specs.Prelude.{◌≡◌, ◌≢◌, ◌++◌, IfOk, OnOk};
 ghost use Rattle.aadl_names.specs.declared.fault.PackageFault.{PackageFault};
 ghost use Rattle.pals_model.specs.RoundTexts.{line_end, text_of as lines_text};
-ghost use Rattle.pals_report.specs.PackageFaultLines.{package_fault_line};
-ghost use Rattle.pals_report.specs.ViolationLines.{violation_lines};
+ghost use Rattle.bundle_designs.specs.PackageFaultLines.{package_fault_line};
+ghost use Rattle.bundle_designs.specs.ViolationLines.{violation_lines};
 
+use crate::package_faults::add_package_fault;
+use crate::violations::add_violations;
 use aadl_instance::PackageFault;
 use annex_resolve::Violation;
 use pals_base::NoMemory;
-use pals_report::{add_package_fault, add_violations};
 use std::alloc::{AllocError, Global};
 
 /// Returns the output for a package with this fault. An allocation failure is not a fault of a package, and is

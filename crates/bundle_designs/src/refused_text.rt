@@ -2,11 +2,11 @@
 ghost use Rattle.std.specs.Prelude.{◌≡◌, ◌≢◌, ◌++◌, IfOk, OnOk};
 ghost use Rattle.aadl_parse.specs.declared.text_fault.TextFault.{TextFault};
 ghost use Rattle.pals_model.specs.RoundTexts.{line_end};
-ghost use Rattle.pals_report.specs.TextFaultLines.{text_fault_line, no_divider_line};
+ghost use Rattle.bundle_designs.specs.TextFaultLines.{text_fault_line, no_divider_line};
 
+use crate::text_faults::{add_no_divider, add_text_fault};
 use aadl_parse::TextFault;
 use pals_base::NoMemory;
-use pals_report::{add_no_divider, add_text_fault};
 use std::alloc::{AllocError, Global};
 
 /// Returns the output for a bundle without a dividing line. Errors: out of memory.

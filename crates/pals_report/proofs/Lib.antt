@@ -1,6 +1,5 @@
 pub mod TextPrefixes
 pub mod LinePerItem
-mod ColumnsWithinText
 mod ConcatenatedTexts
 pub mod TapPlacesAndCounts
 pub mod RowLines

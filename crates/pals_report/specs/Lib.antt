@@ -1,8 +1,4 @@
-pub mod LinesAndColumns
 pub mod CheckReports
-pub mod PackageFaultLines
-pub mod ViolationLines
-pub mod TextFaultLines
 pub mod EventFaultLines
 pub mod ClockEndsAndVerdicts
 pub mod ScenarioFaultLines

@@ -3,7 +3,7 @@ use Rattle.std.specs.Prelude.{ℕ, codes, List, ◌++◌, length}
 use Rattle.aadl_lex.specs.declared.fault.LexFault.{LexFault}
 use Rattle.aadl_parse.specs.declared.text_fault.TextFault.{TextFault}
 use Rattle.aadl_parse.specs.declared.text_fault.TextFault.TheVariants.{Lex, Memory, Syntax, TooDeep}
-use Rattle.pals_report.specs.LinesAndColumns.{position_text}
+use Rattle.bundle_designs.specs.LinesAndColumns.{position_text}
 use Rattle.aadl_lex.specs.declared.fault.LexFault.TheVariants as lexical
 
 -- ---- the name of a fault and its position; an allocation failure is not a fault of a text, and has position 0

@@ -1,8 +1,8 @@
 -- The lines of violations.
 use Rattle.std.specs.Prelude.{ℕ, codes, decimal, List, [], ◌∷◌, ◌++◌, map, slice_index_or}
 use Rattle.annex_resolve.specs.declared.violation.Violation.{Violation}
-use Rattle.pals_report.specs.LinesAndColumns.{position_text}
-use Rattle.pals_report.specs.PackageFaultLines.{and_word}
+use Rattle.bundle_designs.specs.LinesAndColumns.{position_text}
+use Rattle.bundle_designs.specs.PackageFaultLines.{and_word}
 
 -- the names of the rules, from rule 1 on
 abbrev pub rule_names : List (List ℕ)

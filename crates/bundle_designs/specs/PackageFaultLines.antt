@@ -4,7 +4,7 @@ use Rattle.aadl_names.specs.declared.fault.PackageFault.{PackageFault}
 use Rattle.aadl_names.specs.declared.fault.PackageFault.TheVariants.{NoRoot, Unknown, Twice, WrongKind, Recursive}
 use Rattle.aadl_names.specs.declared.fault.PackageFault.TheVariants.{DeadEnd, TwoSources, TooMany, Memory}
 use Rattle.aadl_names.specs.FirstFaults.{number_of}
-use Rattle.pals_report.specs.LinesAndColumns.{position_text}
+use Rattle.bundle_designs.specs.LinesAndColumns.{position_text}
 
 -- a space and a word, for each word
 abbrev pub and_word : List ℕ → List ℕ

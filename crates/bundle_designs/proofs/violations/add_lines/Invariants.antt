@@ -1,7 +1,7 @@
 use Rattle.std.proofs.Common.{◌≡◌, ◌++◌, map, take}
 use Rattle.pals_model.specs.RoundTexts.{text_of}
-use Rattle.pals_report.specs.ViolationLines.{violation_line}
-use Rattle.pals_report.proofs.violations.add_lines.Given as goal
+use Rattle.bundle_designs.specs.ViolationLines.{violation_line}
+use Rattle.bundle_designs.proofs.violations.add_lines.Given as goal
 
 -- the lines so far, for positions in one text
 abbrev pub invariant-loop-violation : goal.invariant-loop-violation

@@ -1,7 +1,7 @@
 //! A cursor in a text, which formats positions as line and column.
 ghost use Rattle.std.specs.Prelude.{◌≡◌, ◌++◌, ◌≤◌, length, min, OnOk, OnErr};
 ghost use Rattle.pals_report.specs.proof.TextPrefixes.{BeginsWith};
-ghost use Rattle.pals_report.specs.LinesAndColumns.{line_of, column_of, position_text};
+ghost use Rattle.bundle_designs.specs.LinesAndColumns.{line_of, column_of, position_text};
 
 use itoa::Buffer;
 use pals_base::NoMemory;

@@ -2,13 +2,14 @@
 ghost use Rattle.std.specs.Prelude.{◌≡◌, ◌++◌, OnOk, OnErr};
 ghost use Rattle.pals_model.specs.RoundTexts.{line_end};
 ghost use Rattle.pals_report.specs.proof.TextPrefixes.{BeginsWith};
-ghost use Rattle.pals_report.specs.PackageFaultLines.{and_word, package_fault_words, package_fault_line};
-ghost use Rattle.pals_report.specs.LinesAndColumns.{position_text};
+ghost use Rattle.bundle_designs.specs.PackageFaultLines.{and_word, package_fault_words, package_fault_line};
+ghost use Rattle.bundle_designs.specs.LinesAndColumns.{position_text};
 
-use crate::{Cursor, whole_or_none};
+use crate::cursor::Cursor;
 use aadl_names::PackageFault;
 use itoa::Buffer;
 use pals_base::{NoMemory, Text};
+use pals_report::whole_or_none;
 
 /// Appends the line of a package fault: its number, its name, and the name and position in the text that belong
 /// to it. Errors: out of memory; the buffer is then unchanged.

@@ -2,8 +2,8 @@ use Rattle.std.proofs.Common.{◌++◌, ap, ◌∙◌, arith}
 use Rattle.pals_model.specs.RoundTexts.{line_end}
 use Rattle.pals_report.proofs.TextPrefixes.{begins_on_err}
 use Rattle.pals_report.proofs.LinePerItem.{lines_turn, lines_all}
-use Rattle.pals_report.specs.ViolationLines.{violation_line}
-use Rattle.pals_report.proofs.violations.add_lines.Goals as goal
+use Rattle.bundle_designs.specs.ViolationLines.{violation_line}
+use Rattle.bundle_designs.proofs.violations.add_lines.Goals as goal
 
 pub returns-in_err-add_line-clause-err : goal.returns-in_err-add_line-clause-err
 returns-in_err-add_line-clause-err c =

@@ -1,6 +1,6 @@
 use Rattle.std.proofs.Common.{◌≡◌}
-use Rattle.pals_report.specs.LinesAndColumns.{line_of, column_of}
-use Rattle.pals_report.proofs.cursor.Cursor.go_on.Given as goal
+use Rattle.bundle_designs.specs.LinesAndColumns.{line_of, column_of}
+use Rattle.bundle_designs.proofs.cursor.Cursor.go_on.Given as goal
 
 -- the line and the column of the current position
 abbrev pub invariant-loop-place : goal.invariant-loop-place

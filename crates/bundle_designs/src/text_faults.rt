@@ -2,13 +2,14 @@
 ghost use Rattle.std.specs.Prelude.{◌≡◌, ◌++◌, OnOk, OnErr};
 ghost use Rattle.pals_model.specs.RoundTexts.{line_end};
 ghost use Rattle.pals_report.specs.proof.TextPrefixes.{BeginsWith};
-ghost use Rattle.pals_report.specs.TextFaultLines.{lexical_name, lexical_place, fault_name, fault_place, text_line};
-ghost use Rattle.pals_report.specs.TextFaultLines.{text_fault_line, no_divider_line};
+ghost use Rattle.bundle_designs.specs.TextFaultLines.{lexical_name, lexical_place, fault_name, fault_place, text_line};
+ghost use Rattle.bundle_designs.specs.TextFaultLines.{text_fault_line, no_divider_line};
 
-use crate::{Cursor, whole_or_none};
+use crate::cursor::Cursor;
 use aadl_lex::LexFault;
 use aadl_parse::TextFault;
 use pals_base::NoMemory;
+use pals_report::whole_or_none;
 
 /// Appends the line of a fault of a design text: its position as `LINE:COLUMN`, and its name. Errors: out of
 /// memory; the buffer is then unchanged.

@@ -2,13 +2,14 @@
 ghost use Rattle.std.specs.Prelude.{◌≡◌, ◌++◌, OnOk, OnErr};
 ghost use Rattle.pals_model.specs.RoundTexts.{line_end, text_of};
 ghost use Rattle.pals_report.specs.proof.TextPrefixes.{BeginsWith};
-ghost use Rattle.pals_report.specs.PackageFaultLines.{and_word};
-ghost use Rattle.pals_report.specs.ViolationLines.{rule_name, details_text, violation_line, violation_lines};
+ghost use Rattle.bundle_designs.specs.PackageFaultLines.{and_word};
+ghost use Rattle.bundle_designs.specs.ViolationLines.{rule_name, details_text, violation_line, violation_lines};
 
-use crate::{Cursor, whole_or_none};
+use crate::cursor::Cursor;
 use annex_resolve::Violation;
 use itoa::Buffer;
 use pals_base::NoMemory;
+use pals_report::whole_or_none;
 
 /// Appends a line for each violation: its position, the number and the name of its rule, and the details.
 /// Violations in the order of their positions take one pass through the text. Errors: out of memory; the buffer
