@@ -10,7 +10,7 @@ use Rattle.aadl_grammar.proofs.HeadsAndTails.{heads, tails}
 kinds_append : (a b : List PlacedTerminal) → kinds_of (a ++ b) ≡ kinds_of a ++ kinds_of b
 kinds_append a b = map-append (λ (x : PlacedTerminal). x.kind) a b
 
--- of two fronts of one list, one continues after the end of the other
+-- two fronts of one list: they are equal, or one continues after the end of the other
 pub data Fronts : List PlacedTerminal → List PlacedTerminal → List PlacedTerminal → List PlacedTerminal → Type 0 where
   same : (a x : List PlacedTerminal) → Fronts a x a x
   before : (a b y : List PlacedTerminal) (t : PlacedTerminal) → Fronts a (t ∷ b ++ y) (a ++ t ∷ b) y
@@ -39,7 +39,7 @@ begins_front IsText a t b r = record {
       ∙ sym (append_assoc (kinds_of a) (t.kind ∷ []) (kinds_of b ++ r.more))) r.text;
 }
 
--- some front of the second list makes the first one stuck
+-- a text that begins with more terminals contradicts a shorter list that is stuck
 stuck_before : (IsText : List PlainTerminal → Type 0) (a b y : List PlacedTerminal) (t : PlacedTerminal) → IsStuck IsText (kinds_of a) (t ∷ b ++ y)
     → Begins IsText (kinds_of (a ++ t ∷ b)) → ⊥
 stuck_before IsText a b y t never r = never (begins_front IsText a t b r)

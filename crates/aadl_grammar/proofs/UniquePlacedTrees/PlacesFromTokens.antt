@@ -55,7 +55,7 @@ placed_token kind [] ps = same (quiet kind) (placed ps []) where
   same false xs = refl
 placed_token kind (p ∷ more) ps = refl
 
--- the shape determines the tokens whose places these are
+-- the shape and the tokens determine the places
 placed_is : (ps : List (SpellingPart ℕ)) (ss : List PlacedTerminal) → Written ps ss [] → placed ps [] ≡ pick (shape ps) (strip ss)
 placed_is [] ss e = refl
 placed_is (token kind places ∷ ps) ss (s, more, e, is, at, w) =
