@@ -125,7 +125,6 @@ impl PortCounts {
         }
     }
 
-    // The count of a port.
     fn at(&self, port: PortAt) -> usize
         ensures { result ≡ entered_count self.now port }
     {

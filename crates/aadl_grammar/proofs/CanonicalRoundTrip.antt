@@ -31,7 +31,7 @@ use Rattle.aadl_grammar.proofs.CanonicalTextLexing.{outer}
 use Rattle.aadl_grammar.proofs.PossibleLexedTerminals.{text_terminals_possible}
 use Rattle.aadl_grammar.proofs.CanonicalUtf8.{text_utf8}
 
--- of two tokens in order, the second begins after the first
+-- tokens in order are after every position before the first one
 all_behind : (inside : Bool) (text : List ℕ) (n from to : ℕ) (ts : List Token) → n < from → AreInOrder from to ts
     → Behind n (spots_from inside text ts)
 all_behind inside text n from to [] less order = tt

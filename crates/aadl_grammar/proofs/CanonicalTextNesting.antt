@@ -31,7 +31,8 @@ front_low n ended (kind ∷ ks) h = (
       (λ front back e. h (kind ∷ front) back (ap (λ l. kind ∷ l) e)),
 )
 
--- fewer open openers keep the limit, also after an `end`
+-- the first state has at most as many open openers, and `end` directly precedes the second state only if it precedes
+-- the first
 abbrev NoMore : ℕ → Bool → ℕ → Bool → Type 0
 NoMore n ended m false = n ≤ m
 NoMore n ended m true = (n ≤ m) × (ended ≡ true)
@@ -70,7 +71,7 @@ low_less n ended m after (kind ∷ ks) h l =
           (opened_less n ended m after kind h)) l.1,
     )
 
--- meaningless terminals leave the number of open openers unchanged
+-- the terminals after meaningless ones remain within the limit
 low_behind : (n : ℕ) (ended : Bool) (extra : Extra) (ks : List PlainTerminal) → Low n ended (extra_kinds extra ++ ks)
     → Low n false ks
 low_behind n true (empty_section feature_section) ks h = h.1.1.1

@@ -24,7 +24,7 @@ marked_moves m f rs x row =
     ap (λ (l : List Row). move_by l (can_omit x) (mark m)) row
     ∙ ap (λ b. cond b (takes f) (move_by rs (can_omit x) (mark m))) (fits_itself m)
 
--- a list whose only row begins with the mark, followed by an item and the list, or which begins as such a list does
+-- a list whose only row begins with the mark, if the row has the same fate as an item followed by the list
 marked_list : (m : Mark) (f : List Symbol) (item list : Symbol) → rows list ≡ on m f ∷ [] → can_omit list ≡ true
     → closes item ≡ 0 → ((below : Stack) → depth (f ++ below) ≤ depth (list ∷ below))
     → ((outer end : ℕ) (below : Stack) (ss : List PlacedTerminal)

@@ -21,8 +21,7 @@ use Rattle.aadl_grammar.proofs.WordAndSymbolLexing.{other_bytes}
 use Rattle.aadl_lex.proofs.AnnexEnds.{none_parts}
 use Rattle.aadl_lex.specs.proof.TokenSpellings.{IsReal, IsString}
 use Rattle.aadl_grammar.proofs.LiteralAndAnnexLexing.{number_digits}
-use Rattle.aadl_grammar.proofs.PossibleTerminals.{IsPossibleTerminal, a_word, a_number, a_real, a_string, a_keyword}
-use Rattle.aadl_grammar.proofs.PossibleTerminals.{a_symbol}
+use Rattle.aadl_grammar.proofs.PossibleTerminals.{IsPossibleTerminal, a_word, a_number, a_real, a_string, a_keyword, a_symbol}
 use Rattle.aadl_grammar.proofs.PossibleTerminals.{closes}
 use Rattle.aadl_grammar.proofs.TerminalRelexing.{Ends, IsPlain, keyword_is_word}
 
@@ -36,7 +35,7 @@ close_past p star (c ∷ w) s n e =
     ∙ close_past p star w s (n + 1) (second_so (p c) _ e)
     ∙ ap (λ m. close_from m s) (let g : n + 1 + length w ≡ n + suc (length w) = omega arith in g)
 
--- and a last `*`
+-- and a `*` that ends its token
 star_past : (s : List ℕ) (n : ℕ) → Ends (mark k.Star) s → close_from n (42 ∷ s) ≡ close_from (n + 1) s
 star_past [] n e = refl
 star_past (h ∷ t) n e = rw e refl
@@ -48,7 +47,7 @@ starts_same c [] s e = and-false (42 == c)
 starts_same c (d ∷ []) s e = ap (λ b. (42 == c) && b) (and-false (42 == d)) ∙ and-false (42 == c)
 starts_same c (d ∷ (f ∷ w)) s e = e
 
--- a string does not contain `**}`, and ends with a quote
+-- the search passes a string without `**}` and its closing quote
 string_past : (w s : List ℕ) (n m : ℕ) → close_from m (w ++ 34 ∷ []) ≡ None
     → close_from n (w ++ 34 ∷ s) ≡ close_from (n + length w + 1) s
 string_past [] s n m e = ap (λ j. close_from j s) (let g : n + 1 ≡ n + 0 + 1 = omega arith in g)
@@ -67,7 +66,7 @@ close_by true j size m y z go e = ap (λ i. Some (m + i)) (some_nat j size e)
     some_nat a b e = cc
 close_by false j size m y z go e = go e
 
--- the position of the first `**}`, with another number for the first byte
+-- the position of the first `**}`, counted from another number
 pub close_at : (s : List ℕ) (m j size : ℕ) → close_from j s ≡ Some size → close_from (m + j) s ≡ Some (m + size)
 close_at [] m j size e = absurd cc
 close_at (c ∷ s) m j size e =
@@ -121,9 +120,8 @@ quoted_past b s n h e =
     ∙ string_past (34 ∷ h.inner) s n 0 none
     ∙ ap (λ j. close_from j s) (let g : n + suc (length h.inner) + 1 ≡ n + length b = omega arith in g)
 
--- The first `**}` after a terminal inside an annex is not before its end.
-pub kind_past : (kind : PlainTerminal) (s : List ℕ) (n : ℕ) → IsPossibleTerminal Inside kind → IsPlain kind
-    → Ends kind s
+-- The search for `**}` passes each terminal inside an annex.
+pub kind_past : (kind : PlainTerminal) (s : List ℕ) (n : ℕ) → IsPossibleTerminal Inside kind → IsPlain kind → Ends kind s
     → close_from n (kind_text kind ++ s) ≡ close_from (n + length (kind_text kind)) s
 kind_past _ s n (a_word _ b w h) plain e = word_past b s n w
 kind_past _ s n (a_number _ m h) plain e = close_past is_ascii_digit refl (fmt.decimal m) s n (number_digits m h)

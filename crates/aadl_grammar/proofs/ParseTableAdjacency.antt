@@ -45,7 +45,7 @@ after_pair t ok chain x y = not (chain x || is_only t x) || ok y
 abbrev pub after_beside : ℕ → (ℕ → Bool) → ℕ → ℕ → Bool
 after_beside t come p n = not (p == t) || come n
 
--- what a row pushes onto the symbols below
+-- the check of the last symbol that a row pushes, which is above the symbol below
 abbrev after_seam : ℕ → (Symbol → Bool) → Symbol → ℕ → List Symbol → Bool
 after_seam t chain x n [] = not (n == t) || (chain x || is_only t x)
 after_seam t chain x n (z ∷ f) = not (chain (last_of z f) || is_only t (last_of z f))

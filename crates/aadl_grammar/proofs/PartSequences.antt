@@ -70,7 +70,7 @@ pub pushed : {A B : Type 0} (f : B → List (SpellingPart ℕ)) (g : A → B) (x
     → Reads (flat_map f (map g ys)) ss rest
 pushed f g xs ys x e a b = respelled (sym (ap (λ l. flat_map f (map g l)) e ∙ listed f g xs x)) (then a b)
 
--- the terminals read end further on
+-- after some terminals, at most as many terminals remain
 have_length : (ks : List PlainTerminal) (ss rest : List PlacedTerminal) → HaveKinds ks ss rest → length rest ≤ length ss
 have_length [] ss rest e = let h : length ss ≡ length rest = ap length e in omega arith
 have_length (kind ∷ ks) ss rest (x, more, e, is, h) = let g : length ss ≡ length (x ∷ more) = ap length e in

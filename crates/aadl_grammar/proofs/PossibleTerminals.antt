@@ -78,7 +78,7 @@ no_annex n h =
     false_from_ne_true (n == 104)
     (λ e. let same = eqb-true n 104 e in let never = ap (may_stand_behind (mark_number k.Semicolon)) same in absurd cc)
 
--- after a `;`, the terminal before it does not matter
+-- after a `;` outside an annex, the terminals that are possible in the mode `Outside` are possible
 said_anyhow : (r : Reading) (ks : List PlainTerminal) → is_inside r ≡ false → AreNeighbours (mark_number k.Semicolon) ks
     → ArePossibleTerminals Outside ks → ArePossibleTerminals r ks
 said_anyhow r [] i near said = i

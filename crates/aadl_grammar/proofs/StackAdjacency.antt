@@ -21,7 +21,7 @@ abbrev pub on_top : (ℕ → Symbol → Bool) → ℕ → Stack → Bool
 on_top top p [] = true
 on_top top p (y ∷ s) = top p y
 
--- the symbols that a row pushes onto the symbol below
+-- the last of one or more symbols; it is directly above the symbol below
 abbrev pub last_of : Symbol → List Symbol → Symbol
 last_of z [] = z
 last_of z (y ∷ f) = last_of y f

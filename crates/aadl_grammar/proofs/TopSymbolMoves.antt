@@ -114,7 +114,7 @@ pub misses_at : (rs : List Row) {m : Mark} {ss rest : List PlacedTerminal} → A
 misses_at rs {m} {ss} {rest} l e = subst (λ (x : List PlacedTerminal). MissAll rs x) (sym l.whole)
     (missing rs m l.at rest e)
 
--- a symbol that cannot be omitted is not omitted
+-- a move that is not an omission remains so under a condition
 cond_omits : (b : Bool) (f : List Symbol) (z : Move) → (z ≡ omitted → ⊥) → cond b (takes f) z ≡ omitted → ⊥
 cond_omits true f z h e = cc
 cond_omits false f z h e = h e
@@ -132,7 +132,8 @@ unfolding move
 never_omits y [] p e = never_end (can_omit y) p e
 never_omits y (t ∷ ss) p e = rows_omit (rows y) t.kind (ap (λ b. move_by (rows y) b t.kind) (sym p) ∙ e)
 
--- If a required symbol is missing, omitting the symbols before it gives the same fault.
+-- If the required symbol `m` is missing, the symbol x before it has the same fate as the symbol y that it begins
+-- with.
 by_move : (outer end : ℕ) (x y : Symbol) (own : List Row) (more : List Symbol) (m : Mark) (below : Stack)
     (ss : List PlacedTerminal) (z : Move) → rows x ≡ own ++ behind more (rows y) → can_omit x ≡ true
     → can_omit y ≡ false

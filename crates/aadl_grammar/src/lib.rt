@@ -3,9 +3,10 @@
 //!
 //! The state of the machine is a stack of expected symbols, the topmost first. The parse table lists, for each
 //! symbol, the terminals that it can begin with and the symbols that follow each of them, so one terminal of
-//! lookahead suffices. The laws of this crate prove that the machine accepts the texts of the grammar and no
-//! others, and that it stops at the first terminal at which no text of the grammar continues. A parser that is
-//! proved to follow the machine therefore needs no further proof about the position of a fault.
+//! lookahead suffices. The laws of this crate state that the machine accepts the texts of the grammar within
+//! the nesting limit and no others. They also state that it stops at the first terminal at which no text of the
+//! grammar continues. A parser that is proved to follow the machine therefore needs no further proof about the
+//! position of a fault.
 //!
 //! A [`Reader`] holds the terminals of a text. Each parsing function reads one part of the grammar from an
 //! index on. It returns the tree of the part and the index of the next terminal, or the fault that the machine

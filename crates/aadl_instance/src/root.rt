@@ -67,7 +67,6 @@ fn is_root_implementation(
     Ok(spelled)
 }
 
-// Whether an implementation has a name.
 fn is_spelled(alloc: Global, x: &Implementation, name: &Text) -> Result<bool, AllocError>
     ensures { IfOk result (λ is. is ≡ same_name name.now
         (spelled_implementation (implementation_name_view kept_place x.now.name))) }

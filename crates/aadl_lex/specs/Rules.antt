@@ -92,7 +92,7 @@ close_from n (c ∷ cs) = if starts_with nat_eq (c ∷ cs) (codes "**}") then So
 abbrev pub body_len : List ℕ → Option ℕ
 body_len s = close_from 0 s
 
--- Only after `behavior_specification`, it is read as tokens.
+-- The body is read as tokens only after `behavior_specification`.
 abbrev pub annex_by : Reading → ℕ → Option ℕ → First
 annex_by reading at None = Refused (OpenAnnex at)
 annex_by AfterName at (Some n) = Body n

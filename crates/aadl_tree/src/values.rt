@@ -12,8 +12,8 @@ pub enum AssociationOperator {
     Appends,
 }
 
-/// A property and its value: `name ( "=>" | "+=>" ) [ "constant" ] value [ "applies" "to" path { "," path } ]
-/// ";"`.
+/// A property and its value:
+/// `name ( "=>" | "+=>" ) [ "constant" ] value [ "applies" "to" path { "," path } ] ";"`.
 #[cycle(value)]
 pub struct Association {
     pub name: Name,

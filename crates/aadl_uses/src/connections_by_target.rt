@@ -85,7 +85,6 @@ impl Connections {
     }
 }
 
-// The target port of a connection.
 fn target_at(wires: &[ConnectionPorts], number: usize) -> Option<NumberedPort>
     ensures { result ≡ spec.target_in wires.now number }
 {

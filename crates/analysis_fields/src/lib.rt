@@ -1,9 +1,9 @@
 //! The fields of scenarios for monitors, votes, fused plants and round budgets: properties, replicas and their
 //! faults, plants with their controllers, and processors.
 //!
-//! Each function parses one field of a JSON scenario against a design. It is proved to return the value of the
-//! field's definition in `specs`, which has the name of the function's module, or its first fault. The crate
-//! does not evaluate the fields.
+//! Each public function parses one field of a JSON scenario against a design. It is proved to return the value
+//! of the field's definition in `specs/`, or the first fault of the field. The crate does not evaluate the
+//! fields.
 #![tactic(auto)]
 
 mod formulas;

@@ -94,7 +94,6 @@ fn nodes_of(alloc: Global, owners: &[usize], number: usize) -> Result<ItemList<N
     Ok(nodes)
 }
 
-// Whether all values are texts.
 fn are_texts(values: &[Value]) -> bool
     ensures { result ≡ list_all is_text (map view values.now) }
 {

@@ -50,7 +50,7 @@ fn key_of(fault: &RoundFault) -> FaultKey
     }
 }
 
-// The source of a link.
+// The source of a link, or 0 without a link.
 fn source_of(link: Option<&Link>) -> u32
     ensures { result ≡ source_in (option_copied link.entry) }
 {
@@ -60,7 +60,7 @@ fn source_of(link: Option<&Link>) -> u32
     }
 }
 
-// The target of a link.
+// The target of a link, or 0 without a link.
 fn target_of(link: Option<&Link>) -> NodeNo
     ensures { result.0 ≡ target_in (option_copied link.entry) }
 {
@@ -92,7 +92,6 @@ fn replicas_of(replicas: &[NodeNo], node: NodeNo) -> u64
     }
 }
 
-// The values of a fault.
 fn fault_values(
     alloc: Global,
     kind: Kind,

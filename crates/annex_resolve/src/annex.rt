@@ -24,7 +24,6 @@ fn transitions_of(annex: &AnnexTree) -> &[Transition]
     }
 }
 
-// The parts of a behaviour.
 fn parts_by(
     alloc: Global,
     values: DeclaredValues,

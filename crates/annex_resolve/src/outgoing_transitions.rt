@@ -112,7 +112,6 @@ fn is_open(last: Option<&GuardCase>) -> bool
     }
 }
 
-// Whether one of the guards is `otherwise`.
 fn has_otherwise(ways: &[GuardCase]) -> bool
     ensures { result ≡ list_any is_otherwise ways.now }
 {

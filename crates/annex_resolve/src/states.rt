@@ -21,7 +21,6 @@ pub struct StateAt {
     pub complete: bool,
 }
 
-// Adds a state of a declaration.
 fn add_state(
     alloc: Global,
     states: &mut ItemList<StateAt>,
@@ -40,7 +39,6 @@ fn add_state(
     Ok(())
 }
 
-// Adds the states of a declaration.
 fn add_states(
     alloc: Global,
     states: &mut ItemList<StateAt>,
@@ -122,7 +120,6 @@ fn initial_count(states: &[StateAt]) -> usize
     states.iter().filter(|state| state.initial).count()
 }
 
-// Whether all initial states are complete.
 fn initial_are_complete(states: &[StateAt]) -> bool
     ensures { result ≡ list_all (λ s. s.complete) (filter (λ s. s.initial) states.now) }
 {

@@ -1,8 +1,8 @@
 //! From a bundle of bytes to its design, or to the output for a bundle without a design.
 //!
 //! A bundle is the text of a design, the line `%%%`, and a scenario. [`split`] divides it, [`print_bundle`]
-//! returns the canonical text of its design, and [`accept`] the design of a root. The contracts state the
-//! design, or that the text names the first fault or all violations. The crate does not parse the scenario.
+//! returns the canonical text of its design, and [`accept`] the design of a root. If there is no such result,
+//! the error has an output that names the first fault or all violations. The crate does not parse the scenario.
 #![tactic(auto)]
 
 mod accepted_bundle;

@@ -73,7 +73,6 @@ fn add_details(out: &mut Vec<u8>, details: &[u8]) -> Result<(), NoMemory>
     add_word(out, details)
 }
 
-// The name of a rule.
 #[tactic(auto, unfolding(crate::specs::ViolationLines::rule_name))]
 fn rule_name(number: u32) -> &'static [u8]
     ensures { result.now ≡ rule_name number }

@@ -53,7 +53,6 @@ impl ComponentProperties {
     }
 }
 
-// The given period.
 fn period_at(given: Option<&Association>) -> Option<Option<Nanos>>
     ensures { result ≡ period_at (option_map (association_view kept_place) (option_copied given.entry)) }
 {

@@ -41,7 +41,6 @@ pub fn numbered_in(
     }
 }
 
-// The properties of a type.
 fn of_type(declaration: &Declaration) -> ComponentProperties
     ensures { result ≡ spec.type_timed (declaration_view kept_place declaration.now) }
 {

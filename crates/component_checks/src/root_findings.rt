@@ -22,7 +22,6 @@ use annex_resolve::violation::{GAMMA_MISSING, GAMMA_ORDER, NO_PERIOD};
 use pals_base::{Gamma, ItemList, Nanos, NoMemory};
 use std::alloc::Global;
 
-// The skew of the root.
 #[tactic(auto, using(crate::proofs::TimesWithinAnHour::skew_twice))]
 fn root_skew(uses: &Uses<'_>, root: usize) -> Option<Nanos>
     ensures { result ≡ spec.root_skew (placed uses.now.names.tree.now) root }
@@ -33,7 +32,6 @@ fn root_skew(uses: &Uses<'_>, root: usize) -> Option<Nanos>
     }
 }
 
-// A range of the root.
 #[tactic(auto, using(crate::proofs::TimesWithinAnHour::range_twice))]
 fn root_range(uses: &Uses<'_>, root: usize, property: PropertyName) -> Option<(Nanos, Nanos)>
     ensures { result ≡ spec.root_range (placed uses.now.names.tree.now) root property }
@@ -64,7 +62,6 @@ fn root_place(tree: &PackageTree, root: usize) -> usize
     }
 }
 
-// Whether the root lacks a property.
 fn lacks(uses: &Uses<'_>, root: usize, property: PropertyName) -> bool
     ensures { result ≡ not (is_some (spec.at_root (placed uses.now.names.tree.now) root property)) }
 {

@@ -19,7 +19,6 @@ use pals_base::limits::HOUR;
 use pals_base::{ItemList, Nanos, NoMemory, Text};
 use std::alloc::Global;
 
-// A whole number.
 fn whole_of(figure: &UnsignedNumber) -> Option<u64>
     ensures { result ≡ properties.whole_of (figure_view figure.now) }
 {

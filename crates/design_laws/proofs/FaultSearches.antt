@@ -9,7 +9,7 @@ use Rattle.aadl_uses.specs.proof.FirstRecursion.{FirstIn}
 use Rattle.aadl_chains.specs.proof.FoundChainFaults.{FindsAll}
 use Rattle.aadl_chains.proofs.AccumulatedFaults.{finds_nothing, finds_both, finds_same, first_found}
 
--- the first fault that satisfies P, after the faults found before
+-- all faults that satisfy P are found, in addition to the faults found before
 pub record Finds (P : PackageFault → Type 0) (old : Option PackageFault) : Type 0 where
   pub new : Option PackageFault
   pub all : FindsAll P old new

@@ -41,7 +41,7 @@ by_known g marks n known =
     let x = begun g marks n (length (targets_in g n)) known in
     (x.paths, all_listed g marks n (length (targets_in g n)) x.paths (omega arith) x.listed)
 
--- ---- concatenation
+-- ---- declarations in order
 abbrev KnownBefore : Graph → List Bool → List ℕ → ℕ → Type 0
 KnownBefore g marks keys k = (j n : ℕ) → j < k → slice_get keys j ≡ Some n → HasPaths g marks n
 

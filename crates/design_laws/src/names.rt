@@ -14,9 +14,9 @@ pub fn names_are_words()
     ensures { (tree : source.PackageTree) → HasWords (placed tree) }
 {}
 
-/// If the package of a text has no faults in its names, the names of the ports, subcomponents and connections
-/// of an implementation are pairwise distinct, and so are the names of a thread's ports and variables, and the
-/// names of its states.
+/// If the package of a text has no faults in its names, names are distinct in each of three groups: the ports,
+/// subcomponents and connections of an implementation; the ports and variables of a thread; and the states of a
+/// thread.
 pub fn names_differ()
     ensures { (tree : PackageTree ℕ) (root n : ℕ) (x : Implementation ℕ) → IsGiven tree → package_faults tree root ≡ []
         → slice_get tree.declarations n ≡ Some (implementation x) → NamesDiffer tree x }

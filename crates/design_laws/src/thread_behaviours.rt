@@ -10,8 +10,9 @@ ghost use Rattle.design_laws.specs.proof.ThreadBehaviours.{Behaves};
 
 use crate::annex_behaviours::no_findings_make_a_behaviour;
 
-/// If the names of a package are words, the names in a thread's implementation are distinct, its names have no
-/// faults, and its port types and its annex have no findings, then the thread has a behaviour.
+/// A thread has a behaviour under four conditions: the names of the package are words, the names in the
+/// thread's implementation are distinct, the package has no faults in its names, and the thread's port types
+/// and annex have no findings.
 pub fn no_findings_make_a_thread_behave()
     ensures { (tree : PackageTree ℕ) (root n : ℕ) (x : Implementation ℕ) → HasWords tree → NamesDiffer tree x
         → package_faults tree root ≡ []

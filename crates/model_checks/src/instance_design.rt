@@ -107,7 +107,6 @@ fn link(properties: &Properties<'_>, chain: &Chain) -> Option<Link>
     })
 }
 
-// The links.
 fn links(
     alloc: Global,
     properties: &Properties<'_>,
@@ -148,7 +147,6 @@ fn feed(alloc: Global, properties: &Properties<'_>, chain: &Chain) -> Result<Opt
     }))
 }
 
-// The feeds.
 fn feeds(
     alloc: Global,
     properties: &Properties<'_>,
@@ -188,7 +186,6 @@ fn tap(alloc: Global, chain: &Chain) -> Result<Option<Tap>, NoMemory>
     }))
 }
 
-// The taps.
 fn taps(alloc: Global, chains: &[Chain]) -> Result<Option<ItemList<Tap>>, NoMemory>
     ensures { IfOk result (λ found. found ≡ spec.all_of (map spec.tap_in chains.now)) }
 {

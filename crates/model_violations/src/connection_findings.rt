@@ -112,14 +112,12 @@ fn add_ends_findings(
     Ok(())
 }
 
-// Whether a connection is delayed.
 fn is_delayed(connection: &Connection) -> bool
     ensures { result ≡ is_delayed (connection_view kept_place connection.now) }
 {
     ChainProperties::of(connection.properties.as_slice()).delayed
 }
 
-// Whether a connection has an adaptor.
 #[tactic(auto, using(crate::proofs::MappedOptions::has_mapped))]
 fn has_adaptor(connection: &Connection) -> bool
     ensures { result ≡ is_some (adaptor_text (connection_view kept_place connection.now)) }

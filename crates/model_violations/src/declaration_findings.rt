@@ -37,7 +37,6 @@ pub struct UsedPackage<'t> {
     pub carriers: &'t Carriers,
 }
 
-// Whether a type is the type of the root.
 fn is_root_type(uses: &Uses<'_>, root: usize, number: usize) -> bool
     ensures { result ≡ is_root_type (placed uses.now.names.tree.now) root number }
 {

@@ -10,7 +10,6 @@ use component_checks::type_findings::{is_in, kind_in};
 use pals_base::{ItemList, NoMemory, Text};
 use std::alloc::Global;
 
-// A port.
 fn port_of(alloc: Global, port: &Feature) -> Result<Declared, NoMemory>
     ensures { IfOk result (λ declared. declared ≡ spec.port_of (feature_view kept_place port.now)) }
 {

@@ -61,7 +61,6 @@ fn value_of(text: &[u8]) -> i64
     }
 }
 
-// The value in a text, if the value is a text.
 fn text_value(value: &Value) -> i64
     ensures { result ≡ spec.value_in (text_of (value_view kept_place value.now)) }
 {
@@ -101,7 +100,6 @@ fn first_of(variable: &VariableDeclaration) -> i64
     }
 }
 
-// Adds a variable.
 fn add_variable(
     alloc: Global,
     kind: Option<Kind>,
@@ -120,7 +118,6 @@ fn add_variable(
     Ok(())
 }
 
-// Adds the variables of a declaration.
 fn add_variables(
     alloc: Global,
     declaration: &VariableDeclaration,

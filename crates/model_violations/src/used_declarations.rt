@@ -10,7 +10,6 @@ use indexmap::IndexSet;
 use pals_base::NoMemory;
 use std::alloc::Global;
 
-// Adds a number, if there is one.
 fn add_number(numbers: &mut IndexSet<usize>, number: Option<usize>) -> Result<(), NoMemory>
     ensures { OnOk result ((n : ℕ) → has numbers.new.keys n ≡ (has numbers.old.keys n || is_number n number)) }
 {

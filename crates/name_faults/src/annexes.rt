@@ -13,7 +13,6 @@ use aadl_names::{FaultFinder, PropertyHolder};
 use aadl_tree::{Annex, AnnexContent, VariableDeclaration};
 use std::alloc::AllocError;
 
-// The declarations of variables in an annex.
 fn variables_in(annex: &Annex) -> &[VariableDeclaration]
     ensures { map (variable_view kept_place) result.now ≡ variables_in (annex_view kept_place annex.now) }
 {

@@ -93,7 +93,6 @@ impl<'t> BehaviourScope<'t> {
     }
 }
 
-// Whether a name is in a list.
 fn is_among(names: &[Text], name: &str) -> bool
     ensures { result ≡ list_any (λ other. same_name name.now other) names.now }
 {

@@ -23,7 +23,6 @@ fn is_unit(unit: &Option<Box<Identifier>>) -> bool
     }
 }
 
-// Whether this is a whole number.
 fn is_whole(figure: &UnsignedNumber) -> bool
     ensures { result ≡ is_some (property_value_shapes.whole_of (figure_view figure.now)) }
 {
@@ -73,7 +72,6 @@ fn is_initial(bytes: &[u8]) -> bool
     }
 }
 
-// Whether the value is a text that is an initial value.
 fn is_initial_text(value: &Value) -> bool
     ensures { result ≡ property_value_shapes.is_initial_text
         (property_value_shapes.text_of (value_view kept_place value.now)) }

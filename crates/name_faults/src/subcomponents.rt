@@ -48,7 +48,6 @@ fn may_contain(outer: Category, inner: Category) -> bool
     }
 }
 
-// The implementation with a number, if there is one.
 fn implementation_of(tree: &PackageTree, number: Option<usize>) -> Option<&Implementation>
     ensures { option_map (implementation_view kept_place) (option_copied result)
         ≡ option_and_then (implementation_at (placed tree.now)) number }

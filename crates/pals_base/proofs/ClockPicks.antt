@@ -18,7 +18,7 @@ take-picks readings (t ∷ ts) (suc n) = take-picked (remaining_from readings t)
     (take-picks (remaining_from readings t) ts n)
 
 -- ---- in order
--- from an index on, no reading is below the one before it
+-- no reading is below the one before it, and the first is at least `from`
 abbrev Rises : ℕ → List ℕ → Type 0
 Rises from [] = Unit {0}
 Rises from (x ∷ xs) = (from ≤ x) × Rises x xs

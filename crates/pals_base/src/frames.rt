@@ -67,7 +67,6 @@ fn first_values(alloc: Global, vars: &[VarDecl]) -> Result<ItemList<i64>, NoMemo
     Ok(values)
 }
 
-// A list of `count` zeros.
 fn zeros(alloc: Global, count: usize) -> Result<ItemList<i64>, NoMemory>
     ensures { IfOk result (λ values. values ≡ replicate count (pos 0)) }
 {

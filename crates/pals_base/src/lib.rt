@@ -3,7 +3,7 @@
 //!
 //! Each function is proved equal to its definition in `specs/`, which contracts of all crates cite. The laws
 //! state, among others, that each step of a well-formed behaviour ends in a complete state, and that a halted
-//! component remains halted. The crate knows neither components nor links, and reads no text.
+//! component remains halted. The crate does not define designs, and parses no text.
 #![tactic(auto)]
 
 pub mod allowed_adaptors;

@@ -57,7 +57,6 @@ pub fn add_source(
     add_port_name(out, component.behaviour.outs(), port)
 }
 
-// The text of an adaptor.
 fn add_adaptor_text(out: &mut Vec<u8>, adaptor: Adaptor) -> Result<(), NoMemory>
     ensures ok { OnOk result (out.new.items ≡ out.old.items ++ adaptor_text adaptor) }
     ensures err { OnErr result (BeginsWith out.new.items out.old.items) }

@@ -7,7 +7,6 @@ ghost use Rattle.pals_report.specs.proof.TextPrefixes.{BeginsWith};
 use itoa::Buffer;
 use pals_base::{Kind, NoMemory, PortValue};
 
-// A number in decimal.
 fn add_number(out: &mut Vec<u8>, number: i64) -> Result<(), NoMemory>
     ensures ok { OnOk result (out.new.items ≡ out.old.items ++ signed_decimal number) }
     ensures err { OnErr result (BeginsWith out.new.items out.old.items) }

@@ -235,7 +235,6 @@ fn event_of(
     }
 }
 
-// An event.
 #[tactic(auto, unfolding(crate::specs::Events::event_in))]
 fn read_event(
     alloc: Global,

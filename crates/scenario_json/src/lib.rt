@@ -1,9 +1,8 @@
 //! Scenarios: the second input of a command, next to the design, as one JSON object.
 //!
 //! [`read_scenario`] checks each number and each name once, for every command, and returns the scenario or its
-//! first fault with its location. The meaning of a scenario and its first fault are `scen` of
-//! `specs/Scenarios.antt`. The crate does not execute a scenario; whether an event may occur is checked by the
-//! world.
+//! first fault with its location. `scen` of `specs/Scenarios.antt` defines both. The crate does not execute a
+//! scenario, and does not check whether an event may occur in a world.
 #![tactic(auto)]
 
 mod clocks;

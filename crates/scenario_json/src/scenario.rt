@@ -5,9 +5,10 @@ use pals_clock::Clocks;
 use pals_model::{Delays, Env};
 use pals_runs::{Event, Pair};
 
-/// A scenario for a design: the number of rounds, the values of the root in ports, the events of a world, the
-/// clocks of the nodes, the delays of messages, the lines of a trace, the properties of monitors, replicas and
-/// their faults, plants with their controllers, and processors. An absent field is empty, or has its default.
+/// A scenario for a design. For a run it has the number of rounds, the values of the root in ports, the events
+/// of a world, the clocks of the nodes, and the delays of messages. For the analyses it has the lines of a
+/// trace, the properties of monitors, replicas and their faults, plants with their controllers, and processors.
+/// An absent field is empty, or has its default.
 #[derive(Drop)]
 pub struct Scenario {
     pub rounds: u32,

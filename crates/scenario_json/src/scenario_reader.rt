@@ -39,7 +39,6 @@ use scenario_values::{DesignNames, ScenarioFault};
 use serde_json::{Category, Map, Value};
 use std::alloc::Global;
 
-// Whether a name is the name of a field.
 fn is_field(name: &str) -> bool
     ensures { result ≡ is_field name.now }
 {

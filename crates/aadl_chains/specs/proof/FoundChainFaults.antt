@@ -23,7 +23,7 @@ abbrev pub IsOnChainAt : PackageTree ℕ → ℕ → ℕ → ℕ → Type 0
 IsOnChainAt tree root n k = (wire : ConnectionPorts) × (slice_get (connection_ports_at tree n) k ≡ Some wire)
     × IsOnChain tree root n wire
 
--- it is on none, or it has the same target as an earlier one
+-- the fault of a connection that is on no chain, or that has the same target as an earlier one
 pub record IsFoundAt (tree : PackageTree ℕ) (root n k : ℕ) (fault : PackageFault) : Type 0 where
   pub link : Connection ℕ
   pub is_connection : slice_get (connections_of (implementation_at tree n)) k ≡ Some link

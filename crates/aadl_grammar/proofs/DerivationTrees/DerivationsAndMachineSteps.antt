@@ -56,7 +56,7 @@ pub clear_taken : (x : Symbol) (below : Stack) (r : Row) → Member r (rows x) �
 clear_taken x below r m (h, c) =
     clear_behind (forbidden_after x) r.wanted below (row_settled (forbidden_after x) r (rows x) m (settled_rows x)) h c
 
--- two rows that fit one terminal have one class
+-- a row that fits a terminal determines the move, since its class is in no other row
 move_else : (r : Row) (rs : List Row) (b c : Bool) (kind : PlainTerminal) → fits r.first kind ≡ c → c ≡ false
     → move_by (r ∷ rs) b kind ≡ move_by rs b kind
 move_else r rs b c kind e h = ap (λ z. cond z (takes r.wanted) (move_by rs b kind)) (e ∙ h)

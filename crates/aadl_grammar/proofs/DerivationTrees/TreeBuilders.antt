@@ -118,7 +118,7 @@ InRows y (r ∷ rs) bs t ks rest = Uses y r bs.0 t ks rest ⊎ InRows y rs bs.1 
 abbrev pub Opens : (y : Symbol) → Builders y (rows y) → Type 0
 Opens y bs = (t : TreeOf y) (ks rest : List PlainTerminal) → Spells (parts y t) ks rest → InRows y (rows y) bs t ks rest
 
--- or it is this tree, and no terminals spell it
+-- or it is the given tree, which the empty list spells
 abbrev pub OpensOr : (y : Symbol) → Builders y (rows y) → TreeOf y → Type 0
 OpensOr y bs e =
     (t : TreeOf y) (ks rest : List PlainTerminal) → Spells (parts y t) ks rest

@@ -70,7 +70,7 @@ abbrev pub plain : List Symbol → Bool
 plain [] = true
 plain (x ∷ f) = not (is_never_stacked x) && plain f
 
--- neither the symbol nor its followers begin with `if`
+-- the symbol cannot be omitted, does not begin with `if`, and can be on a stack
 abbrev pub begins_without_if : Symbol → Bool
 begins_without_if x = not (can_omit x) &&
     (not (among (class_number (the k.If)) (firsts (rows x))) && not (is_never_stacked x))
@@ -84,7 +84,7 @@ abbrev pub good : Bool → List Symbol → Bool
 good true f = closing_first f
 good false f = plain f
 
--- the numbers of openers open before and after the terminal of this number
+-- the terminal of this number changes the number of open openers from `before` to `behind`
 abbrev pub changes : ℕ → ℕ → ℕ → Bool
 changes x before behind =
     cond (among x openers) (behind == before + 1) (cond (among x closers) (behind + 1 == before) (behind == before))

@@ -1,5 +1,5 @@
 -- All symbols together: a row of its symbol builds each tree that terminals spell, unless the symbol is omitted; then
--- no terminals spell its tree.
+-- the empty list spells its tree.
 use Rattle.std.proofs.Common.{◌≡◌, ◌⊎◌, Bool, true, false, refl, List, inl}
 use Rattle.aadl_tree.specs.Terminals.{PlainTerminal}
 use Rattle.aadl_tree.specs.SpellingParts.{Spells}
@@ -290,7 +290,7 @@ all_give s.more_names = more_names_give
 all_give s.withs = withs_give
 all_give s.a_package = a_package_give
 
--- no terminals spell the tree of an omitted symbol
+-- the empty list spells the tree of an omitted symbol
 abbrev pub Nothing : (b : Bool) (y : Symbol) → Empty b y → Type 0
 Nothing true y e = (ks : List PlainTerminal) → Spells (parts y e) ks ks
 Nothing false y e = NoPlace

@@ -70,12 +70,14 @@ FailsAs was Memory = Unit {0}
 FailsAs was (Syntax at) = was ≡ syntax_at at
 FailsAs was (TooDeep at) = was ≡ deep_at at
 
--- The fate of the stack on these terminals is its fate on the remaining ones after success, or else the fault.
+-- After success, the fate is the fate of the stack below on the remaining terminals. After failure, the fault is the
+-- fate.
 abbrev pub RunsTo : {X : Type 0} → (X → ℕ) → Reader → ℕ → Stack → Fate → Result X ParseFault → Type 0
 RunsTo next r outer below was (Ok x) = was ≡ fate outer r.end below (here r (next x))
 RunsTo next r outer below was (Err e) = FailsAs was e
 
--- the number of openers open before a part that is read with this room, or that has no openers
+-- `before` openers are open before a part that is read with this room; before a part without openers, any number may
+-- be open
 abbrev pub Room : ℕ → ℕ → Type 0
 Room room before = before + room ≡ GREATEST_NESTING
 

@@ -106,7 +106,7 @@ abbrev pub relation_of : e.Sum NoPlace → Option (RelationOperator × e.Sum NoP
 relation_of y None = e.single y
 relation_of y (Some c) = e.compared y c.0 c.1
 
--- a relation after `and` or `or`, and the mark `then` or `else` before it
+-- a relation after `and` or `or`, with the mark `then` or `else` before it if the flag is true
 abbrev pub after_parts : Mark → Bool × e.Relation NoPlace → List (SpellingPart NoPlace)
 after_parts m (true, y) = plain m ∷ e.relation_parts y
 after_parts m (false, y) = e.relation_parts y

@@ -19,7 +19,7 @@ pub record IsOrdered (tree : PackageTree ℕ) (checked : Checked) : Type 0 where
   pub names : package_faults tree checked.root ≡ []
   pub recursion : (fault : PackageFault) → IsRecursive tree fault → ⊥
 
--- and nothing else has
+-- and the package has no other fault
 pub record IsChecked (tree : PackageTree ℕ) (checked : Checked) : Type 0 where
   pub ordered : IsOrdered tree checked
   pub silent : (line : ℕ) (fault : PackageFault) → FoundIn tree checked.root line fault → ⊥

@@ -27,7 +27,7 @@ pub record IsUsedThread (tree : PackageTree ℕ) (used : List ℕ) (n : ℕ) (x 
   pub is_implementation : implementation_at tree n ≡ Some x
   pub thread : is_thread x.category ≡ true
 
--- some of them exceeds a limit
+-- some thread in use exceeds a limit
 pub record HasTooMany (tree : PackageTree ℕ) (used : List ℕ) (part : ThreadPart) : Type 0 where
   pub number : ℕ
   pub component : Implementation ℕ

@@ -30,7 +30,7 @@ ValueTied f g x = value_to f (value_view g x) ≡ value_view (λ n. f (g n)) x
 abbrev AssociationTied : {P Q : Type 0} → (P → Q) → (ℕ → P) → Association → Type 0
 AssociationTied f g x = association_to f (association_view g x) ≡ association_view (λ n. f (g n)) x
 
--- a value or a property with this proof
+-- a value or a property with the proof that mapping its places commutes with the view
 abbrev V : {P Q : Type 0} → (P → Q) → (ℕ → P) → Type 0
 V f g = (x : Value) × ValueTied f g x
 

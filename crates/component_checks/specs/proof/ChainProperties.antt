@@ -26,7 +26,7 @@ carried_by xs =
 abbrev pub connections_carried : Declaration ℕ → List ChainProperties
 connections_carried d = map (λ c. carried_by c.properties) (connections_of (implementation_in (Some d)))
 
--- the entry at a number, or no entries
+-- the list at a number, or the empty list
 abbrev pub or_none : Option (List ChainProperties) → List ChainProperties
 or_none None = []
 or_none (Some carried) = carried

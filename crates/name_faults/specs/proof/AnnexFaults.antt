@@ -15,7 +15,7 @@ annex_uses tree x expected annex =
 abbrev pub still_expected : Bool → Annex ℕ → Bool
 still_expected expected annex = elim annex.content as (λ _. Bool) [ foreign bytes ↦ expected | behaviour b ↦ false ]
 
--- the remaining behaviours
+-- the findings of the remaining behaviours
 abbrev pub behaviours_left : PackageTree ℕ → Implementation ℕ → Bool → List (ℕ × AnnexTree ℕ) → List PackageFault
 behaviours_left tree x expected [] = []
 behaviours_left tree x expected (b ∷ bs) =
