@@ -21,7 +21,8 @@ use Rattle.aadl_grammar.proofs.WordAndSymbolLexing.{other_bytes}
 use Rattle.aadl_lex.proofs.AnnexEnds.{none_parts}
 use Rattle.aadl_lex.specs.proof.TokenSpellings.{IsReal, IsString}
 use Rattle.aadl_grammar.proofs.LiteralAndAnnexLexing.{number_digits}
-use Rattle.aadl_grammar.proofs.PossibleTerminals.{IsPossibleTerminal, a_word, a_number, a_real, a_string, a_keyword, a_symbol}
+use Rattle.aadl_grammar.proofs.PossibleTerminals.{IsPossibleTerminal, a_word, a_number, a_real, a_string, a_keyword}
+use Rattle.aadl_grammar.proofs.PossibleTerminals.{a_symbol}
 use Rattle.aadl_grammar.proofs.PossibleTerminals.{closes}
 use Rattle.aadl_grammar.proofs.TerminalRelexing.{Ends, IsPlain, keyword_is_word}
 
@@ -121,7 +122,8 @@ quoted_past b s n h e =
     ∙ ap (λ j. close_from j s) (let g : n + suc (length h.inner) + 1 ≡ n + length b = omega arith in g)
 
 -- The search for `**}` passes each terminal inside an annex.
-pub kind_past : (kind : PlainTerminal) (s : List ℕ) (n : ℕ) → IsPossibleTerminal Inside kind → IsPlain kind → Ends kind s
+pub kind_past : (kind : PlainTerminal) (s : List ℕ) (n : ℕ) → IsPossibleTerminal Inside kind → IsPlain kind
+    → Ends kind s
     → close_from n (kind_text kind ++ s) ≡ close_from (n + length (kind_text kind)) s
 kind_past _ s n (a_word _ b w h) plain e = word_past b s n w
 kind_past _ s n (a_number _ m h) plain e = close_past is_ascii_digit refl (fmt.decimal m) s n (number_digits m h)

@@ -29,7 +29,8 @@ fronts (t ∷ a) x (u ∷ b) y e =
     subst (λ (z : PlacedTerminal). Fronts (t ∷ a) x (z ∷ b) y) (heads t u (a ++ x) (b ++ y) e)
     (more_fronts t a x b y (fronts a x b y (tails t u (a ++ x) (b ++ y) e)))
 
-begins_front : (IsText : List PlainTerminal → Type 0) (a : List PlacedTerminal) (t : PlacedTerminal) (b : List PlacedTerminal)
+begins_front : (IsText : List PlainTerminal → Type 0) (a : List PlacedTerminal) (t : PlacedTerminal)
+    (b : List PlacedTerminal)
     → Begins IsText (kinds_of (a ++ t ∷ b)) → Begins IsText (kinds_of a ++ t.kind ∷ [])
 begins_front IsText a t b r = record {
   more = kinds_of b ++ r.more;
@@ -40,7 +41,8 @@ begins_front IsText a t b r = record {
 }
 
 -- a text that begins with more terminals contradicts a shorter list that is stuck
-stuck_before : (IsText : List PlainTerminal → Type 0) (a b y : List PlacedTerminal) (t : PlacedTerminal) → IsStuck IsText (kinds_of a) (t ∷ b ++ y)
+stuck_before : (IsText : List PlainTerminal → Type 0) (a b y : List PlacedTerminal) (t : PlacedTerminal)
+    → IsStuck IsText (kinds_of a) (t ∷ b ++ y)
     → Begins IsText (kinds_of (a ++ t ∷ b)) → ⊥
 stuck_before IsText a b y t never r = never (begins_front IsText a t b r)
 
@@ -73,7 +75,8 @@ record Deep (IsText : List PlainTerminal → Type 0) (outer : ℕ) (seen : List 
   begins : Begins IsText (kinds_of seen)
   deep : nesting outer (kinds_of seen) ≡ 65
 
-failed_deep : (IsText : List PlainTerminal → Type 0) (outer : ℕ) (a x b y : List PlacedTerminal) → Fronts a x b y → Failed IsText outer a x
+failed_deep : (IsText : List PlainTerminal → Type 0) (outer : ℕ) (a x b y : List PlacedTerminal) → Fronts a x b y
+    → Failed IsText outer a x
     → Deep IsText outer b → ⊥
 failed_deep IsText outer _ _ _ _ (same a x) f d =
     too_deep outer (kinds_of a) (kinds_of a) [] f.shallow (sym (append-nil (kinds_of a))) d.deep
@@ -104,7 +107,8 @@ deep_before outer a b t flat d =
     too_deep outer (kinds_of (a ++ t ∷ b)) (kinds_of a ++ t.kind ∷ []) (kinds_of b) flat
     (kinds_append a (t ∷ b) ∙ sym (append_assoc (kinds_of a) (t.kind ∷ []) (kinds_of b))) d
 
-deep_same : (outer : ℕ) (a x b y : List PlacedTerminal) → Fronts a x b y → (t u : PlacedTerminal) (v w : List PlacedTerminal) → x ≡ t ∷ v → y ≡ u ∷ w
+deep_same : (outer : ℕ) (a x b y : List PlacedTerminal) → Fronts a x b y
+    → (t u : PlacedTerminal) (v w : List PlacedTerminal) → x ≡ t ∷ v → y ≡ u ∷ w
     → Opens outer a t → Opens outer b u → t.at ≡ u.at
 deep_same outer _ _ _ _ (same a x) t u v w e h d f = opener_is t u v w (sym e ∙ h)
 deep_same outer _ _ _ _ (before a b y z) t u v w e h d f =
@@ -114,7 +118,8 @@ deep_same outer _ _ _ _ (behind a b y z) t u v w e h d f =
     absurd (deep_before outer a b z d.shallow
     (ap (λ (q : PlacedTerminal). nesting outer (kinds_of a ++ q.kind ∷ [])) (heads z u (b ++ y) w h) ∙ f.deep))
 
-pub deep_once : (IsText : List PlainTerminal → Type 0) (outer : ℕ) (ts : List PlacedTerminal) (at to : ℕ) → DeepAt IsText outer ts at
+pub deep_once : (IsText : List PlainTerminal → Type 0) (outer : ℕ) (ts : List PlacedTerminal) (at to : ℕ)
+    → DeepAt IsText outer ts at
     → DeepAt IsText outer ts to → at ≡ to
 deep_once IsText outer ts at to d f =
     let e =

@@ -11,7 +11,8 @@ placed (token kind [] ∷ ps) xs = placed ps xs
 placed (token kind (p ∷ more) ∷ ps) xs = cond (quiet kind) (placed ps xs) ((p ∷ more) ++ placed ps xs)
 placed (may extra ∷ ps) xs = placed ps xs
 
-pub placed_append : {P : Type 0} → (a b : List (SpellingPart P)) (xs : List P) → placed (a ++ b) xs ≡ placed a (placed b xs)
+pub placed_append : {P : Type 0} → (a b : List (SpellingPart P)) (xs : List P)
+    → placed (a ++ b) xs ≡ placed a (placed b xs)
 placed_append [] b xs = refl
 placed_append (token kind [] ∷ a) b xs = placed_append a b xs
 placed_append (token kind (p ∷ more) ∷ a) b xs =
@@ -41,7 +42,8 @@ strip_extra [] ss more q e = ap strip e
 strip_extra (kind ∷ ks) ss more (q, qs) (s, next, e, is, h) =
     ap strip e ∙ ap (λ b. cond b (strip next) (s ∷ strip next)) (ap quiet is ∙ q) ∙ strip_extra ks next more qs h
 
-by_quiet : (b : Bool) (places : List ℕ) (s : PlacedTerminal) (ns : List (List (Unit {0}))) (rest : List PlacedTerminal) (xs : List ℕ)
+by_quiet : (b : Bool) (places : List ℕ) (s : PlacedTerminal) (ns : List (List (Unit {0}))) (rest : List PlacedTerminal)
+    (xs : List ℕ)
     → AreAt places s.at → xs ≡ pick ns rest
     → cond b xs (places ++ xs) ≡ pick (cond b ns (none_of places ∷ ns)) (cond b rest (s ∷ rest))
 by_quiet true places s ns rest xs at e = e
@@ -56,7 +58,8 @@ placed_token kind [] ps = same (quiet kind) (placed ps []) where
 placed_token kind (p ∷ more) ps = refl
 
 -- the shape and the tokens determine the places
-placed_is : (ps : List (SpellingPart ℕ)) (ss : List PlacedTerminal) → Written ps ss [] → placed ps [] ≡ pick (shape ps) (strip ss)
+placed_is : (ps : List (SpellingPart ℕ)) (ss : List PlacedTerminal) → Written ps ss []
+    → placed ps [] ≡ pick (shape ps) (strip ss)
 placed_is [] ss e = refl
 placed_is (token kind places ∷ ps) ss (s, more, e, is, at, w) =
     placed_token kind places ps
@@ -68,7 +71,8 @@ placed_is (may extra ∷ ps) ss (inr (more, h, w)) =
     placed_is ps more w ∙ ap (pick (shape ps)) (sym (strip_extra (extra_kinds extra) ss more (extra_quiet extra) h))
 
 -- the same tokens give the same places to parts of one shape
-pub same_places : (a b : List (SpellingPart ℕ)) (ss : List PlacedTerminal) → shape a ≡ shape b → Written a ss [] → Written b ss []
+pub same_places : (a b : List (SpellingPart ℕ)) (ss : List PlacedTerminal) → shape a ≡ shape b → Written a ss []
+    → Written b ss []
     → placed a [] ≡ placed b []
 same_places a b ss e v w = placed_is a ss v ∙ ap (λ n. pick n (strip ss)) e ∙ sym (placed_is b ss w)
 
