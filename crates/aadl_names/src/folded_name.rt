@@ -1,15 +1,14 @@
-//! A name with its capitals made small, as tables of names keep it.
+//! A name in lower case, the key of tables of names.
 ghost use Rattle.std.specs.Prelude.{◌≡◌, ◌++◌, IfOk, codes};
 ghost use Rattle.aadl_names.specs.proof.NameTables.{folded};
 
-use indexmap::Equivalent;
 use smallvec::SmallVec;
 use std::alloc::{AllocError, Global};
-use std::hash::{Hash, Hasher};
+use std::cmp::Ordering;
 use std::marker::Model;
 
-/// A name with its capitals made small. Up to 16 bytes stand in the value itself, so that most
-/// names take no allocation. Contracts see the bytes.
+/// A name in lower case. Up to 16 bytes are stored in the value itself, so that most names allocate
+/// nothing. Its model is the list of its bytes, and its order is the order of these lists.
 #[derive(Drop)]
 pub struct FoldedName {
     bytes: SmallVec<u8, 16>,
@@ -24,7 +23,7 @@ impl Model for FoldedName {
 }
 
 impl FoldedName {
-    /// A name, folded.
+    /// Converts a name to lower case.
     pub fn of(alloc: Global, name: &str) -> Result<FoldedName, AllocError>
         ensures { IfOk result (λ key. key ≡ folded name.now) }
     {
@@ -33,7 +32,7 @@ impl FoldedName {
         Ok(FoldedName { bytes })
     }
 
-    /// Two names with a point between them, folded.
+    /// Joins two names by a point and converts them to lower case.
     pub fn of_dotted(alloc: Global, first: &str, second: &str) -> Result<FoldedName, AllocError>
         ensures { IfOk result (λ key. key ≡ folded (first.now ++ codes "." ++ second.now)) }
     {
@@ -65,34 +64,35 @@ impl Eq for FoldedName {
     ghost laws = { nat_list_eq_equiv };
 }
 
-impl Hash for FoldedName {
-    ghost use Rattle.std.specs.Hash as fed;
-    ghost use Rattle.std.specs.Cmp.Rules.{hashing};
-    ghost use Rattle.std.proofs.Common.{rules};
+impl PartialOrd for FoldedName {
+    ghost use Rattle.std.specs.Prelude.{Some};
+    ghost use Rattle.std.specs.Ordering.{nat_cmp};
+    ghost use Rattle.std.specs.Cmp.Lexicographic.{slice_cmp, texts_ties, nat_list_cmp_total};
+    ghost use Rattle.std.specs.Cmp.{po};
 
-    ghost hash_input = { λ name. fed.slice fed.u8 name };
+    ghost partial_cmp = { λ x y. Some (slice_cmp nat_cmp x y) };
 
-    ghost respects_eq = { Prim.search (hashing, rules) };
+    ghost laws = { po nat_list_cmp_total texts_ties };
 
-    fn hash<H: Hasher>(&self, state: &mut H) {
-        self.bytes.as_slice().hash(state);
+    fn partial_cmp(&self, other: &FoldedName) -> Option<Ordering> {
+        Some(self.cmp(other))
     }
 }
 
-/// A name without capitals is its own key.
-impl Equivalent<FoldedName> for &[u8] {
-    ghost use Rattle.std.specs.Hash as fed;
-    ghost use Rattle.std.specs.Str.{bytes_eq};
-    ghost use Rattle.std.specs.Cmp.Lexicographic.{bytes_decides, nat_list_eq_equiv};
-    ghost use Rattle.std.proofs.Common.{ap};
+impl Ord for FoldedName {
+    ghost use Rattle.std.proofs.Common.{refl};
+    ghost use Rattle.std.specs.Ordering.{nat_cmp};
+    ghost use Rattle.std.specs.Cmp.Lexicographic.{slice_cmp, texts_ties, nat_list_cmp_total};
 
-    ghost equivalent = { λ q k. bytes_eq q.now k };
+    ghost cmp = { λ x y. slice_cmp nat_cmp x y };
 
-    ghost respects_hash = { λ q k h. ap (fed.slice fed.u8) ((bytes_decides q.now k).0 h) };
+    ghost total = { nat_list_cmp_total };
 
-    ghost respects_eq = { λ q x y. nat_list_eq_equiv.congr q.now x y };
+    ghost matches_partial_cmp = { λ x y. refl };
 
-    fn equivalent(&self, key: &FoldedName) -> bool {
-        *self == key.bytes.as_slice()
+    ghost matches_eq = { texts_ties };
+
+    fn cmp(&self, other: &FoldedName) -> Ordering {
+        self.bytes.as_slice().cmp(other.bytes.as_slice())
     }
 }

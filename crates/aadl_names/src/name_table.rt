@@ -1,16 +1,16 @@
-//! What names stand for, found without regard to case.
+//! A table of names, searched without regard to case.
 ghost use Rattle.std.specs.Prelude.{◌≡◌};
-ghost use Rattle.std.specs.Char.{is_ascii_uppercase};
-ghost use Rattle.std.specs.List.{list_any};
 
 use crate::folded_name::FoldedName;
-use indexmap::IndexMap;
 use std::alloc::{AllocError, Global};
+use std::collections::BTreeMap;
 use std::marker::Model;
 
-/// Values of names. Contracts see the names, with their capitals made small, and their values.
+/// A map from names to values. Its model is the list of names in lower case with their values. The
+/// table compares names by order and does not hash them: the kit's hasher has a fixed seed, so a text
+/// could choose names that collide.
 pub struct NameTable<V: Copy> {
-    values: IndexMap<FoldedName, V>,
+    values: BTreeMap<FoldedName, V>,
 }
 
 impl<V: Copy> Drop for NameTable<V> {
@@ -33,16 +33,16 @@ impl<V: Copy> NameTable<V> {
     ghost use Rattle.aadl_tree.specs.Names.{same_name};
     ghost use Rattle.aadl_names.specs.proof.NameTables.{value_of};
 
-    /// An empty table. It takes no memory.
+    /// Returns an empty table. Does not allocate.
     pub fn new(alloc: Global) -> NameTable<V>
         ensures { (name : List ℕ) → value_of result name ≡ None }
     {
         NameTable {
-            values: IndexMap::new(alloc),
+            values: BTreeMap::new(alloc),
         }
     }
 
-    /// Adds a name with its value, unless the name is there.
+    /// Adds a name with its value, unless the table has the name.
     pub fn add(&mut self, alloc: Global, name: &str, value: V) -> Result<(), AllocError>
         ensures { OnOk result ((other : List ℕ)
             → value_of self.new other ≡ option_or (value_of self.old other)
@@ -55,7 +55,7 @@ impl<V: Copy> NameTable<V> {
         Ok(())
     }
 
-    /// Gives a name this value, whether it is there or not.
+    /// Sets the value of a name, which the table may have or not.
     pub fn set(&mut self, alloc: Global, name: &str, value: V) -> Result<(), AllocError>
         ensures { OnOk result ((other : List ℕ)
             → value_of self.new other ≡ (if same_name other name.now then Some value else value_of self.old other)) }
@@ -65,18 +65,15 @@ impl<V: Copy> NameTable<V> {
         Ok(())
     }
 
-    /// What a name stands for.
+    /// Returns the value of a name.
     pub fn value(&self, alloc: Global, name: &str) -> Result<Option<V>, AllocError>
         ensures { IfOk result (λ value. value ≡ value_of self.now name.now) }
     {
-        if has_capital(name) {
-            let key = FoldedName::of(alloc, name)?;
-            return Ok(self.values.get(&key).copied());
-        }
-        Ok(self.values.get(name.as_bytes()).copied())
+        let key = FoldedName::of(alloc, name)?;
+        Ok(self.values.get(&key).copied())
     }
 
-    /// What two names stand for with a point between them.
+    /// Returns the value of two names joined by a point.
     pub fn dotted_value(
         &self,
         alloc: Global,
@@ -88,11 +85,4 @@ impl<V: Copy> NameTable<V> {
         let key = FoldedName::of_dotted(alloc, first, second)?;
         Ok(self.values.get(&key).copied())
     }
-}
-
-// Whether a name has a capital. One that has none is its own key.
-fn has_capital(name: &str) -> bool
-    ensures { result ≡ list_any is_ascii_uppercase name.now }
-{
-    name.as_bytes().iter().any(|byte| byte.is_ascii_uppercase())
 }
