@@ -17,7 +17,7 @@ typedef struct {
     uint32_t number;
 } pals_tap;
 
-/* What lines need of a component beside what its node needs. */
+/* The data of a component that lines need in addition to its node's. */
 typedef struct pals_names {
     const char *const *states;
     const pals_variable *variables;
@@ -27,17 +27,17 @@ typedef struct pals_names {
     int64_t (*value)(const void *frame, uint32_t variable);
 } pals_names;
 
-/* The bytes of a line at most: a path, a state and 64 variables, each with a name of 64 bytes and 20 digits; and the
-   zero byte behind it. */
+/* The maximum length of a line in bytes: a path, a state and 64 variables, each with a name of 64 bytes and 20 digits;
+   and the terminating zero byte. */
 enum { PALS_LINE = 8192 };
 
-/* Each call puts a line into `to`, without a line end and with a zero byte behind it, and gives its length. */
+/* Each call writes a line to `to`, without a line end and with a terminating zero byte, and returns its length. */
 
 /* The first line of a record: design PATH IDENTITY */
 uint32_t pals_design_line(char to[PALS_LINE], const pals_node *node);
 
-/* A record but PALS_ROW; `link` is the name of its link, PATH.PORT of the in port that it goes to. The cause of a
-   missed message is left out, since no node knows it. */
+/* A record other than PALS_ROW; `link` is the name of its link, PATH.PORT of the in port that it goes to. The cause of
+   a missed message is omitted, since no node knows it. */
 uint32_t pals_line(char to[PALS_LINE], const pals_node *node, const pals_record *record, const char *link);
 
 /* What a round has left: PATH STATE NAME=VALUE .. */

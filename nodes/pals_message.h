@@ -22,7 +22,7 @@ typedef enum {
     PALS_DECODED,
     PALS_NOT_PALS,      /* shorter than any message, or other bytes at the beginning */
     PALS_OTHER_VERSION, /* another version of the format */
-    PALS_BAD_LENGTH,    /* more than 64 values or none, or not the bytes of so many */
+    PALS_BAD_LENGTH,    /* not 1 to 64 values, or another number of bytes */
     PALS_DAMAGED,       /* the CRC differs */
     PALS_OTHER_DESIGN,  /* of nodes of another design */
     PALS_NOT_CANONICAL  /* reserved bits are set, or an absent value is not 0 */

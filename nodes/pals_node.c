@@ -56,7 +56,7 @@ static int64_t release(const pals_node *node)
     return begun(node) + node->of->release;
 }
 
-/* Whether the round in hand may be sent, as soon as the clock says so. */
+/* Whether the current round may be sent, once the clock reads its release. */
 static bool may_send(const pals_node *node)
 {
     const bool in_hand =

@@ -6,17 +6,17 @@
                        sleep until the clock reads wake, or a message comes.
    The clock is read before messages are looked for, and this one reading goes to all calls of the turn.
 
-   All readings are of the node's own clock, in nanoseconds. A reading that is below the one before counts as that one.
-   No memory is taken; nothing is called but the component's code and the hooks; nothing is recursive. */
+   All readings are readings of the node's own clock, in nanoseconds. A reading below the previous one counts as the
+   previous one. The code does not allocate, calls only the component's code and the hooks, and does not recurse. */
 #ifndef PALS_NODE_H
 #define PALS_NODE_H
 #include "pals_adaptor.h"
 
-/* The reading that never comes, and the last alarm that there is: 2^59 ns, 18 years. */
+/* The reading that never occurs, and the last alarm: 2^59 ns, 18 years. */
 #define PALS_NEVER INT64_MAX
 #define PALS_LAST_ALARM INT64_C(576460752303423488)
 
-/* The most ports that a component has, and the greatest rate. */
+/* The maximum number of ports of a component, and the maximum rate. */
 enum { PALS_MOST_PORTS = 64, PALS_MOST_RATE = 64 };
 
 /* A link that a node sends on, and the out port whose values it takes. */
@@ -47,7 +47,7 @@ typedef struct {
     uint32_t outputs;
     void (*init)(void *frame);
     int32_t (*step)(void *frame, const pals_value in[], pals_value out[]);
-    const struct pals_names *names; /* for pals_lines alone, and may be NULL */
+    const struct pals_names *names; /* only for pals_lines; may be NULL */
 } pals_component;
 
 /* What a node does: it waits for a round, a step of one is begun, it is between two steps, all steps of a round are
@@ -66,8 +66,8 @@ typedef enum {
     PALS_NOT_FINISHED  /* a send: no round is to be sent, or too few of its steps are finished */
 } pals_answer;
 
-/* What becomes of a message: it waits for the next start; it is a second copy, or too late to matter; it came
-   before its round was started, and the node has stopped; or it is no message of this node, or comes behind a stop. */
+/* The result of a message: it waits for the next start; it is a second copy, or too late to matter; it arrived before
+   its round was started, and the node has stopped; or it is not a message of this node, or arrived after a stop. */
 typedef enum { PALS_KEPT, PALS_IGNORED, PALS_EARLY, PALS_REFUSED } pals_arrived;
 
 /* What a node does next. */
@@ -101,8 +101,8 @@ typedef struct pals_node pals_node;
 
 /* The functions that a node calls. `user` is what pals_open was given. The last four may be NULL. */
 typedef struct {
-    /* Puts a message on its way, and returns whether the transport accepted it. It has `count` values; those of steps
-       after k' are absent. */
+    /* Sends a message, and returns whether the transport accepted it. It has `count` values; the values of steps after
+       k' are absent. */
     bool (*send)(void *user, uint32_t link, uint64_t round, const pals_value values[], uint32_t count);
     /* The value of an in port of the root in a round: called once, at the start of the round. */
     pals_value (*read)(void *user, uint32_t input, uint64_t round);
@@ -156,8 +156,8 @@ void pals_open(pals_node *node, const pals_component *of, const pals_memory *mem
    messages of the round before. Messages of rounds before it are ignored. All nodes have to restart at one round. */
 void pals_restart(pals_node *node, uint64_t round, int64_t reading);
 
-/* A message of a round has come on a link. It is refused where the link is none to this node, where it has another
-   number of values, where a Boolean is neither 0 nor 1, and where the node has stopped. */
+/* A message of a round has arrived on a link. It is rejected if the link does not go to this node, if it has another
+   number of values, if a Boolean is neither 0 nor 1, and if the node has stopped. */
 pals_arrived pals_arrive(pals_node *node, uint32_t link, uint64_t round, const pals_value values[], uint32_t count,
                          int64_t reading);
 
@@ -173,12 +173,13 @@ pals_answer pals_finish(pals_node *node);
 /* Sends the round in hand: one message for each link from the node. */
 pals_answer pals_send(pals_node *node, int64_t reading);
 
-/* What the node does next, and from which reading on; PALS_NOTHING and PALS_NEVER where it is done or has stopped. */
+/* The node's next action, and the reading from which on it may happen; PALS_NOTHING and PALS_NEVER if it is done or has
+   stopped. */
 pals_action pals_next(const pals_node *node, int64_t *from);
 
-/* Does by these calls what the node may do at this reading, and gives the reading that the next action waits for, or
-   PALS_NEVER. It begins no round behind another action: then it gives a reading that has come already, and messages
-   have to be looked for before the next call. */
+/* Performs the actions that the node may do at this reading, and returns the reading of the next action, or
+   PALS_NEVER. It begins no round after another action: then it returns a reading that has already occurred, and the
+   caller must check for messages before the next call. */
 int64_t pals_poll(pals_node *node, int64_t reading);
 
 #endif

@@ -5,7 +5,7 @@
 #include <stdbool.h>
 #include <stdint.h>
 
-/* What a port has in one step. The number means nothing where nothing is present; of a Boolean it is 0 or 1. */
+/* The value of a port in one step. The number is meaningless if the value is absent; for a Boolean it is 0 or 1. */
 typedef struct {
     int64_t number;
     bool present;
@@ -14,8 +14,8 @@ typedef struct {
 /* Nothing is present. */
 #define PALS_ABSENT ((pals_value){0, false})
 
-/* Why a component is halted. PALS_BAD_STATE is that of a frame whose state is none that a step begins in: it was not
-   made by the component's own calls. */
+/* Why a component is halted. PALS_BAD_STATE marks a frame whose state is not the start of a step: the component's own
+   calls did not make it. */
 enum { PALS_GOES = 0, PALS_OVERFLOW = 1, PALS_ZERO_DIVISOR = 2, PALS_BAD_STATE = 3 };
 
 /* Each call below gives PALS_GOES and the result in *to, or gives the trap. */

@@ -2,8 +2,8 @@
 """Tests the tools, ./pals and the pages: tools/test.py [WORD ..]
 
 It runs the tests whose names have one of the words, or all, and ends with status 0 if and only if none fails. The
-programs that it asks are those that ./pals runs: built here, or those of prebuilt/. A test whose program or package is
-missing is reported as left out. --more makes long tests longer. --write-pictures makes the pictures of the docs anew.
+programs are the ones that ./pals runs: built here, or in prebuilt/. A test whose program or package is missing is
+reported as left out. --more makes long tests longer. --write-pictures makes the pictures of the docs anew.
 """
 
 import glob

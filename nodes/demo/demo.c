@@ -1,9 +1,9 @@
 /* A design on a host: a process a node, joined by socket pairs, by the host's clock.
 
    demo FOLDER SEED [FAULT ..] < SCENARIO. The scenario has `rounds N` and `input NAME VALUE ..` (scenario.h), and
-   faults are those of faults.h. Each node reads the host's monotonic clock with a skew and a drift of its own, both
-   together within the bounds; messages take a random time within the network's, and steps up to half the longest
-   execution. Each node writes its records to FOLDER/PATH, for tools/join. It ends with 0 where all nodes have run. */
+   faults have the form in faults.h. Each node reads the host's monotonic clock with a skew and a drift of its own, both
+   together within the bounds; messages take a random time within the network's, and steps up to half the maximum
+   execution time. Each node writes its records to FOLDER/PATH, for tools/join. The status is 0 if all nodes ran. */
 #include <poll.h>
 #include <stdio.h>
 #include <stdlib.h>
@@ -45,7 +45,7 @@ static struct timespec span(int64_t ns)
     return (struct timespec){(time_t)(ns / BILLION), (long)(ns % BILLION)};
 }
 
-/* A clock of this node: three quarters of the skew are for what it is off from the start, one is for its drift. */
+/* A clock of this node: three quarters of the skew are for its constant offset, one quarter is for its drift. */
 static void set_clock(const pals_node *node)
 {
     const int64_t length = ((int64_t)(scenario_rounds() + 1U) * node->of->period) / MILLION;
@@ -119,7 +119,7 @@ static void open_inbox(inbox *in, uint32_t number)
     }
 }
 
-/* Hands to the node what is there at this time. */
+/* Passes the messages that have arrived by this time to the node. */
 static void take_messages(inbox *in, pals_node *node, int64_t time, int64_t reading)
 {
     message m;

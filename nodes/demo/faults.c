@@ -5,8 +5,8 @@
 
 enum { MOST_FAULTS = 16 };
 
-/* A kind of faults, whether its name is that of a link (else of a node), with a round behind it, and whether a time
-   stands behind that. */
+/* A kind of faults: whether its name is a link's (else a node's), whether a round follows, and whether a time follows
+   the round. */
 typedef struct {
     const char *kind;
     bool of_link;

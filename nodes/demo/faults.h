@@ -8,10 +8,10 @@
 #include <stdbool.h>
 #include <stdint.h>
 
-/* Takes the words; false where they are no faults of this design. */
+/* Parses the arguments; returns false if they are not faults of this design. */
 bool faults_read(int count, char **words);
 
-/* The time of a fault of a message, or of a node with round 0; -1 where it has no such fault. */
+/* The time of a fault of a message, or of a node with round 0; -1 if it has no such fault. */
 int64_t fault_of(const char *kind, const char *name, uint64_t round);
 
 #endif

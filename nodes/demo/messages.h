@@ -5,7 +5,7 @@
 
 enum { MOST_MESSAGES = 4096 };
 
-/* A message: the time, or the reading, from which on it is there, and what it carries. */
+/* A message: the time, or the reading, of its arrival, and its values. */
 typedef struct {
     int64_t arrives;
     uint64_t round;

@@ -1,5 +1,5 @@
-/* Records of nodes as text, in the form that tools/join takes: the lines of the journal, and behind the last finish
-   of a round `row ROUND PATH ..` and, for each root out port, `out ROUND NAME TUPLE`. */
+/* Records of nodes as text, in the form that tools/join reads: the lines of the journal, and after the last finish of a
+   round `row ROUND PATH ..` and, for each root out port, `out ROUND NAME TUPLE`. */
 #ifndef PALS_DEMO_RECORDS_H
 #define PALS_DEMO_RECORDS_H
 #include <stdio.h>

@@ -6,7 +6,7 @@
 
 enum { MOST_INPUTS = 4096, MOST_LINKS = 4096, MOST_VALUES = 65536, LONGEST_LINE = 1048576 };
 
-/* The values of a line: a part of all that were read. */
+/* The values of a line: a slice of all values that were read. */
 typedef struct {
     const pals_value *of;
     uint64_t count;
@@ -18,7 +18,7 @@ static values delays[MOST_LINKS];
 static pals_value all[MOST_VALUES];
 static uint32_t all_count;
 
-/* The next word of the line that is read; NULL behind the last. */
+/* The next word of the current line; NULL after the last. */
 static const char *word(char *line)
 {
     return strtok(line, " \n");
@@ -38,7 +38,7 @@ static bool read_values(values *to)
     return true;
 }
 
-/* Where the values of an input or of a link stand; NULL where there is none of this name. */
+/* The values of an input or of a link; NULL if the scenario does not name it. */
 static values *values_of(const char *kind, const char *name)
 {
     for (uint32_t k = 0; (strcmp(kind, "input") == 0) && (k < pals_inputs) && (k < MOST_INPUTS); k++) {

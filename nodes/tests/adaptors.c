@@ -1,5 +1,5 @@
-/* Adaptors: for lines `SOURCE-RATE RATE ADAPTOR PLACE VALUE ..`, the adaptor by its number, it writes what each of the
-   RATE steps reads. */
+/* Adaptors: for lines `SOURCE-RATE RATE ADAPTOR PLACE VALUE ..`, the adaptor by its number, it writes the input of each
+   of the RATE steps. */
 #include <inttypes.h>
 #include <stdio.h>
 #include <stdlib.h>

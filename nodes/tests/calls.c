@@ -126,7 +126,7 @@ static void a_message_that_is_missed(void)
     assert((pals_poll(n, 40 * MS) == PALS_NEVER) && (arrive(n, 0, 0, 1, 40 * MS) == PALS_REFUSED) && (records == 0U));
 }
 
-/* A node that holds takes the last values of the link, and says so in its record. */
+/* A node that holds uses the last values of the link, and records this. */
 static void a_value_that_is_held(void)
 {
     pals_node *n = opened(0);

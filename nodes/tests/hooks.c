@@ -19,7 +19,7 @@ static bool on_send(void *user, uint32_t link, uint64_t round, const pals_value 
     return count > 0U;
 }
 
-/* 1 and 2, and in round 2 the greatest number and 2. */
+/* 1 and 2, and in round 2 the maximum number and 2. */
 static pals_value on_read(void *user, uint32_t input, uint64_t round)
 {
     (void)user;

@@ -1,6 +1,6 @@
-/* All nodes of a design in one process, with clocks that meet: all readings are one, and it goes from one target to the
-   next. Messages take the delays of the scenario, and a node looks for them before a start alone. So it does what
-   `pals run` does without `clocks`. It writes `PATH LINE` for each line that a node records, up to the first stop. */
+/* All nodes of a design in one process, in virtual time: all clocks show the same reading, which advances from one
+   target to the next. Messages take the delays of the scenario, and a node checks for them only before a start, as in
+   `pals run` without `clocks`. It writes `PATH LINE` for each line that a node records, up to the first stop. */
 #include <stdio.h>
 #include "design.h"
 #include "messages.h"
@@ -34,7 +34,7 @@ static void on_record(void *user, const pals_node *node, const pals_record *reco
 
 static const pals_hooks HOOKS = {.send = on_send, .read = scenario_input, .record = on_record};
 
-/* Hands to a node what is due on one link. */
+/* Passes the messages of one link that are due to the node. */
 static void take_link(pals_node *node, uint32_t link, int64_t reading)
 {
     for (uint32_t i = 0; (i < flying.count) && !stopped;) {

@@ -10,7 +10,7 @@
 
 enum { SPARE = 64 };
 
-/* Decodes bytes with both outcomes of the design, and encodes what was decoded: it has to be the same bytes. */
+/* Decodes bytes with both outcomes of the design, and encodes the result, which must be the same bytes. */
 static void try_bytes(const uint8_t *bytes, uint32_t length)
 {
     static pals_message message;

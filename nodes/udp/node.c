@@ -4,8 +4,8 @@
    `rounds N` and `input NAME VALUE ..` (demo/scenario.h); RECORD gets its lines, for tools/join. node now SECONDS
    writes the reading of CLOCK_MONOTONIC in so many seconds, for START.
 
-   Status: 0 if all rounds were run; 1 if the node stopped, with the cause on standard error; 2 if it was called wrongly
-   or came too late. */
+   Status: 0 if all rounds were run; 1 if the node stopped, with the cause on standard error; 2 if the arguments are
+   invalid or the node started too late. */
 #include <arpa/inet.h>
 #include <inttypes.h>
 #include <poll.h>
@@ -161,8 +161,8 @@ static void sleep_until(int64_t reading)
     }
 }
 
-/* Whether a peer with another design makes this node stop: in the first round, once its messages have left, which tell
-   the peer the same. */
+/* Whether a peer with another design stops this node: in the first round, once its messages are sent, from which the
+   peer learns the same. */
 static bool has_other_peer(void)
 {
     return foreign_design && (node->count == 1U) && node->sent && (outgoing_next() == PALS_NEVER);

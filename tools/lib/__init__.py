@@ -1,1 +1,1 @@
-"""What the tools beside the program have in common."""
+"""The common part of the tools."""

@@ -6,10 +6,10 @@ from .bundles import Bundle, Refused, read_design
 from .show import visible
 from .tokens import Tokens, word_of
 
-# A component or its implementation: the file and the package it stands in, its category, its name, the name that it
-# extends, its sections (each a list of declarations), and its annexes.
+# A component or its implementation: its file and package, its category, its name, the name that it extends, its
+# sections (each a list of declarations), and its annexes.
 Component = namedtuple("Component", "file package category name extends sections annexes offset")
-# A declaration of a section, or an association of a property: its tokens, without the `;` behind them.
+# A declaration of a section, or an association of a property: its tokens, without the final `;`.
 Declaration = namedtuple("Declaration", "file tokens")
 Annex = namedtuple("Annex", "file name text offset")
 
@@ -42,7 +42,7 @@ class Reader:
         self.at, self.components, self.left_out = 0, [], []
 
     def word(self, more=0):
-        """The token here, or one behind it, in lower case."""
+        """The token here, or a later one, in lower case."""
         return word_of(self.tokens[min(self.at + more, len(self.tokens) - 1)]).lower()
 
     def here(self):
@@ -62,7 +62,7 @@ class Reader:
         return self.tokens[self.at - 1]
 
     def name(self):
-        """A name with the packages before it and that of an implementation behind it."""
+        """A name, preceded by its packages and followed by an implementation's name, if any."""
         found = word_of(self.take())
         while self.word() in ("::", "."):
             found += self.word()
@@ -71,7 +71,7 @@ class Reader:
         return found
 
     def read(self):
-        """All of the file: components in order, and the names of what was left out."""
+        """The contents of the file: components in order, and the names of the omitted declarations."""
         while self.here().kind != "end":
             if self.word() == "property" and self.word(1) == "set":
                 self.left_out.append((self.here().offset, "property set", word_of(self.tokens[self.at + 2])))
@@ -171,7 +171,7 @@ class Reader:
         raise self.wrong("`;`")
 
     def over_brackets(self):
-        """Goes over a bracket with all that is inside."""
+        """Skips a bracket and its contents."""
         depth = 0
         while self.here().kind != "end":
             depth += (self.word() in OPENERS) - (self.word() in CLOSERS)
@@ -194,7 +194,7 @@ class Reader:
 
 
 def read_files(paths):
-    """The components of some files, and what was left out at once: each a file, a place, a kind and a name."""
+    """The components of some files, and the omitted declarations: each a file, a position, a kind and a name."""
     components, left_out = [], []
     for path in paths:
         file = File(path)

@@ -6,7 +6,7 @@ from .step_code import BINARY, EFFECTS, Verified
 HEAD = "/* Made of a listing by tools/code2c: change the design, and not this file. */\n"
 COMPARED = {"Eq": "==", "Ne": "!=", "Lt": "<", "Le": "<=", "Gt": ">", "Ge": ">="}
 LOGICAL = {"And": "&&", "Or": "||", "Xor": "!="}
-# Where the comment of an instruction begins behind its statement.
+# The column of the comment after an instruction's statement.
 WIDTH = 56
 
 

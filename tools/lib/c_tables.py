@@ -13,7 +13,7 @@ def flag(kind):
 
 
 def table(kind, name, rows):
-    """A table, or nothing where it has no rows."""
+    """A table, or nothing if it has no rows."""
     return [f"static const {kind} {name}[] = {{", *(f"    {row}," for row in rows), "};"] if rows else []
 
 
@@ -139,7 +139,7 @@ class Tables:
         yield from ("    default: return NULL;", "    }", "}")
 
     def design_source(self):
-        """The source of the whole design, or of what the chosen components need of it."""
+        """The source of the whole design, or of the parts that the chosen components need."""
         design = self.design
         names = {at: c_name(design.components[at].path) for at in self.chosen}
         kinds = {it.name: self.kind_of(it.target) for it in design.inputs}
@@ -223,7 +223,7 @@ pals_node *pals_open_node(uint32_t number, const pals_hooks *hooks, void *user, 
 
 
 def accessors(component):
-    """What stands between a component's own calls and those that any node makes."""
+    """The adapters between a component's own calls and the calls of any node."""
     name = c_name(component.path)
     own, shown = f"({name}_frame *)frame", f"((const {name}_frame *)frame)"
     values = [f"    case {at}: return {shown}->v_{it.name};" for at, it in enumerate(component.variables)]

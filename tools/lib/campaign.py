@@ -19,7 +19,7 @@ from .rows import rounds_in
 # a file, by their rounds. Then the paths of its components, and whether a scenario is false if one of them halts.
 Plan = namedtuple("Plan", "program root design scenario ports rounds seed against expected rows paths strict",
                   defaults=((), False))
-# A scenario that is false: what is false of it, and its first false round.
+# A scenario with a false property: the property, and its first false round.
 Falsified = namedtuple("Falsified", "name round")
 # What is false of a scenario, or None, and the first round in which a component halts, or None.
 Judged = namedtuple("Judged", "false halted")
@@ -29,7 +29,7 @@ NONE_HALT = Halts(0, None, None)
 
 # The property that no component halts, and how many properties a scenario may have.
 NO_TRAP, MOST_PROPERTIES = "no_trap", 64
-# How many scenarios a processor is handed at once.
+# The number of scenarios that a processor gets at once.
 CHUNK = 16
 # What a worker works on: the plan, and whether scenarios are taken in order.
 WORK = {}
@@ -49,7 +49,7 @@ def multiply(numbers):
 
 
 def at_random(plan, number):
-    """The inputs of a scenario at random: those of one number and seed are always the same."""
+    """Random inputs of a scenario: the same number and seed always give the same inputs."""
     chance = random.Random(f"{plan.seed}/{number}")
     return {name: [values.take(chance.randrange(values.count)) for _ in range(plan.rounds)]
             for name, values in plan.ports.items()}
@@ -141,7 +141,7 @@ def compare(plan, scenario):
 
 
 def rows_by(program, words, bundle):
-    """The lines of each round of what a program writes of a bundle."""
+    """The lines of each round of a program's output for a bundle."""
     status, text = ask_program(program, words, bundle)
     if status:
         raise Refused(f"{' '.join([program, *words])} ended with {status}: {text[:120].strip()}")
@@ -172,8 +172,8 @@ def added(one, more):
 
 
 def run_campaign(plan, count, in_order, tell, jobs=None):
-    """Tries scenarios until one is false: its number and what is false of it, or None, and in how many a component
-    halts. The least such number is found with any number of processors, since answers are taken in order."""
+    """Runs scenarios until one has a false property: its number and the property, or None, and in how many a component
+    halts. The result is the smallest such number with any number of processors, since results are used in order."""
     chunks = (range(first, min(first + CHUNK, count)) for first in range(0, count, CHUNK))
     tried, halts = 0, NONE_HALT
     with multiprocessing.get_context("fork").Pool(jobs or os.cpu_count(), begin, (plan, in_order)) as pool:

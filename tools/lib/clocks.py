@@ -4,12 +4,12 @@ SECOND = 10**9
 
 
 class Clock:
-    """A clock. At the time 0 it is ahead by `offset`; in each second it gains `drift`, or loses it where that is below
-    0. Where it would be off by the skew it turns, as a clock does that is kept in step. All is in nanoseconds."""
+    """A clock. At time 0 it is ahead by `offset`; each second it gains `drift`, or loses it if negative. When it would
+    be off by the skew its drift reverses, as in a synchronized clock. All values are in nanoseconds."""
 
     def __init__(self, offset, drift, skew):
         self.most, self.speed = skew - 1, abs(drift)
-        # Where it stands on its way from the least offset to the most and back.
+        # Its position on the way from the minimum offset to the maximum and back.
         self.begun = offset + self.most if drift >= 0 else 3 * self.most - offset
 
     def offset(self, at):

@@ -70,8 +70,8 @@ def heights_of(code):
 
 
 def in_code_order(behaviour):
-    """The transitions in the order of their code: those of complete states, and then those of each other state after
-    all that lead to it, the first state first."""
+    """The transitions in the order of their code: first the transitions of complete states, then the transitions of
+    each other state after every transition that leads to it, the first state first."""
     complete = [it.name.text.lower() for it in behaviour.states if it.complete]
     others = [it.name.text.lower() for it in behaviour.states if not it.complete]
     order, left = list(complete), list(others)

@@ -1,4 +1,4 @@
-"""How each tool runs: its words, its refusals, and what it does where it can neither read nor write."""
+"""How each tool runs: its arguments, its rejections, and its behaviour if it can neither read nor write."""
 
 import io
 import os
@@ -6,12 +6,12 @@ import sys
 
 from .bundles import Refused
 
-# The statuses of the tools where they are used wrongly, and where they cannot do what is asked.
+# The statuses of a tool for invalid arguments, and for a request that it cannot fulfil.
 MISUSED, UNABLE, INTERRUPTED = 2, 1, 130
 
 
 class Misused(Exception):
-    """The words are not those of the tool."""
+    """The arguments are not the tool's."""
 
 
 def run(work, usage):
@@ -19,7 +19,7 @@ def run(work, usage):
     name = os.path.basename(sys.argv[0])
     for stream in (sys.stdout, sys.stderr):
         if hasattr(stream, "reconfigure"):
-            # Where a letter is none of the output's, its number is written.
+            # A character that the output cannot encode is written as its number.
             stream.reconfigure(errors="backslashreplace")
     try:
         if sys.stdout is None:
@@ -55,7 +55,7 @@ def say(text):
 
 
 def forget_output():
-    """Lets what is not yet written go, so that the end of the program does not try it again."""
+    """Discards the unwritten output, so that the exit of the program does not try it again."""
     try:
         os.dup2(os.open(os.devnull, os.O_WRONLY), sys.stdout.fileno())
     except (OSError, ValueError):
@@ -63,13 +63,13 @@ def forget_output():
 
 
 def help_of(usage):
-    """What the tool does, as its own text says it."""
+    """The purpose of the tool, from its own text."""
     print(f"usage: {usage}\n\n{(sys.modules['__main__'].__doc__ or '').strip()}")
     return 0
 
 
 def take_option(words, name):
-    """The value behind an option, and the words without both; None where the option is not there."""
+    """The value after an option, and the arguments without both; None if the option is absent."""
     if name not in words:
         return None, words
     at = words.index(name)
@@ -84,7 +84,7 @@ def take_flag(words, name):
 
 
 def take_options(words, name):
-    """The values behind all options of a name, and the words without them."""
+    """The values after all options of a name, and the arguments without them."""
     values = []
     while name in words:
         value, words = take_option(words, name)

@@ -1,4 +1,4 @@
-"""A place among the tokens of a design's text, which keeps what may stand there."""
+"""A position among the tokens of a design's text, with the tokens that may be there."""
 
 from . import tree
 from .tokens import Tokens, word_of
@@ -10,7 +10,7 @@ DEEPEST = 64
 
 
 class Fault(Exception):
-    """The first token that cannot stand there: its number, and which ones could, in the order of the grammar."""
+    """The first unexpected token: its number, and the expected tokens, in the order of the grammar."""
 
     def __init__(self, number, wanted):
         super().__init__(number)
@@ -18,7 +18,7 @@ class Fault(Exception):
 
 
 class Cursor:
-    """A place among the tokens of a text. It keeps what was looked for here, and so can tell what may stand here."""
+    """A position among the tokens of a text. It records the tokens that the parser looked for here."""
 
     def __init__(self, text):
         self.tokens = Tokens(text).read()

@@ -8,7 +8,7 @@ CATEGORIES = ("system", "process", "thread")
 
 
 class Declarations(Cursor):
-    """What stands outside of behaviours."""
+    """The declarations outside of behaviours."""
 
     def package(self):
         """The whole text."""
@@ -41,7 +41,7 @@ class Declarations(Cursor):
         return self.since(start)
 
     def reference(self):
-        """A name with the sets before it, and perhaps that of an implementation behind it."""
+        """A name, preceded by its property sets and perhaps followed by an implementation's name."""
         start = self.at
         self.name()
         while self.may("::"):
@@ -132,7 +132,7 @@ class Declarations(Cursor):
         return self.ended(tree.Connection(name, source, target, self.braces()))
 
     def ended(self, made):
-        """What is made, behind its `;`."""
+        """The result of a reader, after its `;`."""
         self.take(";")
         return made
 
@@ -226,7 +226,7 @@ class Declarations(Cursor):
         return tree.Value("number", (word_of(sign) if sign else "") + word_of(token), [token.kind, unit])
 
     def annexes(self):
-        """The annexes that stand here."""
+        """The annexes here."""
         found = []
         while self.sees("annex"):
             offset = self.next().offset

@@ -1,4 +1,4 @@
-"""The run that an answer tells of, with what its bundle adds."""
+"""The run of an output, with the additions of its bundle."""
 
 import re
 
@@ -11,7 +11,7 @@ AXES = {"events": "one event after the other", "readings": "by the readings of t
 
 
 def run_of(text, bundle):
-    """The run that an answer tells of."""
+    """The run of an output."""
     lines = text.split("\n")
     if any(parsed(line) or STOP.fullmatch(line) for line in lines):
         found = from_journal(lines)
@@ -29,7 +29,7 @@ def run_of(text, bundle):
 
 
 def add_design(drawn, bundle):
-    """Adds what the design tells: the order of its nodes, the sources of links, and the period."""
+    """Adds the facts of the design: the order of its nodes, the sources of links, and the period."""
     model = model_of(bundle.design, drawn.lanes)
     if model is None:
         return
@@ -39,7 +39,7 @@ def add_design(drawn, bundle):
 
 
 def cut(drawn, rounds):
-    """Leaves the events of some rounds alone."""
+    """Keeps only the events of some rounds."""
     first, final = rounds
     there = {event.round for event in drawn.events}
     drawn.events = [event for event in drawn.events if first <= event.round <= final]

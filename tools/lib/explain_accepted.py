@@ -1,4 +1,4 @@
-"""Remarks on what is accepted, and on properties and processors that say no."""
+"""Remarks on accepted designs, and on properties and processors that do not hold or fit."""
 
 import re
 
@@ -12,7 +12,7 @@ from .times import in_ms
 
 
 def show_check(bundle, answer):
-    """What a design is accepted with and likely not meant: what the report says is ignored, and what `lint` finds."""
+    """Accepted but likely unintended constructs: ignored properties from the report, and the findings of `lint`."""
     paths = [line.split(" ")[1] for line in answer.lines if line.startswith("component ")]
     model = model_of(bundle.design, paths)
     found = lint(model, scenario_of(bundle.scenario)) if model else []

@@ -55,7 +55,7 @@ def show_fault(bundle, answer):
 
 
 def fault_sentences(reader, number, name, offset):
-    """What is known of a fault: sentences, or none."""
+    """Sentences on a fault; empty if nothing is known of it."""
     if reader is None:
         return []
     if number == 1:

@@ -1,4 +1,4 @@
-"""Writes what an answer of the program says, where it is in the bundle."""
+"""Explains an output of the program, at its position in the bundle."""
 
 import sys
 

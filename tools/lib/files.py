@@ -43,7 +43,7 @@ class Asked:
         roots = [impl.name.text for impl in declared.roots()] if declared else []
         if len(roots) > 1:
             raise Refused(f"which root is meant? Say ./pals {self.words[0]} ROOT .. with {choice(roots)}")
-        # Of a text that is refused, or without a system, the program says so whatever the root.
+        # For a rejected text, or one without a system, the program reports this whatever the root.
         self.words.append(roots[0] if roots else "Root.impl")
 
     def data(self):
@@ -75,13 +75,13 @@ class Asked:
 
 
 def on_terminal():
-    """Whether remarks are wanted: where standard error is a terminal."""
+    """Whether to write remarks: if standard error is a terminal."""
     return sys.stderr is not None and sys.stderr.isatty()
 
 
 def ask(words, explains, strict=False):
-    """Runs the program, writes its bytes, explains them where that is wanted, and gives its status. With `strict` the
-    status is 1 instead of 0 if a component halts."""
+    """Runs the program, writes its bytes, explains them if requested, and returns its status. With `strict` the status
+    is 1 instead of 0 if a component halts."""
     asked = Asked(words)
     status, text = asked.run()
     sys.stdout.buffer.write(text)

@@ -1,4 +1,4 @@
-"""What is wrong where an instance is refused, where more can be told than the answer does."""
+"""Explanations of violations that are more specific than the program's output."""
 
 import re
 
@@ -16,14 +16,14 @@ TYPE_RULE = ("arithmetic and `<` require Integers, `and`, `or`, `not` Booleans, 
 
 
 class Findings:
-    """The design of a bundle, asked for what stands at the place of a finding."""
+    """The design of a bundle, with queries for the declaration at the position of a finding."""
 
     def __init__(self, bundle):
         self.declared = declared_in(bundle.design)
         self.model = model_of(bundle.design)
 
     def more(self, number, offset, details):
-        """Sentences on a finding; none where nothing more is known."""
+        """Sentences on a finding; empty if nothing more is known."""
         look = {1: self.bad_type, 2: self.dispatch, 7: self.timing, 9: self.no_adaptor, 11: self.adaptor,
                 12: self.initial,
                 13: self.dispatch_count, 14: self.otherwise, 17: self.order, 18: self.too_short}.get(number)
@@ -40,7 +40,7 @@ class Findings:
         return None, None
 
     def impl_at(self, offset):
-        """The thread implementation whose name or annex, or one of whose states, stands at a place."""
+        """The thread implementation whose name or annex, or one of whose states, is at a position."""
         for impl in self.declared.package.impls:
             behaviour = behaviour_of(impl)
             places = [impl.name.offset, *(annex.offset for annex in impl.annexes)]
@@ -50,7 +50,7 @@ class Findings:
         return None
 
     def bad_type(self, offset, _details):
-        """A type that is none, or two that differ."""
+        """A missing type, or two types that differ."""
         named = [port for kind in self.declared.package.types for port in kind.ports]
         named += [it for impl in self.declared.package.impls if behaviour_of(impl)
                   for it in behaviour_of(impl).variables]
@@ -67,7 +67,7 @@ class Findings:
 
     @staticmethod
     def why_type(named):
-        """Why a port or a variable has no type that there is."""
+        """Why a port or a variable has no existing type."""
         name = named.name.text
         if named.ref is None:
             return [f"{name} has no type", f"write `{name}: .. Base_Types::Integer;` or `Base_Types::Boolean`"]
@@ -83,7 +83,7 @@ class Findings:
         return [f"{named.ref.text} is not a type here: use Base_Types::Integer or Base_Types::Boolean", likely]
 
     def type_of_end(self, impl, end):
-        """Integer or Boolean, or None where it is neither."""
+        """Integer or Boolean, or None if it is neither."""
         part, dot, port = end.text.lower().partition(".")
         inner = next((it for it in impl.parts if it.name.text.lower() == part), None) if dot else None
         owner = self.declared.impl_of(inner.ref) if inner else impl
@@ -137,7 +137,7 @@ class Findings:
                 f"{', '.join(texts)} and \"at n\" as well"]
 
     def adaptor(self, offset, details):
-        """An adaptor whose text is none, or is not allowed."""
+        """An adaptor with an unknown text, or one that is not allowed."""
         wire, _ = self.wire_at(offset)
         value = property_of(wire.props, "PALS_Profile::Input_Adaptor") if wire else None
         text = value.text if value else ""
@@ -170,7 +170,7 @@ class Findings:
 
     @staticmethod
     def order(_offset, details):
-        """Ends of a range that stand the wrong way round, or a skew of 0."""
+        """Ends of a range in the wrong order, or a skew of 0."""
         if details == ["Skew"]:
             return ["the skew is 0", "a skew is at least 1 ns: clocks differ by less than it"]
         return [f"the lower end of {details[0]} is above its upper end", "write the smaller end first"]

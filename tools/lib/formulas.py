@@ -103,7 +103,7 @@ def wrong_node(part, word, names):
 
 
 def why_number(value):
-    """Why a value is no number that a variable is compared with."""
+    """Why a value is not a number that a variable can be compared with."""
     if value.kind == "other" and value.parts in ("true", "false"):
         return f"expected a number: {1 if value.parts == 'true' else 0} is {value.parts}"
     if value.kind == "other" and re.fullmatch(r"-?[0-9.eE+-]+", value.parts):

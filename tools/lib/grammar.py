@@ -1,4 +1,4 @@
-"""Reads a design's text into its tree, or finds the first token that cannot stand there, and which ones could."""
+"""Parses a design's text into its tree, or finds the first unexpected token, and the expected ones."""
 
 from . import tree
 from .cursor import NAME, WHOLE, Fault
@@ -89,7 +89,7 @@ class Grammar(Declarations):
         return found
 
     def acts(self):
-        """Actions, with `;` between them and perhaps behind them."""
+        """Actions, separated and perhaps followed by `;`."""
         found = [self.act()]
         while self.may(";") and self.sees(NAME, "if", "for"):
             found.append(self.act())
@@ -160,7 +160,7 @@ class Grammar(Declarations):
         return tree.Expr(reads, [tree.Chain(words, offset)] + chains if words else chains, offset, root)
 
     def relation(self, reads, chains):
-        """A comparison, or a sum alone."""
+        """A comparison, or only a sum."""
         left = self.sum(reads, chains)
         sign = self.may(*COMPARING)
         return binary(sign, left, self.sum(reads, chains)) if sign else left
@@ -187,7 +187,7 @@ class Grammar(Declarations):
         return found
 
     def factor(self, reads, chains):
-        """What stands alone, or behind `abs` or `not`."""
+        """An operand by itself, or after `abs` or `not`."""
         before = self.may("abs", "not")
         found = self.operand(reads, chains)
         return tree.Unary(word_of(before).lower(), before.offset, found) if before else found
@@ -218,7 +218,7 @@ def binary(sign, left, right):
 
 
 def number_of(token):
-    """The value of a whole number; one that is too long for any reader counts as the greatest."""
+    """The value of a whole number; a number that is too long for any reader counts as the maximum."""
     digits = word_of(token).replace("_", "")
     return int(digits) if len(digits) < 1_000 else 10**1_000
 
@@ -229,7 +229,7 @@ def read(text):
 
 
 def package_of(text):
-    """The tree of a text, or None where it is none of the language."""
+    """The tree of a text, or None if it has a syntax error."""
     try:
         return read(text)
     except Fault:

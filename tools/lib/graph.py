@@ -43,7 +43,7 @@ class Graph:
             self.wire(port.name.text, ("out", port.name.text.lower()))
 
     def rate_of(self, thread):
-        """What a box says of the steps of its thread."""
+        """The text in a box about the steps of its thread."""
         rate = self.model.rate(thread)
         sent = self.model.steps_sent(rate)
         words = f"rate {rate}" if rate else "rate unknown"
@@ -71,8 +71,8 @@ class Graph:
 
 
 def columns_of(graph):
-    """The boxes in columns, from inputs to outputs: by the longest way there, without links that lead back. Where that
-    makes one long way they stand in lines, in their order."""
+    """The boxes in columns, from inputs to outputs: by the longest path, without links that lead back. If that makes
+    one long path, the boxes are in lines, in their order."""
     names = [key for key in graph.boxes if key[0] == "thread"]
     after = defaultdict(list)
     for wire in graph.wires:
@@ -116,7 +116,7 @@ def depths(names, after):
 
 
 def ordered(graph, columns):
-    """The columns, each in the order of what its boxes are joined to."""
+    """The columns, each in the order of the boxes that its boxes are joined to."""
     near = defaultdict(list)
     for wire in graph.wires:
         near[wire.source].append(wire.target)
@@ -181,7 +181,7 @@ class GraphPicture:
             self.sheet.text(middle, y + 36, box.below, "inner", "middle")
 
     def draw_wire(self, order, wire):
-        """A connection: from the right of its source to the left of its target, or round below where it leads back."""
+        """A connection: from the right of its source to the left of its target, or round below if it leads back."""
         start, end = self.side(wire.source, order, self.leaving, 1), self.side(wire.target, order, self.coming, 0)
         bend = max(min((end[0] - start[0]) / 2, 120), 50)
         if end[0] > start[0]:
@@ -202,13 +202,13 @@ class GraphPicture:
             self.sheet.text(*places[0], wire.label, "small", "middle", rank=2, others=places[1:])
 
     def below(self, wire):
-        """Where a wire that leads back goes: between its boxes where one stands below the other, else below both."""
+        """The path of a wire that leads back: between its boxes if one is below the other, else below both."""
         tops = sorted(self.places[key][1] for key in (wire.source, wire.target))
         ends = sorted(self.places[key][1] + self.places[key][3] for key in (wire.source, wire.target))
         return (ends[0] + tops[1]) / 2 if tops[1] > ends[0] else ends[1] + BETWEEN / 2
 
     def side(self, key, order, orders, right):
-        """Where a wire meets the side of a box: those of one side stand apart."""
+        """The points where wires meet the side of a box: wires of one side are apart."""
         x, y, width, height = self.places[key]
         there = orders[key]
         return x + width * right, y + height * (there.index(order) + 1) / (len(there) + 1)

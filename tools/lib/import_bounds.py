@@ -1,4 +1,4 @@
-"""What a design's threads say of their times and processors, for the root's bounds and for the scenario."""
+"""The times and processors of a design's threads, for the root's bounds and for the scenario."""
 
 import math
 
@@ -11,7 +11,7 @@ HOUR = 3600 * 10**9
 
 
 class Threads:
-    """The threads below a root, each with its path and where its properties stand."""
+    """The threads below a root, each with its path and the positions of its properties."""
 
     def __init__(self, design):
         self.design, self.library = design, design.library
@@ -49,7 +49,7 @@ class Threads:
         return candidates[0] if candidates else None
 
     def execution(self):
-        """The range of Compute_Execution_Time of all threads, or None where one has none."""
+        """The range of Compute_Execution_Time of all threads, or None if one thread has none."""
         ranges = [range_in(self.value(here, "compute_execution_time")) for here in self.threads]
         if not ranges or None in ranges:
             return None
@@ -98,7 +98,7 @@ def time(nanos):
 
 
 def add_bounds(design, threads):
-    """Gives the root the bounds that its threads tell, and says which it lacks."""
+    """Gives the root the bounds of its threads, and reports the missing ones."""
     root = design.impls[design.root.package.lower(), design.root.name.lower()]
     kind = design.library.type_of(design.root)
     known = {it.name.lower() for it in [*root.props, *(design.library.properties(kind) if kind else [])]}

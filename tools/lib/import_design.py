@@ -1,4 +1,4 @@
-"""The design that is left of AADL: one package, with devices as ports of the root."""
+"""The design made from AADL: one package, with devices as ports of the root."""
 
 from collections import namedtuple
 
@@ -6,12 +6,12 @@ from .bundles import Refused
 from .import_model import CATEGORIES, KEPT
 from .names import choice
 
-# A type or an implementation of the design: its name, its category, and what it declares.
+# A type or an implementation of the design: its name, its category, and its declarations.
 Made = namedtuple("Made", "name category ports parts links props annexes component")
-# A port that an implementation gets for a device below, and what joins it inside.
+# A port that an implementation gets for a device below, and its connections inside.
 Raised = namedtuple("Raised", "name direction type")
 
-# Properties that mean something, and those that are read for the root and the scenario.
+# Properties with a meaning, and the properties that are read for the root and the scenario.
 MEANT = {"period", "dispatch_protocol", "timing", "pals_profile::input_adaptor", "pals_profile::skew",
          "pals_profile::execution", "pals_profile::network"}
 TAKEN = KEPT | {"thread group"}
@@ -24,7 +24,7 @@ class Design:
     def __init__(self, library, root):
         self.library, self.told = library, library.told
         self.impls, self.types, self.raised, self.names = {}, {}, {}, {}
-        # Which components have threads below, by what they are.
+        # Which components have threads below, by their categories.
         self.holding = {}
         self.root = root
         self.enter(root)
@@ -54,7 +54,7 @@ class Design:
         return made
 
     def named(self, component):
-        """The name of a type in the one package: with that of its own package where two would be the same."""
+        """The name of a type in the one package: preceded by its own package if two would be the same."""
         key = (component.package.lower(), component.name.lower())
         if key not in self.names:
             taken = {it.lower() for it in self.names.values()}
@@ -94,7 +94,7 @@ class Design:
         return self.holding[id(impl)]
 
     def raise_from(self, key, part):
-        """Gives an implementation the ports that what is below it was given for devices."""
+        """Gives an implementation the ports that its subcomponents were given for devices."""
         below = self.library.find(*part.ref)
         if part.category == "thread" or below is None or "." not in below.name:
             self.enter(below)
@@ -117,7 +117,7 @@ class Design:
         return name
 
     def join(self, key, kind, outside):
-        """The connections of an implementation, those of devices from its own ports."""
+        """The connections of an implementation; connections of devices begin at its own ports."""
         made = self.impls[key]
         parts = {part.name.lower(): part for part in made.parts}
         for link in self.library.links(made.component):
@@ -184,7 +184,7 @@ class Design:
         return [prop for prop in props if prop.name.lower() in MEANT]
 
     def props_of(self, made, part):
-        """The properties of a subcomponent or a connection: its own, and those that what has it applies to it."""
+        """The properties of a subcomponent or a connection: its own, and the ones that an enclosing component applies."""
         found = {it.name.lower(): it for it in self.meant_of(part.props, part.name)}
         for prop in self.library.properties(made.component):
             if part.name.lower() in (path.lower() for path in prop.applies) and prop.name.lower() in MEANT:

@@ -1,4 +1,4 @@
-"""AADL as a design takes it: ports, subcomponents, connections and properties of components, with what they inherit."""
+"""AADL as input of a design: ports, subcomponents, connections and properties of components, with inherited ones."""
 
 from collections import namedtuple
 
@@ -7,7 +7,7 @@ from .bundles import Refused
 from .import_tokens import association, name_at, name_of, reference_in, words_of
 from .tokens import word_of
 
-# A port: its direction (in or out), the name of its type, and its place. A subcomponent: its category, what it is of.
+# A port: its direction (in or out), the name of its type, and its position. A subcomponent: its category and its type.
 Port = namedtuple("Port", "name direction type file offset")
 Part = namedtuple("Part", "name category ref props file offset")
 # A connection of two ends.
@@ -47,7 +47,7 @@ WHOLE_NUMBERS = {"integer", "natural"} | {f"{kind}_{size}" for kind in ("integer
 
 
 def kind_of(rest, directions):
-    """The kind of a feature that stands behind its direction, as `FEATURES` names it, or `data port`."""
+    """The kind of a feature that follows its direction, as `FEATURES` names it, or `data port`."""
     if "access" in rest[:4]:
         before = rest[rest.index("access") - 1]
         return f"{before} access" if f"{before} access" in FEATURES else "subprogram access"
@@ -83,7 +83,7 @@ class Told:
 
 
 class Library:
-    """The components of all files, and what they have with what they extend."""
+    """The components of all files, with everything that they inherit."""
 
     def __init__(self, components, told):
         self.told, self.components = told, components
@@ -104,7 +104,7 @@ class Library:
         return self.find(impl.name.partition(".")[0], impl.package)
 
     def line_of(self, component):
-        """A component with all that it extends, the furthest first."""
+        """A component with every component that it extends, the furthest first."""
         found = []
         while component is not None and component not in found:
             found.insert(0, component)
@@ -117,7 +117,7 @@ class Library:
         return found
 
     def items(self, component, section, read):
-        """What a section declares, by name: what is refined stands in its old place."""
+        """The declarations of a section, by name: a refined declaration is at its old position."""
         key = id(component), section
         if key not in self.kept:
             self.kept[key] = self.declared(component, section, read)
@@ -164,7 +164,7 @@ class Library:
         return Port(name, directions[0], type_name, *place) if type_name else None
 
     def data_type(self, ref, package, place, name):
-        """The type of the language for a data type; None where there is none."""
+        """The type of the language for a data type; None if there is none."""
         found = self.basic(ref, package) if ref else None
         if not found:
             self.told.add(place, f"the type of {name}, {ref or 'none'}, is not in the language; {name} is omitted",

@@ -22,13 +22,13 @@ def name_of(item):
 
 
 def reference_in(item, word):
-    """The reference behind a word of a declaration, or None."""
+    """The reference after a word of a declaration, or None."""
     words = words_of(item)
     return name_at(item.tokens, words.index(word) + 1) if word in words else None
 
 
 def name_at(tokens, at):
-    """The name that stands at a place, with packages and an implementation; or None."""
+    """The name at a position, with packages and an implementation; or None."""
     found, wants = "", True
     while at < len(tokens):
         word = word_of(tokens[at])
@@ -39,7 +39,7 @@ def name_at(tokens, at):
 
 
 def association(item):
-    """A property: the set before its name is left out where the property means something without it."""
+    """A property: the set before its name is omitted if the property has a meaning without it."""
     words = words_of(item)
     name = name_at(item.tokens, 0) or words[0]
     before, sign, last = name.rpartition("::")
@@ -55,7 +55,7 @@ def association(item):
 
 
 def text_of(tokens):
-    """The text of a property's value, as it stands but for blanks."""
+    """The text of a property's value, with normalized blanks."""
     found = ""
     for token in tokens:
         word = word_of(token)

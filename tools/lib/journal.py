@@ -8,8 +8,8 @@ from . import sentences
 from .answers import NUMBER, STOP
 from .bundles import Refused
 
-# What happened: the kind of event, its path or link, its round, its step, where it stands on the axis (`at`), what came
-# of an arrival, and words on it.
+# An event: its kind, its path or link, its round, its step, its position on the axis (`at`), the result of an arrival,
+# and text on it.
 Event = namedtuple("Event", "kind what round step at result note")
 # What ended a run: where on the axis, the lane or link, its round, what to say, and whether a message is missing there.
 End = namedtuple("End", "at what round text missing")
@@ -22,7 +22,7 @@ LINES = [
     re.compile(rf"(?P<kind>finish|drop|repeat) (?P<what>\S+) {ROUND}"),
 ]
 
-# What stands behind the first word of an event.
+# The words after the first word of an event.
 FORMS = {
     **dict.fromkeys(("start", "step", "finish", "send"), (str,)),
     **dict.fromkeys(("arrive", "drop", "repeat"), (str, int)),
@@ -36,7 +36,7 @@ class Run:
     def __init__(self, axis):
         self.axis, self.events, self.end = axis, [], None
         self.lanes, self.period = [], None
-        # All links, and the source of each, where a design tells them.
+        # All links, and the source of each, if a design is known.
         self.links, self.source = set(), lambda link: None
         # The components that traps have halted.
         self.halts = []
@@ -76,7 +76,7 @@ def from_journal(lines):
 
 
 def from_trace(scenario, verdict):
-    """The run that the trace of a scenario tells, up to the line that a verdict names."""
+    """The run that the trace of a scenario records, up to the line that a verdict names."""
     lines = lines_of(scenario)
     words = verdict.split()
     index = int(words[1]) if words[0] == "wrong" else len(lines)
@@ -116,7 +116,7 @@ def reading_or(found, latest):
 
 
 def stop_of(line, index, reading, timed):
-    """The end that a line on a stop tells."""
+    """The end that a line on a stop records."""
     words = line.split(" ")
     cause = words[1] if words[1] == "early" else words[5]
     at = index if not timed else (int(words[4]) if words[4] != "_" else reading)
@@ -125,7 +125,7 @@ def stop_of(line, index, reading, timed):
 
 
 def lanes_of(lines, events):
-    """The paths of a run, in the order of its rows, and behind them those that no row has."""
+    """The paths of a run, in the order of its rows, followed by the paths without a row."""
     lanes = []
     for line in lines:
         words = line.split(" ")

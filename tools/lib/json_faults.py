@@ -1,4 +1,4 @@
-"""Why a scenario is no JSON, as well as can be told, and where."""
+"""Why a scenario is not JSON, as far as it can be determined, and where."""
 
 import json
 import re
@@ -11,7 +11,7 @@ SPELLED = {"True": "true", "False": "false", "None": "null"}
 
 
 def why_no_json(bundle):
-    """Where a scenario is no JSON, as well as can be told, and why."""
+    """Where a scenario is not JSON, as far as it can be determined, and why."""
     data = bundle.scenario
     if data.startswith(BYTE_ORDER_MARK):
         return bundle.scenario_start, "the scenario begins with a byte order mark: remove it, as tools/bundle does"
@@ -64,7 +64,7 @@ def likely(text, error):
 
 
 class Odd(Exception):
-    """A number that is none here."""
+    """A number with a syntax error."""
 
     def __init__(self, word):
         super().__init__(word)
@@ -72,7 +72,7 @@ class Odd(Exception):
 
 
 def refuse(word):
-    """NaN and Infinity are no JSON."""
+    """NaN and Infinity are not JSON."""
     raise Odd(word)
 
 

@@ -1,10 +1,10 @@
-"""A JSON text with the places of its values, so that a refusal can be shown where it is."""
+"""A JSON text with the positions of its values, so that a rejection can be shown at its position."""
 
 import re
 from collections import namedtuple
 
-# Where a value begins, what it is (object, list or other), and its parts: of an object, triples of a name, where that
-# begins, and a value; of a list, values.
+# The position of a value, its kind (object, list or other), and its parts: for an object, triples of a name, the
+# position of the name, and a value; for a list, values.
 Value = namedtuple("Value", "offset kind parts")
 
 BLANK = re.compile(r"[ \t\r\n]*")

@@ -8,7 +8,7 @@ from .grammar import package_of
 from .listing import FORM, read_listing
 from .rows import Report
 
-# An annex that is printed as it stands.
+# An annex that is printed unchanged.
 UNREAD = re.compile(r"(?is)annex (?!behavior_specification\b)\w+ \{\*\*.*?\*\*\}")
 
 

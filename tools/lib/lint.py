@@ -6,7 +6,7 @@ from . import lint_behaviours, lint_outputs, lint_timing, lint_values
 from .found import Found
 from .properties import ignored
 
-# Each rule, and what it finds.
+# Each rule, and its finding.
 RULES = {
     "dead-link": "a link whose adaptor reads steps that are never sent",
     "thin-adaptor": "an adaptor over fewer values than it suggests, since a step of its source is not sent",
@@ -62,7 +62,7 @@ def watched(scenario):
 
 
 def scenario_of(text):
-    """The value of a scenario's text, or None where it is none that can be read."""
+    """The value of a scenario's text, or None if it cannot be read."""
     try:
         return json.loads(text.decode("utf-8")) if text.strip() else None
     except (ValueError, RecursionError):

@@ -1,4 +1,5 @@
-"""What is likely not meant in behaviours: what is never read, set, reached or taken, and operators without brackets."""
+"""Likely mistakes in behaviours: names never read or set, states never reached, transitions never taken, and mixed
+operators without brackets."""
 
 from .found import Found
 from .model import ports_of
@@ -34,7 +35,7 @@ def find(impls, watched):
 
 
 class Uses:
-    """The names that a behaviour reads and sets, in lower case, those of loops left out."""
+    """The names that a behaviour reads and sets, in lower case, without the names of loops."""
 
     def __init__(self, behaviour):
         self.read, self.set = set(), set()

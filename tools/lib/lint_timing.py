@@ -35,7 +35,7 @@ def source(model, thread, port):
 
 
 def longer(model, rate):
-    """What makes all steps be sent."""
+    """The changes with which all steps are sent."""
     bounds = model.bounds
     least = rate * (bounds.slowest + 2 * bounds.skew + bounds.longest)
     return f"all {rate} are sent with a period of {in_ms(least)} or more at the root; see docs/bound.md"
@@ -60,7 +60,7 @@ def links(model):
 
 
 def link(name, came, rates):
-    """What is to be said of one link: the rule, and the sentence."""
+    """The finding for one link: the rule, and the sentence."""
     high, low, sent = rates
     group = high // low
     read = places(came.adaptor, group)
@@ -80,7 +80,7 @@ def link(name, came, rates):
 
 
 def places(adaptor, group):
-    """The places of a group that an adaptor to a lower rate reads; None where it is none."""
+    """The places of a group that an adaptor to a lower rate reads; None if it is not such an adaptor."""
     if adaptor in ("first", "last"):
         return [0 if adaptor == "first" else group - 1]
     if adaptor.startswith("at ") and adaptor[3:].isascii() and adaptor[3:].isdigit() and len(adaptor) < 6:

@@ -6,12 +6,12 @@ from collections import namedtuple
 from .bundles import Refused
 from .step_code import OPERANDS
 
-# A design: its times in nanoseconds, its components, and what is connected. Ends are (component, port) by number.
+# A design: its times in nanoseconds, its components, and its connections. Ends are (component, port) by number.
 Listing = namedtuple("Listing", "period skew execution network components links inputs outputs")
 Component = namedtuple("Component", "path rate sent release ins outs variables loops states initial most code")
 Port = namedtuple("Port", "name kind")
 Variable = namedtuple("Variable", "name kind first")
-# A state, and the place where its steps begin; None where none does.
+# A state, and the place where its steps begin; None if no step begins in it.
 State = namedtuple("State", "name entry")
 Link = namedtuple("Link", "source target adaptor")
 Input = namedtuple("Input", "name target adaptor")
@@ -34,7 +34,7 @@ def name_of_link(listing, link):
 
 
 def shown(component, kind, number):
-    """The name that stands behind an operand."""
+    """The name after an operand."""
     if kind == "slot":
         names = component.variables
         return names[number].name if number < len(names) else f"#{number - len(names)}"
@@ -72,7 +72,7 @@ class Lines:
         raise Refused(f"line {self.at} of the listing: {what}")
 
     def next(self, start):
-        """The words behind the beginning of the next line, or None where it has another."""
+        """The words after the beginning of the next line, or None if the line begins otherwise."""
         if self.at < len(self.lines) and self.lines[self.at].startswith(f"{start} "):
             self.at += 1
             return self.lines[self.at - 1][len(start) + 1 :].split(" ")
@@ -106,7 +106,7 @@ class Lines:
         return word
 
     def distinct(self, names):
-        """Names of which none stands twice; upper and lower case make no difference."""
+        """Names that are pairwise distinct; upper and lower case make no difference."""
         names = [name.lower() for name in names]
         if len(set(names)) < len(names):
             self.refuse("duplicate name")
@@ -200,7 +200,7 @@ class Ends:
                      for at, port in enumerate(it.outs)}
 
     def parted(self, words):
-        """The words before and behind an arrow, and the adaptor's."""
+        """The words before and after an arrow, and the adaptor's."""
         if len(words) < 3 or words[1] != "->":
             self.lines.refuse("`FROM -> TO` is wanted")
         return words[0], words[2], words[3:]
@@ -240,7 +240,7 @@ class Ends:
         return Output(self.port(self.outs, source), self.lines.name(name))
 
     def adaptor(self, words, source, target):
-        """The adaptor between two rates: None where they are equal."""
+        """The adaptor between two rates: None if they are equal."""
         group = max(source, target) // min(source, target)
         names = UP if source < target else DOWN
         if source == target and not words:
@@ -254,7 +254,7 @@ class Ends:
 
 
 def read_listing(text):
-    """The design that a text lists, or a refusal. Of the code only its form is looked at."""
+    """The design of a listing, or a rejection. For the code only the form is checked."""
     lines = Lines(text)
     if lines.lines[0] != FORM:
         raise Refused(f"line 1 of the listing: expected `{FORM}`")

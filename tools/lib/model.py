@@ -1,4 +1,4 @@
-"""The design below one root: its threads, what comes into their ports, its rates and its bounds. No rule is checked."""
+"""The design below one root: its threads, the sources of their ports, its rates and its bounds. No rule is checked."""
 
 from collections import namedtuple
 
@@ -8,9 +8,9 @@ from .names import choice
 from .tree import property_of
 
 UNITS = {"ns": 1, "us": 10**3, "ms": 10**6, "sec": 10**9, "min": 60 * 10**9, "hr": 3600 * 10**9}
-# A design has 256 threads at most, with paths of 128 bytes; beyond this many components nothing is looked at.
+# A design has at most 256 threads, with paths of 128 bytes; components beyond this number are ignored.
 MOST_PLACES = 32_768
-# A thread: its path, its subcomponent, its implementation and type (None where they are not declared), and its period.
+# A thread: its path, its subcomponent, its implementation and type (None if they are not declared), and its period.
 Thread = namedtuple("Thread", "path part impl type period")
 # What comes into an in port of a thread, or into a root out port: the thread or None for the root, its port, the
 # connection that carries it, and the adaptor.
@@ -48,7 +48,7 @@ class Declared:
         return [impl for impl in self.package.impls if impl.category == "system"]
 
     def roots(self):
-        """The system implementations that no other one has inside; all of them where there is none such."""
+        """The system implementations that no other one contains; all of them if each is contained in another."""
         inner = {impl and impl.name.text.lower() for made in self.package.impls for impl in self.parts_of(made)}
         tops = [impl for impl in self.systems() if impl.name.text.lower() not in inner]
         return tops or self.systems()
@@ -85,7 +85,7 @@ class Model:
                 self.walk(impl, below, own, above | {made.name.text.lower()})
 
     def own_period(self, part, impl, period):
-        """The period of a component: its own, or else that of what is round it."""
+        """The period of a component: its own, or else the period of the enclosing component."""
         levels = [part, impl, self.declared.type_of(impl)]
         own = (time_of(property_of(level.props, "Period")) for level in levels if level)
         return next((found for found in own if found is not None), period)
@@ -96,14 +96,14 @@ class Model:
         return [thread.path for thread in self.by_path.values()]
 
     def rate(self, thread):
-        """How many steps a thread makes in a round, or None where that is no whole number."""
+        """The number of steps of a thread in a round, or None if that is not a whole number."""
         if not self.period or not thread.period or self.period % thread.period:
             return None
         return self.period // thread.period
 
     @property
     def bounds(self):
-        """The bounds of the platform, or None where one is missing."""
+        """The bounds of the platform, or None if one is missing."""
         levels = [level for level in (self.root, self.declared.type_of(self.root)) if level]
 
         def given(name):
@@ -114,14 +114,14 @@ class Model:
         return Bounds(skew, *execution, *network) if skew and execution and network else None
 
     def steps_sent(self, rate):
-        """How many of the steps of a thread end in time for its message, or None where that cannot be told."""
+        """How many of the steps of a thread end in time for its message, or None if that is unknown."""
         if not self.bounds or not self.period or not rate:
             return None
         left = self.period - self.bounds.slowest - 2 * self.bounds.skew - self.bounds.longest
         return min(rate, 1 + max(left, 0) // max(self.period // rate, 1))
 
     def came_from(self, end):
-        """What comes into a port: `PATH.PORT`, or the name of a root out port. None where nothing does."""
+        """The source of a port: `PATH.PORT`, or the name of a root out port. None if it has no source."""
         at, carrier, carries = end.lower(), None, False
         for _ in range(len(self.wires) + 1):
             if at not in self.wires:
@@ -151,7 +151,7 @@ class Model:
         return [port for port in self.declared.ports_of(self.root) if port.direction == direction]
 
     def links(self):
-        """The links between threads, by what they go to."""
+        """The links between threads, by their targets."""
         ends = [f"{thread.path}.{port.name.text}" for thread, port in self.in_ports()]
         return {end for end in ends if self.source(end)}
 
@@ -173,7 +173,7 @@ def spelled(thread, name):
 
 
 def full(path, end):
-    """An end of a connection, with the path of what has it."""
+    """An end of a connection, with the path of its component."""
     return ".".join(path + (end.text,)).lower()
 
 
@@ -203,7 +203,7 @@ def range_of(value):
 
 
 def declared_in(design):
-    """What a design's text declares, or None where it is none of the language."""
+    """The declarations of a design's text, or None if it has a syntax error."""
     package = package_of(design)
     return Declared(package) if package else None
 

@@ -1,4 +1,4 @@
-"""Names that are near to one another, so that a likely one can be told."""
+"""Names that are near to one another, so that a likely one can be suggested."""
 
 
 def is_near(one, two):
@@ -30,13 +30,13 @@ def near_names(name, known, most=3):
     limit = 0 if len(low) < 2 else 1 if len(low) < 5 else 2 if len(low) < 9 else 3
     rated = [(rate(low, other.lower(), limit), order, other) for order, other in enumerate(dict.fromkeys(known))]
     near = [(cost, other) for cost, _, other in sorted(rated) if cost <= limit and other != name]
-    # Where one is the same but for case or what stands before it, the others are not meant.
+    # If one is the same but for case or its qualifier, the others are not meant.
     same = [other for cost, other in near if cost == 0]
     return (same or [other for _, other in near])[:most]
 
 
 def rate(one, two, limit):
-    """How far two names are from one another. One that ends the other, behind a dot, is no letter off."""
+    """The distance of two names. A name that ends the other, after a dot, has distance 0."""
     if one.endswith("." + two) or two.endswith("." + one):
         return 0
     return distance(one, two, limit)
@@ -49,6 +49,6 @@ def choice(names, joint="or"):
 
 
 def meant(name, known):
-    """A sentence on what was likely meant, or nothing."""
+    """A sentence on the likely intended name, or nothing."""
     near = near_names(name, known)
     return f"{choice(near)} is likely meant" if near else ""

@@ -1,4 +1,4 @@
-"""Why something of a package is of another kind than its place needs: a sentence for each case, and what to do."""
+"""Why a part of a package has another kind than its position requires: a sentence for each case, and a remedy."""
 
 from .model import UNITS
 from .names import choice, meant
@@ -32,7 +32,7 @@ class Reader(Undeclared):
     """A package, with what is wrong at each place of it."""
 
     def wrong_kind(self, offset):
-        """Why something is of another kind than its place needs: sentences, the first of which says it."""
+        """Why a part has another kind than its position requires: sentences, the first of which states it."""
         for look in (self.wrong_end, self.wrong_impl, self.wrong_part, self.wrong_wire, self.wrong_value,
                      self.wrong_use):
             found = look(offset)
@@ -41,7 +41,7 @@ class Reader(Undeclared):
         return []
 
     def wrong_end(self, offset):
-        """A name behind `end` that differs."""
+        """A name after `end` that differs."""
         for made in [self.package, *self.package.types, *self.package.impls]:
             if made.end.offset == offset:
                 return [f"`end {made.end.text}` ends the declaration of {made.name.text}",
@@ -63,7 +63,7 @@ class Reader(Undeclared):
         return None
 
     def wrong_part(self, offset):
-        """A subcomponent that may not stand where it does, or names something else."""
+        """A subcomponent that is not allowed at its position, or names something else."""
         for impl in self.package.impls:
             for part in impl.parts:
                 if part.name.offset == offset:
@@ -117,7 +117,7 @@ class Reader(Undeclared):
         return None
 
     def wrong_value(self, offset):
-        """A property whose value has another shape; an annex that may not stand where it does."""
+        """A property whose value has another shape; an annex that is not allowed at its position."""
         for props in self.lists():
             for prop in props:
                 if prop.name.offset == offset:
@@ -182,7 +182,7 @@ class Reader(Undeclared):
 
 
 def why_time(value):
-    """Why a value is no time; empty where it is one, or no number at all."""
+    """Why a value is not a time; empty if it is a time, or not a number at all."""
     if value.kind != "number":
         return ""
     kind, unit = value.parts

@@ -18,7 +18,7 @@ def listed(names, what):
 
 
 class Undeclared:
-    """A package, with what its names stand for."""
+    """A package, with the declarations of its names."""
 
     def __init__(self, package):
         self.package, self.declared = package, Declared(package)
@@ -138,7 +138,7 @@ class Undeclared:
         return []
 
     def open_end(self, impl, end, is_source):
-        """Whether the chain goes on at one end: what to say where it does not."""
+        """Whether the chain continues at one end: the sentence if it does not."""
         part, dot, port = end.text.lower().partition(".")
         joins = "goes to" if is_source else "comes from"
         if dot:

@@ -1,4 +1,4 @@
-"""The sections of docs/checks.md, which say what to do about each refusal of a design."""
+"""The sections of docs/checks.md, which give a remedy for each rejection of a design."""
 
 import os
 import re
@@ -8,7 +8,7 @@ CHECKS = "docs/checks.md"
 
 
 def advice():
-    """What to do, by part (faults or findings) and number; empty where the page does not stand there."""
+    """The remedies, by part (faults or findings) and number; empty if the page is missing."""
     found, part, number, taking = {}, "", 0, False
     for line in lines_of(os.path.join(TOP, CHECKS)):
         if line.startswith("## "):
@@ -28,7 +28,7 @@ def plain(text):
 
 
 def lines_of(path):
-    """The lines of a page, or none."""
+    """The lines of a page; empty if it is missing."""
     try:
         with open(path, encoding="utf-8") as file:
             return file.read().split("\n")

@@ -43,7 +43,7 @@ class Picture:
         return min(PER_EVENT * (self.span + 1), max(wished, PER_EVENT * 40)) if self.run.axis == "events" else wished
 
     def x(self, at):
-        """Where a moment stands."""
+        """The position of a moment."""
         return self.left + 14 + (at - self.first) * (self.width - 28) / self.span
 
     def y(self, lane):
@@ -66,7 +66,7 @@ class Picture:
         return self.sheet.whole(width, self.bottom + 46, self.title)
 
     def is_wide(self):
-        """Whether the names of the lanes stand on the right too."""
+        """Whether the names of the lanes are also on the right."""
         return self.width > 1.5 * LEAST_WIDTH
 
     def draw_lanes(self):
@@ -152,7 +152,7 @@ class Picture:
         return f"event {at - 1}" if self.run.axis == "events" else in_ms(at)
 
     def draw_messages(self):
-        """An arrow for each message that arrived, a cross for each that was lost, and what is still in flight."""
+        """An arrow for each message that arrived, a cross for each that was lost, and the messages still in flight."""
         sends, copies = {}, defaultdict(int)
         radius = min(3.5, self.high / 5)
         for event in self.run.events:
@@ -182,7 +182,7 @@ class Picture:
         return sorted(seen)
 
     def source(self, link):
-        """The source of a link; where no design tells it, the one other node that has sent; or None."""
+        """The source of a link; without a design, the only other node that has sent; or None."""
         if link not in self.sources:
             others = self.senders - {node_of(link)}
             self.sources[link] = self.run.source(link) or (min(others) if len(others) == 1 else None)
@@ -262,7 +262,7 @@ class Picture:
             self.sheet.text(x + 12, y - self.high / 2 - 3, words, "red small", rank=1)
 
     def draw_heading(self):
-        """The title, a word where some rounds alone would be drawn larger, and the legend; gives their width."""
+        """The title, a remark if only some rounds would be drawn larger, and the legend; returns their width."""
         title = self.title
         if self.per_round < SMALL_ROUND and len(self.rounds) > 1:
             first = self.rounds[0]
@@ -271,7 +271,7 @@ class Picture:
         return max(1.15 * wide(title), self.draw_legend(46)) - self.left
 
     def draw_legend(self, y):
-        """What the shapes mean, of those that there are; gives where it ends."""
+        """The legend of the shapes in the picture; returns the position of its end."""
         x = LEFT_PAD
         for layers, words in LEGEND:
             there = [layer for layer in layers if self.sheet.layers[layer]]

@@ -1,4 +1,4 @@
-"""How a run is drawn: the layers of its picture, their style, and what the legend says of them."""
+"""How a run is drawn: the layers of its picture, their style, and their text in the legend."""
 
 from .svg import ASIDE, DARK, LIGHT, WRONG, number
 
@@ -6,7 +6,7 @@ LAYERS = ["lane", "grid", *[f"bar b{turn}" for turn in range(len(DARK))], "ignor
           *[f"message r{turn}" for turn in range(len(DARK))], "send", "missing", "wrong", "ring"]
 HEADS = {**{f"head{turn}": colour for turn, colour in enumerate(DARK)}, "grey": ASIDE, "red": WRONG}
 
-# What the legend says of layers.
+# The texts of layers in the legend.
 LEGEND = [
     ([f"bar b{turn}" for turn in range(len(DARK))], "steps, in the colour of their round"),
     (["send"], "a round is sent"),

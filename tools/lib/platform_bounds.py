@@ -1,7 +1,7 @@
 """Whether a trace can be one of a platform that kept the bounds of its design: what an audit does not look at.
 
-Each line happened at a time that nobody knows. The reading of its node differs from that time by less than the skew; a
-node's lines stand in the order of their times; an arrival is at least the least time of the network behind its send. So
+Each line happened at an unknown time. The reading of its node differs from that time by less than the skew; a node's
+lines are in the order of their times; an arrival follows its send by at least the minimum time of the network. So
 each line has an earliest time. Its reading and the last time at which it may happen (docs/nodes.md) give a latest one.
 """
 
@@ -19,7 +19,7 @@ Moment = namedtuple("Moment", "earliest latest reading")
 
 
 class Bounds:
-    """What was found, the first of it by its line; and how many arrivals were found at a start alone."""
+    """The findings, the first one by its line; and how many arrivals were found only at a start."""
 
     def __init__(self, nodes, lines):
         self.nodes, self.bounds = nodes, nodes.bounds
@@ -50,7 +50,7 @@ class Bounds:
         return path
 
     def take(self, index, line):
-        """One line: what is found at it, or None."""
+        """One line: its finding, or None."""
         path, spread = self.path_of(line), self.bounds.skew - 1
         if line.kind == "finish":
             self.earliest[path] = max(self.earliest[path], self.begun.get(path, 0) + self.bounds.shortest)

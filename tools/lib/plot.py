@@ -67,7 +67,7 @@ def verdicts_of(report):
 
 
 def chosen(signals, names):
-    """The signals of some names: a name, a component with all that it has, or with `*` for any letters."""
+    """The signals of some names: a name, a component with everything that it has, or with `*` for any letters."""
     if not names:
         return signals
     taken = []
@@ -108,7 +108,7 @@ class Plot:
         self.sheet = Sheet("plot", STYLE, layers)
 
     def x(self, at):
-        """Where a time, in rounds, stands."""
+        """The position of a time, in rounds."""
         return self.left + (at - self.first) * self.scale
 
     def draw(self):
@@ -152,7 +152,7 @@ class Plot:
                 self.sheet.text(self.x(at), y, str(at), "small", "middle", rank=2)
 
     def draw_number(self, signal, top, height):
-        """Numbers as steps, with the least and the greatest at the left."""
+        """Numbers as steps, with the minimum and the maximum at the left."""
         values = [int(piece.value) for piece in signal.pieces]
         least, most = min(values), max(values)
         span, low, high = max(most - least, 1), top + height - 7, top + 7
@@ -172,7 +172,7 @@ class Plot:
         self.sheet.path("steps", " ".join(path), note)
 
     def draw_truth(self, signal, top, height):
-        """Truth values: a bar where it is true, a line where it is false."""
+        """Truth values: a bar while it is true, a line while it is false."""
         for piece in merged(signal.pieces):
             size = height - 10 if piece.value == "true" else 2
             corner = (self.x(piece.begin), top + height - 5 - size)
@@ -193,7 +193,7 @@ class Plot:
                                 rank=1 if halted else 4)
 
     def draw_verdict(self, signal, top, height):
-        """A property: a line where it holds, a block where it is false."""
+        """A property: a line while it holds, a block while it is false."""
         pieces = merged(signal.pieces)
         for piece in pieces:
             begin, end, middle = self.x(piece.begin), self.x(piece.end), top + height / 2

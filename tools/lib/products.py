@@ -8,7 +8,7 @@ Product = namedtuple("Product", ["commands", "most", "write"])
 MANY = 10**9
 COMPONENTS = 256
 PROPERTIES = 64
-# Where threads are multiplied by something else, so much of that comes with each thread.
+# If threads are multiplied by something else, this much of that belongs to each thread.
 PER_THREAD = 256
 PLACES = 9
 
@@ -43,7 +43,7 @@ def many(number, piece):
 
 
 def put(text, place, pieces):
-    """A text with pieces behind the first such place."""
+    """A text with pieces after the first such position."""
     before, after = text.split(place, 1)
     return before + place + pieces + after
 
@@ -130,7 +130,7 @@ def nested_loops(number):
 
 
 def loops(number):
-    """Loops one behind the other, each with a loop in it."""
+    """Loops one after the other, each with a loop in it."""
     body = "; for (k: Base_Types::Integer in 1 .. 1) {for (m: Base_Types::Integer in 1 .. 1) {x := k + m}}" * number
     return package(COUNTER.replace("o!(x)", f"o!(x){body}"))
 

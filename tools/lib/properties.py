@@ -1,4 +1,4 @@
-"""Properties that mean something, those that do not, and the likely name of one that does not."""
+"""Properties with a meaning, properties without one, and the likely name of the latter."""
 
 from collections import namedtuple
 
@@ -50,7 +50,7 @@ def lists_in(impl, bounds):
 
 
 def ignored(package, roots):
-    """The properties that mean nothing where they stand: those first for which another name was likely meant."""
+    """The properties without a meaning at their position: first the ones for which another name was likely meant."""
     found = []
     for props, known in lists_of(package, roots):
         for prop in props:
@@ -62,7 +62,7 @@ def ignored(package, roots):
 
 
 def associations(design):
-    """The names of the properties of a design's text, each with its place; none where it is none of the language."""
+    """The names of the properties of a design's text, each with its position; empty if the text has a syntax error."""
     package = package_of(design)
     return [(prop.name.text, prop.name.offset) for props, _ in lists_of(package) for prop in props] if package else []
 
@@ -80,7 +80,7 @@ def why_ignored(name, applies=False):
 
 
 def likely(name):
-    """The name that was likely meant: one letter or the property set is off. None where none is near, or it is one."""
+    """The likely intended name: one letter or the property set differs. None if no name is near, or it is one."""
     known = {it.lower(): it for it in PLACES}
     if name.lower() in known:
         return None

@@ -75,11 +75,11 @@ class BehaviourMaker:
         return (self.random.choice(LOGICAL), self.expression(BOOLEAN, depth + 1), self.expression(BOOLEAN, depth + 1))
 
     def actions(self, depth=0):
-        """Some actions; none where nothing can be set."""
+        """Some actions; empty if nothing can be set."""
         return [it for it in (self.action(depth) for _ in range(self.random.randint(1, 3))) if it]
 
     def action(self, depth):
-        """An action, or None where nothing can be set."""
+        """An action, or None if nothing can be set."""
         chance = self.random.random()
         if chance < 0.15 and depth < 2:
             branches = [(self.expression(BOOLEAN), self.actions(depth + 1)) for _ in range(self.random.randint(1, 2))]

@@ -12,7 +12,7 @@ RATES = ((1,), (1, 2), (1, 2, 4), (1, 3, 6), (1, 2, 8))
 
 
 def adaptor_of(random, source, target, kind):
-    """An adaptor between two rates, or None where they are equal."""
+    """An adaptor between two rates, or None if they are equal."""
     if source == target:
         return None
     if source < target:
@@ -49,7 +49,7 @@ class DesignMaker:
                 for at in range(self.random.randint(0, most))]
 
     def made(self):
-        """The design. Each in port has a link or an input where one fits, and else nothing."""
+        """The design. Each in port has a link or an input if one fits, and otherwise nothing."""
         skew, execution, network = self.times()
         components = [self.component(at) for at in range(self.random.randint(1, 4))]
         period = period_of(self.random, self.rates, skew, execution, network)

@@ -77,7 +77,7 @@ class Numbers:
 
 
 class Single:
-    """One value that is no number."""
+    """One value that is not a number."""
 
     def __init__(self, value):
         self.value, self.count = value, 1

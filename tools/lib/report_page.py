@@ -1,4 +1,4 @@
-"""All that the program says of one design and one scenario, as one page (HTML) that needs nothing beside itself."""
+"""The complete output of the program for one design and one scenario, as one self-contained page (HTML)."""
 
 import base64
 import contextlib
@@ -23,7 +23,7 @@ from .timetable import Timetable, processors_of
 from .traps import halted_in, rounds_words, short, traps_of
 
 HERE = os.path.dirname(os.path.abspath(__file__))
-# A table of more cells and a timeline of more events than these have some rounds alone.
+# A table of more cells or a timeline of more events than these shows only some rounds.
 MOST_CELLS, MOST_EVENTS = 150_000, 40_000
 ZOOM = (
     '<div class="zoom"><p><button value="larger">Larger (+)</button><button value="smaller">Smaller (-)</button>'
@@ -105,7 +105,7 @@ class Page:
         )
 
     def find_traps(self):
-        """The traps of all answers: those of one component in one round only once."""
+        """The traps of all outputs: the traps of one component in one round only once."""
         found = {}
         for place in ("sync", "vote", "fuse", "run", "watch"):
             text = self.text_of(place)
@@ -131,14 +131,14 @@ class Page:
         return told.text if told else None
 
     def report_of(self, place):
-        """The report of an answer, or None where there is none."""
+        """The report of an output, or None if there is none."""
         try:
             return Report(self.text_of(place) or "rejected")
         except Refused:
             return None
 
     def design(self):
-        """The picture of the design, and what it is accepted with."""
+        """The picture of the design, and the remarks on the accepted design."""
         if self.model is None:
             return [note("The design is not a text of the language.")]
         graph = Graph(self.model)
@@ -178,7 +178,7 @@ class Page:
         return written.getvalue()
 
     def explained(self, text, place):
-        """What explain says of an answer."""
+        """The explanation of an output."""
         try:
             return self.said(lambda: explain(self.study.bundle, text, "world" if place == "run" else "", passes=False))
         except Refused as why:

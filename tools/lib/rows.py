@@ -25,7 +25,7 @@ SLOT = re.compile(rf"slot (\S+) ({NUMBER}) ({NUMBER}) ({NUMBER})")
 
 
 def rounds_in(text):
-    """The lines of each round of a text that has rows alone, from round 0 on."""
+    """The lines of each round of a text that has only rows, from round 0 on."""
     found = []
     for line in filter(None, text.split("\n")):
         match = ROUND.fullmatch(line)

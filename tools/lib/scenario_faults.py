@@ -1,4 +1,4 @@
-"""What is wrong where a scenario is refused: a sentence for each field, with what is wanted and what there is."""
+"""The errors of rejected scenarios: a sentence for each field, with the expected and the given value."""
 
 import re
 
@@ -28,7 +28,7 @@ TAKES = {
     "plants": "an object from the path of a plant to that of its controller",
     "processors": 'an object from names to processors, as {"cpu": {"nanos": 10, "components": ["p.a"]}}',
 }
-# What stands inside of a field.
+# The expected contents of a field.
 INSIDE = {
     "inputs": "a list of values, one for each round",
     "events": f"an event: {choice([shape for shape, _ in EVENTS.values()])}",
@@ -98,7 +98,7 @@ class Why:
         self.names, self.at, self.offset = names, at, None
 
     def of(self, fault, about):
-        """Sentences, the first of which says what is wrong; none where nothing is known of it."""
+        """Sentences, the first of which states the error; empty if nothing is known of it."""
         field, _, rest = about.partition("/")
         look = {"WrongKind": self.wrong_kind, "Unknown": self.unknown, "OutOfRange": self.out_of_range,
                 "Field": self.missing, "TooBig": self.too_big}.get(fault)
@@ -150,7 +150,7 @@ class Why:
         return [f'"{word}" is written {shape}']
 
     def unknown(self, field, rest):
-        """A name that is none."""
+        """An unknown name."""
         if field not in FIELDS:
             return [f"a scenario has no field {field}", meant(field, FIELDS), f"fields: {', '.join(FIELDS)}"]
         if field == "inputs":

@@ -1,4 +1,4 @@
-"""Where in a bundle the thing stands that a refusal of a scenario names, as inputs/goal/2 or events/3."""
+"""The positions in a bundle of the values that a rejection of a scenario names, as inputs/goal/2 or events/3."""
 
 import json
 import re
@@ -13,7 +13,7 @@ def text_and_start(bundle):
 
 
 def place_of(bundle, name):
-    """The place in the bundle of what NAME names: the nearest that stands there."""
+    """The position in the bundle of the value that NAME names: the nearest existing one."""
     text, start = text_and_start(bundle)
     try:
         value = places(text)
@@ -29,7 +29,7 @@ def place_of(bundle, name):
 
 
 def value_of(bundle, name):
-    """The value in a scenario of what NAME names, or None."""
+    """The value in a scenario that NAME names, or None."""
     text, _ = text_and_start(bundle)
     try:
         value = places(text)
@@ -50,7 +50,7 @@ def offset_of(bundle, at):
 
 
 def part_of(value, name):
-    """The part of a value that a name begins with: its place, its value, and what is left of the name."""
+    """The part of a value that a name begins with: its position, its value, and the rest of the name."""
     if value.kind == "list":
         index, _, rest = name.partition("/")
         at = int(index) if re.fullmatch(r"[0-9]{1,9}", index) else len(value.parts)

@@ -7,7 +7,7 @@ BY_NAME = ("inputs", "clocks", "delays", "properties", "plants", "processors")
 
 
 def scenario_text(scenario):
-    """The text of a scenario. Of its events those of one time stand on one line."""
+    """The text of a scenario. Its events of the same time are on one line."""
     fields = []
     for name, value in scenario.items():
         if name in BY_NAME and isinstance(value, dict) and value:
@@ -26,7 +26,7 @@ def lines(parts, brackets):
 
 
 def by_time(events):
-    """Events, those of one time together."""
+    """Events, grouped by time."""
     found = []
     for event in events:
         if not found or event[:1] == ["pass"]:

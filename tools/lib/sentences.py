@@ -1,4 +1,4 @@
-"""What each refusal says, in a sentence. $1 is its first detail, $2ms its second one as a time."""
+"""Each rejection in a sentence. $1 is its first detail, $2ms its second one as a time."""
 
 import re
 

@@ -1,4 +1,4 @@
-"""Remarks on a bundle: a place, what is to be said of it, the line with a caret, and further lines."""
+"""Remarks on a bundle: a position, a message, the line with a caret, and further lines."""
 
 import contextlib
 import re
@@ -6,12 +6,12 @@ from collections import namedtuple
 
 # One remark: its file, line and column from 1, the column also in letters, its rule and level, and its sentences.
 Remark = namedtuple("Remark", "path line column letter rule level what more")
-# Where remarks are collected instead of written, or None.
+# The list that collects remarks instead of writing them, or None.
 COLLECTED = []
 
 # How many bytes of a line are shown.
 MOST_SHOWN = 160
-# Characters that a terminal would obey, and those that change the direction of writing; tabs are let through.
+# Characters that a terminal would interpret, and characters that change the direction of writing; tabs are allowed.
 CONTROL = re.compile("[\x00-\x08\x0a-\x1f\x7f-\x9f\u200b-\u200f\u2028-\u202e\u2060-\u2069\ufeff]")
 
 
@@ -53,7 +53,7 @@ def show(bundle, place, what, *more, rule="", level="error"):
 
 
 def show_found(bundle, found):
-    """Writes a finding on what is accepted."""
+    """Writes a finding on an accepted design."""
     what = found.what if COLLECTED else f"{found.what} ({found.rule})"
     show(bundle, bundle.place(found.offset), what, *found.more, rule=found.rule,
          level="error" if found.rule == "trap" else "warning")

@@ -4,7 +4,7 @@ from .bundles import Refused
 
 BINARY = ("Add", "Sub", "Mul", "Quot", "Mod", "Rem", "Eq", "Ne", "Lt", "Le", "Gt", "Ge", "And", "Or", "Xor")
 UNARY = ("Neg", "Abs", "Not")
-# What stands behind the name of an instruction: a number, a slot, an in port, an out port, a state, or a place.
+# The operand of an instruction: a number, a slot, an in port, an out port, a state, or a place.
 OPERANDS = {
     "Push": ("number",),
     "Load": ("slot",),
@@ -83,7 +83,7 @@ class Verified:
         self.need(slot >= len(self.component.variables) and slot not in above, place, "BadSlot")
 
     def lead(self, place, name, targets):
-        """Gives the height behind an instruction to the places that it leads to."""
+        """Gives the height after an instruction to its successors."""
         pops, pushes = EFFECTS[name]
         height = self.heights[place]
         self.need(height >= pops, place, "Underflow")

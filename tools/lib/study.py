@@ -1,4 +1,4 @@
-"""All that the program says of one design and one scenario."""
+"""The complete output of the program for one design and one scenario."""
 
 import json
 from collections import namedtuple
@@ -8,9 +8,9 @@ from .kinds import Answer
 from .lint import scenario_of
 from .program import ask_program
 
-# One answer: what was asked, the status, and the text.
+# One output: the command, the status, and the text.
 Told = namedtuple("Told", "words status text")
-# Which answers take the place of which command, where they are handed in. Rows with messages or a journal are of a run.
+# Which given outputs replace the output of which command. Rows with messages or a journal belong to a run.
 PLACE_OF = {"check": "check", "text": "check", "fault": "check", "findings": "check", "code": "check",
             "scenario": "sync", "watch": "watch", "budget": "budget", "rows": "sync", "stop": "run", "event": "run",
             "clock": "run", "wrong": "run", "sound": "run"}
@@ -53,7 +53,7 @@ class Study:
         yield "run", self.run_words()
 
     def run_words(self):
-        """The words for a run: by the events of the scenario or its trace where it has some, else in threads."""
+        """The arguments for a run: by the events of the scenario or its trace if it has some, else in threads."""
         events = self.scenario.get("events")
         if isinstance(events, list) and events:
             timed = any(isinstance(event, list) and event[:1] == ["pass"] for event in events)
@@ -61,7 +61,7 @@ class Study:
         return ["audit"] if self.scenario.get("trace") else ["run", "--trace"]
 
     def take(self, path, text):
-        """Takes an answer that is handed in."""
+        """Uses a given output."""
         answer = Answer(text)
         if answer.kind not in PLACE_OF:
             raise Refused(f"{path}: a report cannot show this answer")

@@ -5,14 +5,14 @@ from xml.sax.saxutils import escape
 
 from .show import visible
 
-# Characters that no XML may have, beside those that `visible` shows.
+# Characters that XML does not allow, in addition to the ones that `visible` shows.
 NO_XML = re.compile("[\ud800-\udfff\ufffe\uffff]")
 # Words are dropped by cells of this size, in pixels, where they would touch.
 CELL = 48
 # The rank of words that are always there; the higher a rank, the sooner words are dropped.
 KEPT = 0
-# The rounds' colours, in turn: dark ones for lines, light ones for areas; and those of what is wrong, and of what is
-# left aside. They can be told apart by those who do not see red or green.
+# The rounds' colours, in turn: dark ones for lines, light ones for areas; and the colours of errors and of ignored
+# parts. They can be distinguished without seeing red or green.
 DARK = ("#1f5fa8", "#a35a00", "#1d7a55", "#85408f")
 LIGHT = ("#a8cbec", "#f4d19a", "#a5dcc3", "#dfbce4")
 WRONG, ASIDE, INK, SOFT = "#c8102e", "#8a8a8a", "#222", "#555"
@@ -80,8 +80,8 @@ class Sheet:
         self.layers[layer].append(f"<{inside}>{tip(note)}</{name}>" if note else f"<{inside}/>")
 
     def text(self, x, y, words, kind="", anchor="start", rank=KEPT, others=()):
-        """Words. Those with a rank are dropped where they would touch others of a lower or the same one, there and at
-        other places."""
+        """Words. Words with a rank are dropped if they would touch others of a lower or the same rank, here and at
+        other positions."""
         self.words.append((rank, len(self.words), [(x, y), *others], str(words), kind, anchor))
 
     def place_words(self):
@@ -99,7 +99,7 @@ class Sheet:
                 yield f'<text x="{number(x)}" y="{number(y)}"{named}{turned}>{plain(words)}</text>'
 
     def take(self, left, top, right, bottom):
-        """Takes a place for words, where nothing stands there; tells whether nothing did."""
+        """Reserves a position for words if it is free; returns whether it was."""
         cells = [(column, row) for column in range(int(left // CELL), int(right // CELL) + 1)
                  for row in range(int(top // CELL), int(bottom // CELL) + 1)]
         for cell in cells:
@@ -111,7 +111,7 @@ class Sheet:
         return True
 
     def whole(self, width, height, title):
-        """The text of the picture. Its styles count in it alone, also where it stands in a page."""
+        """The text of the picture. Its styles apply only to it, also inside a page."""
         style = "\n".join(f"svg.{self.kind} {line}" for line in self.style.split("\n") if line)
         there = [(name, shapes) for name, shapes in self.layers.items() if shapes]
         drawn = [f'<g class="{name}">\n' + "\n".join(shapes) + "\n</g>" for name, shapes in there]

@@ -1,4 +1,4 @@
-"""What is likely wrong where a text is none of the grammar, with what would mend it."""
+"""The likely cause of a syntax error, with a fix."""
 
 from .cursor import END, NAME, STRING, WHOLE, Cursor, Fault
 from .grammar import Grammar
@@ -19,7 +19,7 @@ ORDERS = {
 
 
 class Place:
-    """Where a text is refused: its tokens, the number of the one that cannot stand there, and which ones could."""
+    """The position of a syntax error: the tokens, the number of the unexpected one, and the expected ones."""
 
     def __init__(self, tokens, number, wanted):
         self.tokens, self.number, self.wanted = tokens, number, wanted
@@ -28,21 +28,21 @@ class Place:
         self.last, self.next = self.low(number - 1), self.low(number + 1)
 
     def low(self, number):
-        """A token's text in lower case; empty where there is none."""
+        """A token's text in lower case; empty if there is none."""
         return word_of(self.tokens[number]).lower() if 0 <= number < len(self.tokens) else ""
 
     def wants(self, *whats):
-        """Whether all of these could stand here."""
+        """Whether all of these are expected here."""
         return all(what in self.wanted for what in whats)
 
     @property
     def touches(self):
-        """Whether nothing stands between the token before and this one."""
+        """Whether nothing is between the previous token and this one."""
         return bool(self.before) and self.before.offset + len(self.before.text) == self.here.offset
 
     @property
     def before_end(self):
-        """The place behind the token before."""
+        """The position after the previous token."""
         return self.before.offset + len(self.before.text)
 
 
@@ -57,7 +57,7 @@ def place_of_fault(text, offset):
 
 
 def may_stand(place):
-    """What may stand at a place, as a sentence has it."""
+    """The expected tokens at a position, as part of a sentence."""
     wanted, shown = set(place.wanted), []
     if len(wanted & BEGINS_VALUE) > 5:
         wanted -= BEGINS_VALUE
@@ -71,7 +71,7 @@ def may_stand(place):
 
 
 def cause(text, place):
-    """What is likely wrong: a sentence, and the place of the culprit where it is another one; or None."""
+    """The likely error: a sentence, and the position of the cause if it is another one; or None."""
     for look in LOOKS:
         found = look(place, text)
         if found:
@@ -98,7 +98,7 @@ def line_end(place, text):
 
 
 def pattern(place, _text):
-    """What is told by this token, the one before, and what could stand here."""
+    """The cause that this token, the previous one, and the expected tokens determine."""
     for fits, says in PATTERNS:
         if fits(place):
             return says(place) if callable(says) else says
@@ -106,7 +106,7 @@ def pattern(place, _text):
 
 
 def misspelt(place, _text):
-    """A word that is near to a keyword that could stand here, or the word before one that could have stood there."""
+    """A word that is near to an expected keyword here, or the previous word near to one expected there."""
     known = [what for what in place.wanted if what.isalpha()]
     near = nearest(place.word, known) if place.here.kind == "word" and place.next not in (":", ",", "=>") else None
     if near:
@@ -127,7 +127,7 @@ def nearest(word, known):
 
 
 def order(place, _text):
-    """A section that stands behind a later one, or in what has none such."""
+    """A section that follows a later one, or in a declaration without such a section."""
     if place.word not in SECTIONS or place.word in place.wanted:
         return None
     kind = "annex" if place.here.inside else opened(place)[1]
@@ -159,7 +159,7 @@ def opened(place):
 
 
 def keyword(place, _text):
-    """A keyword where a name has to stand."""
+    """A keyword instead of a name."""
     if place.here.kind != "word" or not place.wants(NAME):
         return None
     words = ANNEX if place.here.inside else DECLARATIONS
@@ -202,7 +202,7 @@ def semicolon(place, _text):
 
 
 def behind_package(place, _text):
-    """Something behind the end of the package."""
+    """Something after the end of the package."""
     if place.wanted == [END]:
         return "the package has ended before this: an `end` is too early, or there is one too many"
     return None
@@ -217,7 +217,7 @@ def word_left_out(place, _text):
 
 
 def comma(place, _text):
-    """Two names beside each other in a list of names."""
+    """Two names next to each other in a list of names."""
     return "a `,` is missing between two names" if place.wants(",", ":") and place.here.kind == "word" else None
 
 

@@ -1,4 +1,4 @@
-"""Likely causes that a few tokens tell: pairs of a test on the place of a fault, and what to say."""
+"""Likely causes that a few tokens determine: pairs of a test on the position of an error, and a sentence."""
 
 from .cursor import NAME, WHOLE
 from .words import LEFT_OUT
@@ -25,7 +25,7 @@ def pair(first, second):
 
 
 def expecting(what, *words):
-    """A test on what could stand here, and on what stands there."""
+    """A test on the expected tokens, and on the actual one."""
     return lambda place: place.wants(what) and place.word in words
 
 
@@ -35,22 +35,22 @@ def behind(*words):
 
 
 def alone(what):
-    """A test for a place at which one token alone could stand."""
+    """A test for a position at which only one token is expected."""
     return lambda place: place.wanted == [what]
 
 
 def in_expression(place):
-    """Whether an expression could go on here."""
+    """Whether an expression could continue here."""
     return place.wants("and", "or", "xor")
 
 
 def wants_operand(place):
-    """Whether an operand has to stand here, and no sign may."""
+    """Whether an operand is expected here, and a sign is not allowed."""
     return place.wants(NAME, WHOLE, "(", "true") and not place.wants("-")
 
 
 def else_if_before(place):
-    """Whether an `else if` stands before this in the same transition, and an `end if` is wanted."""
+    """Whether an `else if` precedes this in the same transition, and an `end if` is expected."""
     if not (place.wants("end") and place.here.inside) and not (place.last == "if" and place.wants(";")):
         return False
     at = place.number - 1

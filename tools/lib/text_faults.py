@@ -1,11 +1,11 @@
-"""What is wrong where a text is refused, and what would mend it."""
+"""The error of a rejected text, and a fix."""
 
 import re
 
 from .bundles import BYTE_ORDER_MARK
 from .syntax_causes import cause, may_stand, place_of_fault
 
-# What a byte that begins no token was likely meant for. Those of several bytes are looked at first.
+# The likely meaning of a byte that begins no token. Sequences of several bytes are checked first.
 BYTES = [
     (b"\xe2\x80\x9c", 'a string is in straight quotes: "'),
     (b"\xe2\x80\x9d", 'a string is in straight quotes: "'),
@@ -37,7 +37,7 @@ LETTER = "a name has ASCII letters, digits and `_`"
 
 
 class Told:
-    """What is to be said of a fault: sentences, and a second place that is likely the culprit."""
+    """The message for a fault: sentences, and a second position that is likely the cause."""
 
     def __init__(self, what, *more, culprit=None):
         self.what, self.more, self.culprit = what, [it for it in more if it], culprit
@@ -52,7 +52,7 @@ def tell(bundle, name, offset):
 
 
 def syntax(bundle, offset):
-    """A token that cannot stand there."""
+    """An unexpected token."""
     place = place_of_fault(bundle.design, offset)
     if place is None:
         return Told("unexpected token: no text of the language begins like this")
@@ -129,6 +129,6 @@ def too_deep(_bundle, _offset):
 
 
 def not_utf8(_bundle, _offset):
-    """A byte that is no UTF-8."""
+    """A byte that is not UTF-8."""
     return Told("this byte is not UTF-8",
                 "save the file as UTF-8; names have only ASCII letters; comments may have any")

@@ -10,10 +10,10 @@ from .names import choice
 # What a world goes by: the clock of each node, how long each step takes, by its path, round and step, and how long each
 # message takes, by its link and round. In nanoseconds.
 Times = namedtuple("Times", "clock execution delay")
-# A bound that is broken: its name, what it is of, and the round.
+# A violated bound: its name, its subject, and the round.
 Broken = namedtuple("Broken", "name what round")
 
-# The bounds that can be broken, with what they are of and what `world` answers then.
+# The bounds that can be violated, with their subjects and the output of `world` then.
 BREAKS = {
     "skew": ("node", "ClockApart"), "long": ("node", "PastDeadline"), "short": ("node", "TooSoon"),
     "early-start": ("node", "NotDue"), "late-start": ("node", "PastDeadline"), "early-send": ("node", "NotDue"),
@@ -103,7 +103,7 @@ class World:
                 self.add(at + took, "arrive", link, number)
 
     def finish(self, at, path, number, step):
-        """The step behind one that is finished, the next round, and the sending of this one."""
+        """The step after a finished one, the next round, and the sending of this one."""
         rate = self.rate[path]
         if step + 1 == self.sent[path]:
             self.add(max(self.release(path, number), at), "send", path, number)

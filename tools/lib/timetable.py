@@ -6,7 +6,7 @@ from .answers import PROCESSOR
 from .svg import DARK, LIGHT, WRONG, Sheet, wide
 from .times import in_ms
 
-# A processor: its name, what its steps take together, what they may take, whether they fit, and its slots.
+# A processor: its name, the sum of its steps' times, their limit, whether they fit, and its slots.
 Processor = namedtuple("Processor", "name sum most fits slots")
 # A stretch in which some processor is busy, from one time to another, and where it is drawn.
 Stretch = namedtuple("Stretch", "begin end x width")
@@ -65,7 +65,7 @@ class Timetable:
         self.sheet = Sheet("timetable", STYLE, ["idle", "lane", "slot", "room", "used", "over"])
 
     def x(self, at):
-        """Where a time stands."""
+        """The position of a time."""
         here = next(it for it in reversed(self.stretches) if it.begin <= at)
         return here.x + (at - here.begin) * here.width / max(here.end - here.begin, 1)
 
@@ -81,12 +81,12 @@ class Timetable:
         return self.sheet.whole(width, y + 30, title)
 
     def said(self, processor):
-        """What is said of a processor."""
+        """The text of a processor."""
         fits = "fits" if processor.fits else "over: it has no timetable"
         return f"{processor.name}: one step of each takes {in_ms(processor.sum)} of {in_ms(processor.most)}, {fits}"
 
     def draw_processor(self, processor, y):
-        """A processor: what it has room for, and a lane for each component; gives where it ends."""
+        """A processor: its load, and a lane for each component; returns the position of its end."""
         self.sheet.text(24, y + 14, self.said(processor), "" if processor.fits else "red")
         x, share = 24 + wide(self.said(processor)) * 1.05 + 16, processor.sum / max(processor.most, 1)
         self.sheet.box("room", (x, y + 5), (120, 10), f"{share:.1%} of its time")

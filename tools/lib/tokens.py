@@ -20,11 +20,11 @@ SHAPES = [
 
 
 class Tokens:
-    """The tokens of a text, in order. Comments are left out, and a bad byte is a token of its own."""
+    """The tokens of a text, in order. Comments are omitted, and a bad byte is a token of its own."""
 
     def __init__(self, text):
         self.text, self.at, self.found = text, 0, []
-        # Where the behaviour annex ends that is being read, and the end of what may be read now.
+        # The end of the current behaviour annex, and the end of the readable part.
         self.annex_end, self.limit = None, len(text)
 
     def read(self):

@@ -1,10 +1,10 @@
-"""What a design's text declares: the trees that the grammar gives. Offsets are those of bytes, from 0."""
+"""The declarations of a design's text: the trees of the grammar. Offsets are byte offsets, from 0."""
 
 from collections import namedtuple
 
 # A word with its place.
 Name = namedtuple("Name", "text offset")
-# A package: its name, its types and implementations in text order, and the name behind its `end`.
+# A package: its name, its types and implementations in text order, and the name after its `end`.
 Package = namedtuple("Package", "name types impls end")
 Type = namedtuple("Type", "category name offset ports props annexes end")
 Impl = namedtuple("Impl", "category name offset parts connections props annexes end")
@@ -14,7 +14,7 @@ Connection = namedtuple("Connection", "name source target props")
 # A property: its name, its value, whether it has `applies to`. A value has a kind and, by it, a text or parts.
 Property = namedtuple("Property", "name value applies")
 Value = namedtuple("Value", "kind text parts")
-# An annex, with its behaviour where it is one.
+# An annex, with its behaviour if it is one.
 Annex = namedtuple("Annex", "offset name behaviour")
 Behaviour = namedtuple("Behaviour", "variables states transitions")
 Variable = namedtuple("Variable", "name ref props")
@@ -39,7 +39,7 @@ Chain = namedtuple("Chain", "words offset")
 
 
 def acts_in(acts):
-    """All actions of a list, those inside of others included, each before what it has inside."""
+    """All actions of a list, nested ones included, each before its parts."""
     for act in acts:
         yield act
         if isinstance(act, If):
@@ -51,7 +51,7 @@ def acts_in(acts):
 
 
 def exprs_in(transition):
-    """All expressions of a transition: its guard, and what its actions have."""
+    """All expressions of a transition: its guard, and the expressions of its actions."""
     if isinstance(transition.guard, Expr):
         yield transition.guard
     for act in acts_in(transition.acts):

@@ -1,7 +1,7 @@
-"""Words that are no names: keywords of a behaviour annex, and what AADL has and this subset leaves out."""
+"""Words that are not names: keywords of a behaviour annex, and AADL keywords that this subset omits."""
 
 BEHAVIOUR = "behavior_specification"
-# Keywords inside of a behaviour annex, with those of properties.
+# Keywords inside of a behaviour annex, including the keywords of properties.
 ANNEX = frozenset(
     "abs and applies classifier complete constant dispatch else elsif end false fresh for if in initial mod not on or "
     "otherwise reference rem state states then to transitions true variables xor".split()

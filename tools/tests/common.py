@@ -27,17 +27,17 @@ class Wrong(Exception):
 
 
 class Skipped(Exception):
-    """Why a test is left out."""
+    """Why a test is omitted."""
 
 
 def expect(found, wanted, what):
-    """Stops where something is not what it should be."""
+    """Stops if a value is not the expected one."""
     if found != wanted:
         raise Wrong(f"{what}\n--- wanted\n{wanted}\n--- found\n{found}")
 
 
 def tool(name, *words, given=b"", folder=TOP):
-    """Runs a tool in this process, and gives its status and what it wrote."""
+    """Runs a tool in this process, and returns its status and its output."""
     kept = sys.argv, sys.stdin, sys.stdout, sys.stderr, os.getcwd()
     sys.argv, sys.stdin = [name, *words], io.TextIOWrapper(io.BytesIO(given))
     sys.stdout, sys.stderr = io.TextIOWrapper(io.BytesIO(), write_through=True), io.StringIO()
@@ -71,7 +71,7 @@ def page(name):
 
 
 def blocks(name):
-    """The blocks between fences of a page, each with the word behind its first fence."""
+    """The blocks between fences of a page, each with the word after its first fence."""
     return re.findall(r"(?ms)^```(\w*)\n(.*?)^```$", page(name))
 
 
@@ -83,13 +83,13 @@ def examples():
 
 
 def answers():
-    """The examples whose bundle and answer stand there: the bundle, the command, the answer and the status."""
+    """The examples whose bundle and output exist: the bundle, the command, the output and the status."""
     rows = [(row[0], row[3], row[4], row[5]) for row in examples()]
     return [row for row in rows if all(os.path.isfile(os.path.join(TOP, it)) for it in (row[0], row[2]))]
 
 
 def changed(lines, changes):
-    """A text with some of its lines changed, as the examples of docs/checks.md say it."""
+    """A text with some of its lines changed, as in the examples of docs/checks.md."""
     return "\n".join(changes.get(number + 1, line) for number, line in enumerate(lines))
 
 
@@ -104,7 +104,7 @@ def check_examples():
 
 
 def on_bundle(name, bundle, *words, given=b""):
-    """What a tool writes and says of a bundle in the file b.pals, with its status."""
+    """A tool's output and messages for a bundle in the file b.pals, with its status."""
     with tempfile.TemporaryDirectory() as folder:
         with open(os.path.join(folder, "b.pals"), "wb") as file:
             file.write(bundle)

@@ -27,7 +27,7 @@ MORE = "--more" in sys.argv
 
 @functools.lru_cache(None)
 def folder():
-    """A folder for all that the tests make."""
+    """A folder for the files of the tests."""
     path = tempfile.mkdtemp()
     atexit.register(shutil.rmtree, path, True)
     return path
@@ -58,7 +58,7 @@ def compilers():
 
 
 def compiled(compiler, flags, source, include, where):
-    """The object of a source, at a path. Whatever the compiler says is wrong."""
+    """The object of a source, at a path. Any message of the compiler is an error."""
     command = [compiler, *STRICT, *flags, "-I", NODES, "-I", os.path.join(NODES, "demo"), "-I",
                os.path.join(NODES, "udp"), "-I", include, "-c", "-o", where, source]
     ran = subprocess.run(command, stdout=subprocess.PIPE, stderr=subprocess.STDOUT, timeout=WITHIN, check=False)
@@ -96,7 +96,7 @@ class NodesInC:
         self.objects = [compiled(compiler, flags, whole, self.path, os.path.join(self.path, "whole.o"))]
 
     def program(self, main, *more):
-        """The program of a main and of what more it needs."""
+        """The program of a main and of its further sources."""
         objects = [object_of(self.compiler, tuple(self.flags), name) for name in (*OWN, *HOST, *more, main)]
         path = os.path.join(self.path, os.path.basename(main)[:-2])
         subprocess.run([self.compiler, *self.flags, "-o", path, *self.objects, *objects], check=True, timeout=WITHIN)

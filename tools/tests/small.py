@@ -27,7 +27,7 @@ def compiler_of(processor):
 
 
 def sizes(processor, listing):
-    """For each source of a design's nodes its flash and RAM in bytes, and its greatest stack of a function."""
+    """For each source of a design's nodes its flash and RAM in bytes, and its maximum stack of a function."""
     name, flags = compiler_of(processor)
     strict = [flag for flag in STRICT if not flag.startswith("-std")]
     found = {}

@@ -1,4 +1,4 @@
-"""Doublings, which tell where time or memory grows faster than a text."""
+"""Doublings, which detect time or memory that grows faster than a text."""
 
 import os
 import shutil
@@ -12,7 +12,7 @@ from tests.common import Skipped, expect, script, tool
 
 
 def test_doublings_tell_what_grows():
-    """Each product has a bundle of each size; a program whose memory grows with the square of a bundle is told."""
+    """Each product has a bundle of each size; a program whose memory grows with the square of a bundle is detected."""
     with tempfile.TemporaryDirectory() as folder:
         plain, square = os.path.join(folder, "plain"), os.path.join(folder, "square")
         script(plain, "exec cat")
@@ -53,7 +53,7 @@ def test_times_count_if_instructions_grow():
 
 
 def test_kinds_have_their_size():
-    """The kinds with the greatest ratios are bundles of 16 MiB with a design and a scenario."""
+    """The kinds with the largest ratios are bundles of 16 MiB with a design and a scenario."""
     for kind in ("objects in objects", "short actions of one step", "findings"):
         data = KINDS[kind]()
         expect((MOST_BYTES - 1024 < len(data) <= MOST_BYTES, divider_at(data) is not None), (True, True), kind)

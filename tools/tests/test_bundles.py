@@ -24,7 +24,7 @@ def meaning(design):
 
 
 def test_examples_join_to_their_bundles():
-    """Each bundle has a row, and the design and the scenario of the row join to what means the same."""
+    """Each bundle has a row, and the design and the scenario of the row join to a bundle with the same meaning."""
     named = {os.path.basename(row[0]) for row in examples()}
     expect({it for it in os.listdir(EXAMPLES) if it.endswith(".pals")} - named, set(), "bundles without a row")
     for bundle, design, scenario, *_ in examples():
@@ -38,7 +38,7 @@ def test_examples_join_to_their_bundles():
 
 
 def test_designs_open_in_editors():
-    """Each design has a `with` for just what it uses, no empty braces, and is named by a row."""
+    """Each design has a `with` for every set that it uses, no empty braces, and is named by a row."""
     designs = {os.path.basename(row[1]) for row in examples()}
     stands = {it for it in os.listdir(EXAMPLES) if it.endswith(".aadl")} - {"PALS_Profile.aadl"}
     expect(stands, designs, "designs and the rows of the table")

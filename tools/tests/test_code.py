@@ -53,7 +53,7 @@ def changed(source, text):
 
 
 def test_changed_listings_are_refused_or_told_apart():
-    """A listing has one spelling: what is read of a changed one is another design."""
+    """A listing has one spelling: a changed one is another design."""
     source = random.Random(5)
     texts = [page(f"{name}.listing") for name in LISTED]
     read = {text: read_listing(text) for text in texts}
@@ -71,7 +71,7 @@ def test_changed_listings_are_refused_or_told_apart():
 
 
 def test_code2c_refuses_what_the_verifier_refuses():
-    """Code that jumps back, goes on behind its end, or pops too much is refused with its place, and no file is made."""
+    """Code that jumps back, runs past its end, or pops too much is rejected with its place, and no file is made."""
     text = page("examples/two_counters.listing")
     cases = [("  1 Port 0 i", "  1 Jump 0", "place 1: BackJump"), ("  8 End 0 s", "  8 Push 1", "place 8: BadJump"),
              ("  3 Push 1", "  3 Not", "place 4: Underflow"), ("  5 Store 0 x", "  5 LoopNext 0 x 3 4", "BackJump")]
@@ -84,7 +84,7 @@ def test_code2c_refuses_what_the_verifier_refuses():
 
 
 def test_explain_passes_listings_on():
-    """A listing is an answer that is passed on whole; half of one is no answer."""
+    """A listing is an output that is passed on whole; half of one is not an output."""
     text = page("examples/two_counters.listing")
     bundle = page("examples/two_counters.pals").encode()
     expect(explained(bundle, text), (0, text), "a listing")
@@ -115,7 +115,7 @@ def traps(a, b):
 
 
 def test_each_operator_and_trap():
-    """Each instruction in C does what it does in `sync`, at the ends of 64 bits too, and traps where that traps."""
+    """Each instruction in C has the result of `sync`, at the ends of 64 bits too, and traps if `sync` traps."""
     text, source = page("nodes/tests/operators.aadl"), random.Random(3)
     nodes = design_nodes(text)
     pairs = [(a, b) for a in EDGES for b in EDGES]
@@ -155,7 +155,7 @@ def steps_read(source_rate, rate, adaptor, place, message):
 
 
 def test_adaptors_in_c():
-    """Each adaptor gives what the table of docs/language.md says, of values up to the ends of 64 bits."""
+    """Each adaptor gives the result in the table of docs/language.md, for values up to the ends of 64 bits."""
     source, asked, wanted = random.Random(11), [], []
     for _ in range(20000 if MORE else 3000):
         rate, length = source.choice((1, 2, 3, 4, 8)), source.choice((1, 2, 3, 4, 5, 7, 8))

@@ -64,7 +64,7 @@ class Demo:
 
 
 def said(demo, trace):
-    """What the audit says of a trace, the line's index left out, and the line that it names."""
+    """The audit's output for a trace, without the line's index, and the line that it names."""
     if isinstance(trace, str):
         return "the clock of p.m is ahead" if "the clock of p.m is ahead" in trace else trace, None
     verdict = audited(demo.text, demo.given, trace)[1].strip()
@@ -76,7 +76,7 @@ def said(demo, trace):
 
 
 def test_the_demonstration():
-    """Each run is audited as its fault wants it. A host may wake its nodes up too late: then the run is made again."""
+    """Each run is audited as its fault requires. A host may wake its nodes up too late: then the run is repeated."""
     demo = Demo()
     left = dict(FAULTS)
     for attempt in range(TRIES):
@@ -96,7 +96,7 @@ def test_the_demonstration():
 
 
 def check_more(demo, fault, where, trace):
-    """What else a fault shows: a second copy is left out, and a clock that is ahead is named."""
+    """Further effects of a fault: a second copy is omitted, and a clock that is ahead is named."""
     if not fault.startswith("ahead"):
         expect(trace.left_out, int(fault.startswith("twice")), f"second copies of {fault!r}")
         return

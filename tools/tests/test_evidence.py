@@ -134,7 +134,7 @@ def test_records_that_end_without_a_stop():
 
 
 def test_a_restarted_node():
-    """The lines of a node that was started again are left out, also after a stop."""
+    """The lines of a restarted node are omitted, also after a stop."""
     run = Run()
     texts = records_in(run.nodes, good_output(run))
     first = texts["p.t"][: texts["p.t"].index("start p.t 9")]

@@ -55,7 +55,7 @@ def test_explain_tells_likely_causes():
         expect((status, wanted in text), (3, True), f"{answer}\n{text}")
 
 
-# Scenarios with their refusals, and what stands at the place that is shown.
+# Scenarios with their rejections, and the text at the position that is shown.
 
 
 SCENARIOS = [
@@ -77,7 +77,7 @@ SCENARIOS = [
 
 
 def test_explain_shows_each_scenario_fault():
-    """Of each refused scenario the place is that of what is refused."""
+    """For each rejected scenario the position is the position of the rejected value."""
     design = page("examples/two_counters.aadl")
     for scenario, answer, wanted in SCENARIOS:
         bundle = f"{design}%%%\n{scenario}".encode()

@@ -15,7 +15,7 @@ from tests.test_scenarios import answered
 
 OSATE = [os.path.join(HERE, "tests", "osate", name) for name in ("Vehicle_Types.aadl", "Vehicle.aadl")]
 EDITORS = os.path.join(HERE, "editors")
-# What is told of the two packages: the file, the line, and words of it.
+# The messages on the two packages: the file, the line, and words of it.
 TOLD = [
     ("Vehicle_Types", 2, "the property set Vehicle_Properties is omitted"),
     ("Vehicle_Types", 40, "net is not a data port (bus access)"),
@@ -38,7 +38,7 @@ TOLD = [
 
 
 def imported(*texts, root=None):
-    """The design and the scenario of some texts, with what was told and the status."""
+    """The design and the scenario of some texts, with the messages and the status."""
     with tempfile.TemporaryDirectory() as folder:
         paths = []
         for number, text in enumerate(texts):
@@ -53,7 +53,7 @@ def imported(*texts, root=None):
 
 
 def test_packages_are_imported_at_once():
-    """Two packages with all that people write: the design that is left, and one list of all that is dropped."""
+    """Two packages with everything that people write: the resulting design, and one list of the dropped parts."""
     status, text, said, scenario = imported(*map(read, OSATE))
     expect(status, 1, said)
     for name, line, what in TOLD:
@@ -71,7 +71,7 @@ def test_packages_are_imported_at_once():
 
 
 def test_imported_designs_are_accepted():
-    """With the bound that is told to be missing the program accepts what was imported, and has a timetable for it."""
+    """With the bound that is reported as missing the program accepts the imported design, and prints a timetable."""
     _, text, _, scenario = imported(*map(read, OSATE))
     text = text.replace(b"  PALS_Profile::Skew", b"  PALS_Profile::Network => 1 ms .. 4 ms;\n  PALS_Profile::Skew")
     given = json.dumps(scenario).encode()
@@ -81,7 +81,7 @@ def test_imported_designs_are_accepted():
 
 
 def test_own_designs_stay_as_they_are():
-    """What is of the language already is imported whole: check says the same of it."""
+    """A design in the language is imported whole: check's output for it is the same."""
     for name in sorted(os.listdir(EXAMPLES)):
         if not name.endswith(".aadl") or name == "PALS_Profile.aadl":
             continue
@@ -97,7 +97,7 @@ def test_own_designs_stay_as_they_are():
 
 
 def test_checked_alike():
-    """The program reports the same of a design and of what is imported of it."""
+    """The program's report of a design and of its import is the same."""
     built()
     for row in examples():
         if not row[1].endswith(".aadl"):

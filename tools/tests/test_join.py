@@ -17,7 +17,7 @@ from tests.nodes import MORE, audited, pals
 
 
 WORLDS = 300 if MORE else 30
-# Two rounds of the two counters. The message of p.a is taken at the very reading of p.b's start, behind it.
+# Two rounds of the two counters. The message of p.a is consumed at the very reading of p.b's start, after it.
 A = """start p.a 0 9000000
 finish p.a 0
 row 0 p.a s x=1
@@ -120,7 +120,7 @@ def test_a_trace_comes_back_from_its_nodes():
 
 
 def test_which_stop_is_kept():
-    """Of two stops the first by its round is kept, with its cause; the others are left out."""
+    """Of two stops the first by its round is retained, with its cause; the others are omitted."""
     text = counters()[0]
     a = A.replace("arrive p.a.i 0 12000000 kept\n", "").partition("start p.a 1")[0] + "stop missed p.a.i 0 18000000\n"
     b = B + "stop missed p.b.i 1 27000000\n"
@@ -151,7 +151,7 @@ def test_arrivals_that_read_less_than_their_sends():
 
 
 def test_join_as_a_program():
-    """Second copies are counted; the bundle is one that the program takes; records that are none are refused."""
+    """Second copies are counted; the bundle is one that the program accepts; invalid records are rejected."""
     with tempfile.TemporaryDirectory() as folder:
         def record(path, text):
             with open(os.path.join(folder, path), "w", encoding="ascii") as file:
@@ -202,7 +202,7 @@ def test_bounds():
              ("arrive p.a.i 0 12000000 kept", "arrive p.a.i 0 18000000 kept", None)]
     for line, other, rule in cases:
         changed = [other if it == line else it for it in lines]
-        # What comes too soon behind the changed line is left out.
+        # The lines that follow the changed line too soon are omitted.
         stray = {"start": "arrive p.b.i", "send": "arrive p.a.i"}.get(other.split()[0], "none")
         rest = [it for it in changed if not it.startswith(stray)]
         wanted = (1, f"outside {rest.index(other)} {rule}") if rule else (0, "within")
@@ -214,7 +214,7 @@ def test_bounds():
 
 
 def test_a_sound_trace_out_of_bounds():
-    """A message that took four times what the network declares: the audit says sound, and tools/bounds says slow."""
+    """A message that took four times the network's declared time: the audit reports sound, and tools/bounds slow."""
     text = counters()[0]
     trace = joined(A.replace("arrive p.a.i 0 12000000", "arrive p.a.i 0 17500000"), B)
     expect(audited(text, {"rounds": 2}, trace), (0, "sound rounds 2 stop none\n"), "the audit")
@@ -224,7 +224,7 @@ def test_a_sound_trace_out_of_bounds():
 
 
 def test_a_record_that_is_no_sound_trace_in_any_order():
-    """An arrival behind no send has no order."""
+    """An arrival that follows no send has no order."""
     try:
         joined(A.replace("send p.a 0 10000000\n", ""), B)
     except Refused as why:

@@ -8,7 +8,7 @@ from lib.model import model_of
 from lib.program import program_at
 from tests.common import Skipped, examples, expect, on_bundle, page, tool
 
-# A train's supervision: the odometer makes four steps in a round of 20 ms, and sends the first three.
+# A train's supervision: the odometer runs four steps in a round of 20 ms, and sends the first three.
 TRAIN = """package Train public
 thread Odometer features
  speed: out data port Base_Types::Integer;
@@ -69,15 +69,15 @@ NOT_ACCEPTED = "lint: b.pals: the design is not accepted; ./pals check reports t
 
 
 def found(design, *words, scenario=GIVEN, refused=False):
-    """The findings of lint on a design, as lines and rules; and its status. Of one that is refused lint says so, where
-    the program stands."""
+    """The findings of lint on a design, as lines and rules; and its status. For a rejected design lint reports this, if
+    the program exists."""
     status, text, said = on_bundle("lint", (design + scenario).encode(), *words)
     expect(said in ("", NOT_ACCEPTED if refused else ""), True, f"what lint says: {said}")
     return status, re.findall(r"(?m)^b\.pals:(\d+):\d+: .* \((\S+)\)$", text), text
 
 
 def test_a_dead_link_is_told():
-    """The train's brake would never work: lint tells the link, the place, and three mends."""
+    """The train's brake would never work: lint reports the link, the position, and three fixes."""
     status, rules, text = found(TRAIN)
     expect((status, rules), (1, [("31", "unsent-steps"), ("34", "dead-link")]), text)
     for part in (
@@ -100,7 +100,7 @@ def test_the_bound_is_that_of_the_page():
         expect(model.steps_sent(4), sent, f"steps sent at {period} ms")
 
 
-# A change of the train's supervision, and what is found beside the dead link and the steps that are not sent.
+# A change of the train's supervision, and the findings in addition to the dead link and the unsent steps.
 CHANGES = [
     ("no source", " c2: port limit -> supervisor.limit;\n", "", ["no-source", "unread-port"]),
     ("shared", " supervisor: thread Supervisor.impl;\nconnections\n",
@@ -156,7 +156,7 @@ def test_each_rule_finds_its_own():
 
 
 def test_a_design_that_is_refused_is_no_clean_one():
-    """Where the program stands, lint ends with 1 for a design that it refuses, though nothing else is found."""
+    """If the program exists, lint ends with 1 for a design that it rejects, though nothing else is found."""
     try:
         program_at()
     except Refused as why:
@@ -182,7 +182,7 @@ def test_what_is_meant_is_quiet():
 
 
 def test_explain_lints_what_is_accepted():
-    """Behind the report of check stands what lint finds."""
+    """The findings of lint follow the report of check."""
     answer = b"accepted\nperiod 20000000\ncomponent cab.odometer rate 4\ncomponent cab.supervisor rate 1\n"
     status, text, _ = on_bundle("explain", (TRAIN + GIVEN).encode(), given=answer)
     expect((status, text.startswith(answer.decode()), "(dead-link)" in text), (0, True, True), text)
@@ -197,7 +197,7 @@ def test_the_page_has_each_rule():
 
 
 def test_the_model_is_that_of_the_report():
-    """Rates and links of the examples are those that their answers name."""
+    """Rates and links of the examples are the ones that their outputs name."""
     for name in ("turn_controller", "cruise_control", "pacemaker"):
         model = model_of(Bundle("", page(f"examples/{name}.aadl").encode()).design)
         expect(all(model.rate(thread) for thread in model.by_path.values()), True, f"rates of {name}")

@@ -24,7 +24,7 @@ def built_with(compiler, *flags, sources=(*SOURCES, "demo/random.c")):
 
 
 def ran(path, *words):
-    """What a program writes; it ends with 0 and says nothing."""
+    """A program's output; it ends with 0 and writes no message."""
     done = subprocess.run([path, *words], stdout=subprocess.PIPE, stderr=subprocess.PIPE, timeout=WITHIN, check=False)
     expect((done.returncode, done.stderr.decode()[:2000]), (0, ""), words[:2])
     return done.stdout.decode()
@@ -67,7 +67,7 @@ def test_messages_have_the_bytes_of_the_page():
 
 
 def test_the_example_of_the_page():
-    """The bytes that the page shows are those of the message that it states."""
+    """The bytes that the page shows are the bytes of the message that it states."""
     shown = next(text for kind, text in blocks("docs/messages.md") if kind == "")
     expect(bytes.fromhex(shown.replace("\n", " ")), message([5, None, -1]), "the bytes")
 

@@ -1,4 +1,4 @@
-"""A table of mistakes: what the program answers to each, and what explain says of it."""
+"""A table of mistakes: the program's output for each, and its explanation."""
 
 import os
 import re
@@ -7,7 +7,7 @@ import subprocess
 from lib.bundles import read
 from tests.common import TOP, WITHIN, built, expect, explained, page
 
-# How many mistakes there are at least, and the share of which the mend itself is named.
+# The minimum number of mistakes, and the share of explanations that name the fix itself.
 LEAST, SHARE = 100, 0.75
 
 
@@ -48,7 +48,7 @@ def mistakes():
 
 
 def test_mistakes_are_told():
-    """Of each mistake the user gets the first line that the table has, and the mend where it has one."""
+    """For each mistake the user gets the first line that the table has, and the fix if it has one."""
     table = mistakes()
     for it in table:
         text = explained(it.bundle(), it.answer)[1]
@@ -62,7 +62,7 @@ def test_mistakes_are_told():
 
 
 def test_the_program_answers_as_the_table_says():
-    """Where the program is built, its answers are those of the table."""
+    """If the program is built, its outputs are the table's."""
     program = built()
     for it in mistakes():
         words = [program, *it.command.split(), "Top.impl"]

@@ -13,7 +13,7 @@ DESIGNS = 1000 if MORE else 100
 
 
 def test_the_calls_of_a_node():
-    """Each call of a node does what it says, and refuses what it says, under the sanitizers."""
+    """Each call of a node has its specified effect, and rejects the specified calls, under the sanitizers."""
     for compiler in compilers():
         calls = program_of(page("examples/two_counters.listing"), "tests/calls.c", compiler, CHECKED)
         expect(calls.run_text(""), "", "the calls")
@@ -69,14 +69,14 @@ class Design:
             self.check_wild_world()
 
     def check_rows(self):
-        """The rows of the nodes are those of `sync`."""
+        """The rows of the nodes are the rows of `sync`."""
         given = self.scenario(5, 12, 30)
         status, wanted = pals(["sync", "Top.impl"], self.text, given)
         rows = "".join(f"{line}\n" for line in joined(self.nodes, self.meeting.run(given)).rows())
         expect((status, rows), (0, wanted), f"the rows of {given} of\n{self.text}")
 
     def check_run(self):
-        """With delays, within the bounds or out of them, the nodes do what those of `run --trace` do."""
+        """With delays, within the bounds or out of them, the nodes act as the nodes of `run --trace`."""
         given = self.scenario(2, 6)
         least, most = self.listing.network
         most += self.random.choice((0, 0, self.listing.period))
@@ -127,7 +127,7 @@ class Design:
 
 
 def test_designs_of_the_repository():
-    """Nodes of the designs whose listings stand here."""
+    """Nodes of the designs whose listings are here."""
     for number, name in enumerate(("examples/two_counters", "examples/turn_controller", "nodes/tests/cut")):
         Design(page(f"{name}.aadl"), page(f"{name}.listing"), number).check(8)
 

@@ -1,4 +1,4 @@
-"""What the pages show, and where definitions stand."""
+"""The contents of the pages, and the positions of definitions."""
 
 import glob
 import os
@@ -17,18 +17,18 @@ tools/bundle "$@" | {program} $command $flag Top.impl"""
 
 
 def says(name, words):
-    """Stops where a page does not say something, however its lines are broken."""
+    """Stops if a page does not contain a sentence, however its lines are broken."""
     expect(words in " ".join(page(name).split()), True, f"{name} says: {words}")
 
 
 def of_pals(pattern):
-    """The files of a pattern, but for those of the program that writes listings, which has definitions of its own."""
+    """The files of a pattern, except the files of the listing program, which has definitions of its own."""
     found = glob.glob(pattern, recursive=True)
     return [it for it in found if os.path.relpath(it, f"{TOP}/crates").split(os.sep)[0] not in LISTINGS]
 
 
 def test_pages_show_what_the_tools_write():
-    """Each console block of the pages is what its commands write."""
+    """Each console block of the pages is the output of its commands."""
     count = 0
     for name in ("docs/tools.md", "docs/misleading.md"):
         for block in (text for kind, text in blocks(name) if kind == "console"):

@@ -1,4 +1,4 @@
-"""The command ./pals, with programs and a command rt that only say what they are."""
+"""The command ./pals, with programs and a command rt that only print their names."""
 
 import gzip
 import hashlib
@@ -17,7 +17,7 @@ from tests.common import TOP, WITHIN, examples, expect, page, script, tool
 
 
 def small_tree(folder):
-    """A repository with ./pals, a program that stands, and a command rt, which both say what they are."""
+    """A repository with ./pals, an existing program, and a command rt, which both print their names."""
     for name in ("pals", "crates.txt"):
         shutil.copy(os.path.join(TOP, name), folder)
     os.makedirs(os.path.join(folder, "docs"))
@@ -107,7 +107,7 @@ def test_pals_helps():
 
 
 def test_pals_tells_the_likely_word():
-    """A word that is no command is named with the likely one, and handed on to the program where one is built."""
+    """An unknown command is named with the likely one, and passed on to the program if one is built."""
     with tempfile.TemporaryDirectory() as folder:
         small_tree(folder)
         for word, near in (("chekc", "check"), ("sinc", "sync"), ("Watch", "watch"), ("budgets", "budget"),
@@ -156,7 +156,7 @@ def test_pals_finds_old_programs_in_any_folder():
 
 
 def carry(folder, text='echo "carried $*"; cat; exit 4', machine=None):
-    """Puts two programs into prebuilt/ of a small tree, made of the sources that stand there."""
+    """Puts two programs into prebuilt/ of a small tree, made from its sources."""
     lines = [f"machine {machine or f'{platform.system()}-{platform.machine()}'}"]
     os.makedirs(f"{folder}/prebuilt", exist_ok=True)
     for name, words, sums in (("pals", [], ""), ("pals_code", ["code"], "code_")):
@@ -170,7 +170,7 @@ def carry(folder, text='echo "carried $*"; cat; exit 4', machine=None):
 
 
 def test_pals_answers_with_what_is_carried():
-    """Where nothing is built the program of prebuilt/ answers, told of once, as long as the sources are its own."""
+    """If nothing is built the program of prebuilt/ runs, with one notice, as long as the sources are its own."""
     with tempfile.TemporaryDirectory() as folder:
         small_tree(folder)
         os.remove(f"{folder}/crates/pals_cli/out/pals_cli")
@@ -190,7 +190,7 @@ def test_pals_answers_with_what_is_carried():
 
 
 def test_code_is_a_program_of_its_own():
-    """Of `code` the program is pals_code, built or carried; where it is neither, one line says so."""
+    """For `code` the program is pals_code, built or carried; if it is neither, one line reports this."""
     with tempfile.TemporaryDirectory() as folder:
         small_tree(folder)
         missing = "pals: code: crates/pals_code/out/pals_code writes listings, and no program is built: ./pals build " \
@@ -214,7 +214,7 @@ def test_code_is_a_program_of_its_own():
 
 
 def test_each_source_counts():
-    """The sum of the sources is another one with any change in a crate that the program stands on, and no other."""
+    """The sum of the sources changes with any change in a crate that the program depends on, and with no other."""
     with tempfile.TemporaryDirectory() as folder:
         small_tree(folder)
         first = pals(folder, "--sources")[1]
@@ -236,7 +236,7 @@ def test_each_source_counts():
 
 
 def test_pals_takes_no_other_program():
-    """A carried program of another machine, with other bytes than its sum, or broken, is left alone."""
+    """A carried program of another machine, with other bytes than its sum, or broken, is ignored."""
     with tempfile.TemporaryDirectory() as folder:
         small_tree(folder)
         os.remove(f"{folder}/crates/pals_cli/out/pals_cli")
@@ -267,8 +267,8 @@ def test_pals_tells_how_long_it_compiles():
 
 
 def in_terminal(words, folder, given=None):
-    """Runs words with a terminal for standard error, and for standard input where none is given: the status, what was
-    written to standard output, and what the terminal showed."""
+    """Runs arguments with a terminal for standard error, and for standard input if none is given: the status, the
+    standard output, and the output on the terminal."""
     ours, theirs = pty.openpty()
     if given is None:
         os.write(ours, b"\x04")
@@ -341,7 +341,7 @@ def test_pals_explains_on_a_terminal():
 
 
 def test_pals_says_what_it_waits_for():
-    """Without a bundle on a terminal ./pals says what it waits for."""
+    """Without a bundle on a terminal ./pals reports the input that it waits for."""
     with tempfile.TemporaryDirectory() as folder:
         small_tree(folder)
         status, text, shown = in_terminal([f"{folder}/pals", "check", "Top.impl"], folder)

@@ -25,7 +25,7 @@ PICTURES = [
 
 
 def test_tools_draw_the_pictures():
-    """The pictures of the docs are those of the examples; --write-pictures makes them anew."""
+    """The pictures of the docs are made from the examples; --write-pictures makes them anew."""
     for picture, words, name in PICTURES:
         status, drawn, said = tool(*words, given=read(os.path.join(EXAMPLES, name)) if name else b"")
         expect((status, said), (0, ""), f"{words} of {name}")
@@ -74,7 +74,7 @@ stop early p.b.i 0 9500000
 
 
 def test_timeline_draws_each_kind():
-    """Journals with readings and without, with a bundle and without; and refuses what is of no run."""
+    """Journals with readings and without, with a bundle and without; text that belongs to no run is rejected."""
     for words, given, parts in (
         ([], JOURNAL, ["reading", "early", "stop: the message of round 0 arrived at p.b.i"]),
         ([], read(os.path.join(EXAMPLES, "lost_message.journal")), ["event", "ignored", "lost", "+1 copy"]),

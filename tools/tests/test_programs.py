@@ -46,7 +46,7 @@ BUNDLES = [
 
 
 def test_no_tool_stumbles():
-    """Answers and bundles that are none end with a status and words, and with no trace of Python."""
+    """Invalid outputs and bundles end with a status and a message, and without a traceback of Python."""
     whole = read(os.path.join(EXAMPLES, "turn_world_late.pals"))
     for bundle in (whole, whole[:2000], *BUNDLES):
         expect(on_bundle("lint", bundle)[0] in (0, 1), True, f"lint of {bundle[:40]}")
@@ -71,7 +71,7 @@ def test_nothing_unchecked_passes():
 
 
 def ran(name, *words, **how):
-    """Runs a tool as a program of its own: its status, and what it wrote and said."""
+    """Runs a tool as a program of its own: its status, its output and its messages."""
     how = {"input": b"", "stdout": subprocess.PIPE, "stderr": subprocess.PIPE, "timeout": WITHIN, "cwd": TOP, **how}
     done = subprocess.run([sys.executable, f"{TOP}/tools/{name}", *words], check=False, **how)
     return done.returncode, done.stdout or b"", done.stderr or b""
@@ -83,7 +83,7 @@ def there():
 
 
 def test_each_tool_helps():
-    """--help writes the usage and what the tool does; a word that is no option ends with 2 and the usage."""
+    """--help writes the usage and the tool's purpose; an unknown option ends with 2 and the usage."""
     for name in there():
         status, text, said = ran(name, "--help")
         expect((status, said), (0, b""), f"{name} --help")
@@ -94,7 +94,7 @@ def test_each_tool_helps():
 
 
 def test_outputs_that_take_nothing():
-    """A full disk, a closed output, an output of ASCII alone and a reader that leaves end without a trace of Python."""
+    """A full disk, a closed output, an ASCII output and a reader that leaves end without a traceback of Python."""
     rows = read(os.path.join(EXAMPLES, "turn_controller.rounds"))
     if not os.path.exists("/dev/full"):
         raise Skipped("no /dev/full is here")
@@ -135,7 +135,7 @@ def test_a_bundle_cannot_command_a_terminal():
 
 
 def test_words_that_are_none():
-    """Rounds that are not there, lengths that are none, and folders in place of programs are refused."""
+    """Missing rounds, invalid lengths, and folders in place of programs are rejected."""
     world = read(os.path.join(EXAMPLES, "turn_world.world"))
     for word, wanted in (("9..2", 2), ("1..²", 2), (f"1..{LONG}", 2), ("7..9", 1), ("1", 2), ("0..1", 0)):
         status, text, said = tool("timeline", "--rounds", word, "examples/turn_world.pals", given=world)

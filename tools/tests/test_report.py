@@ -26,7 +26,7 @@ arrive {next}.i {before} {at} kept
 
 
 class Tags(html.parser.HTMLParser):
-    """The tags of a page, and whether each is closed where it has to be."""
+    """The tags of a page, and whether each is closed if it has to be."""
 
     def __init__(self, text):
         super().__init__()
@@ -47,7 +47,7 @@ class Tags(html.parser.HTMLParser):
 
 
 def expect_page(text, what):
-    """A page is well-formed, runs its own script alone, and needs nothing beside itself."""
+    """A page is well-formed, runs only its own script, and needs no other file."""
     tags = Tags(text)
     expect((tags.open, tags.wrong), ([], []), f"the tags of {what}")
     scripts = re.findall(r"<script[^>]*>(.*?)</script>", text, re.DOTALL)
@@ -78,7 +78,7 @@ def test_report_has_it_all():
 
 
 def test_reports_of_the_examples():
-    """The program is asked all that each example has something for, and of designs that are refused what is wrong."""
+    """The program runs every command that each example has input for, and for rejected designs reports the error."""
     program = ["--program", built()]
     for name in sorted(os.listdir(EXAMPLES)):
         if name.endswith(".pals"):
@@ -122,7 +122,7 @@ def journal(nodes, rounds):
 
 
 def test_pictures_of_all_sizes():
-    """Runs of 3 to 200 rounds and 4 to 64 nodes: long ones are told of, no two labels touch, the longest is quick."""
+    """Runs of 3 to 200 rounds and 4 to 64 nodes: long ones are reported, no two labels touch, the longest is quick."""
     for nodes, rounds in ((4, 3), (4, 200), (64, 3), (64, 200)):
         given, begun = journal(nodes, rounds), time.process_time()
         status, text, said = tool("timeline", given=given)
@@ -161,7 +161,7 @@ def test_pictures_of_any_name():
 
 
 def test_plots_choose_by_name():
-    """A name, a component and a pattern choose; what is not there is told with what is."""
+    """A name, a component and a pattern select; a missing name is reported with the existing ones."""
     given = read(os.path.join(EXAMPLES, "pacemaker.rounds"))
     for names, wanted in ((["controller.pacer.deaf"], 1), (["controller.pacer"], 3), (["pace"], 1),
                           (["*.deaf", "out *"], 2), (["pa*"], 1), ([], 6)):
@@ -192,7 +192,7 @@ def test_graphs_of_the_examples():
 
 
 def test_timetables():
-    """A timetable has each step, tells idle times, and what is over."""
+    """A timetable has each step, shows idle times, and overload."""
     text = tool("timetable", given=read(os.path.join(TOP, "examples", "turn_budget.budget")))[1]
     for part in (b"p.t, step 3: 15 ms to 15.016 ms", b"4.943 ms idle", b"fits"):
         expect(part in text, True, f"{part} in the timetable")

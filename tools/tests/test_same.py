@@ -8,7 +8,7 @@ import tempfile
 from tests.common import Skipped, expect, page, tool
 from tests.nodes import MORE, c_of
 
-# Changes of the C of the turn controller's surface, the first that matches is made: each makes another step.
+# Changes of the C of the turn controller's surface, the first match is changed: each gives another step.
 CHANGES = [
     (r"s0 > s1", "s0 >= s1"), (r"s0 < s1", "s1 < s0"), (r"pals_add\(s0, s1", "pals_sub(s0, s1"),
     (r"pals_sub\(s0, s1", "pals_sub(s1, s0"), (r"INT64_C\(1\);", "INT64_C(2);"), (r"goto L12;", "goto L23;"),

@@ -51,7 +51,7 @@ class Files:
         self.kept.cleanup()
 
     def path(self, name):
-        """Where a file is; a name has _ for its dot."""
+        """The path of a file; a name has _ for its dot."""
         return os.path.join(self.kept.name, name.replace("_", "."))
 
     def write(self, name, text):
@@ -99,7 +99,7 @@ def test_worlds_have_all_rounds():
 
 
 def test_clocks_drift_within_the_skew():
-    """A clock never goes back, is never off by the skew, turns at its ends, and reads a target first when it says."""
+    """A clock never goes back, is never off by the skew, reverses at its ends, and reads a target when predicted."""
     for offset, drift, skew in ((0, 0, 5), (3, 10**8, 5), (-4, -(10**9 - 1), 5), (0, 7, 1), (9, 10**9 - 1, 10)):
         clock = Clock(offset, drift, skew)
         expect(clock.offset(0), offset, "the offset at the beginning")
@@ -116,7 +116,7 @@ def test_clocks_drift_within_the_skew():
 
 
 def test_worlds_are_accepted():
-    """The program accepts the lists, and refuses those that break a bound by a nanosecond, where they do."""
+    """The program accepts the lists, and rejects lists that violate a bound by a nanosecond, at the violation."""
     design = read(TURN)
     expect(answered(["check", "Top.impl"], design, b"{}")[0], 0, "the design")
     for words in ([], *(["--random", "--seed", str(seed)] for seed in range(10)),
@@ -130,7 +130,7 @@ def test_worlds_are_accepted():
 
 
 def test_inputs_of_tables():
-    """Tables with a column of rounds and without, with values that hold; and what is no value is named by its line."""
+    """Tables with a column of rounds and without, with values that hold; an invalid value is named by its line."""
     for table, words, wanted in (
         ("goal,on\n1,true\n,false\n3,\n", [], {"goal": [1, None, 3], "on": [True, False]}),
         ("round;goal\n0;10\n3;-5\n", ["--hold", "--rounds", "5"], {"goal": [10, 10, 10, -5, -5]}),
@@ -152,7 +152,7 @@ def test_inputs_of_tables():
 
 
 def campaign(program, *words, design=None):
-    """What a campaign of the pacemaker writes and says, with its status."""
+    """The output and messages of a campaign of the pacemaker, with its status."""
     scenario = json.dumps({"rounds": 12, "properties": {"calm": ["halted", "controller.pacer"]}})
     with Files(s_json=scenario, d_aadl=design or read(os.path.join(EXAMPLES, "pacemaker.aadl"))) as files:
         status, text, said = tool("campaign", "--program", program, *words, files.path("d_aadl"), files.path("s_json"))
@@ -160,7 +160,7 @@ def campaign(program, *words, design=None):
 
 
 def test_campaigns_repeat_and_shrink():
-    """A campaign finds what is false, makes it as small as it can be, and its seed repeats it with any processors."""
+    """A campaign finds a false property, shrinks its scenario, and its seed repeats it with any processors."""
     with Files(judge=JUDGE) as files:
         program = files.path("judge")
         os.chmod(program, stat.S_IRWXU)
@@ -193,7 +193,7 @@ def test_campaigns_compare_rows():
 
 
 def test_campaigns_compare_with_a_file():
-    """Rows of a file hold for the scenario as it stands, or for all that some inputs take; lines may be left out."""
+    """Rows of a file hold for the scenario itself, or for all values of some inputs; lines may be omitted."""
     rows = "".join(f"round {at}\np.a s x={at}\n" for at in range(12))
     with Files(one=ROWS.format(extra="(at == 2 and beats[1:3] == [True, True])"), all_rows=rows,
                no_lines="".join(f"round {at}\n" for at in range(12)), less_rows=rows.replace("x=4", "x=5"),

@@ -8,7 +8,7 @@ from tests.common import WITHIN, Skipped, expect, page
 from tests.nodes import HOST, NODES, OWN, c_of, design_nodes, folder, joined, pals, scenario_lines
 from tests.small import PROCESSORS, compiler_of, sizes
 
-# The greatest stack of a function of the nodes, in bytes.
+# The maximum stack of a function of the nodes, in bytes.
 MOST_STACK = 200
 
 

@@ -96,7 +96,7 @@ def test_explain_names_the_operator():
 
 
 def test_a_trap_of_other_rows_has_its_thread():
-    """Rows that are not those of the design, as with plants or replicas, still bring a finding, at the one division."""
+    """Rows that are not the design's, as with plants or replicas, still bring a finding, at the one division."""
     shown = ROWS.replace("p.law halted", "p.law#2 halted").replace("n=1", "n=7")
     text = explained(LAW.encode(), shown)[1]
     expect("b.pals:12:38: p.law#2 halts in round 0: a divisor is 0 (trap)" in text, True, text)
@@ -183,7 +183,7 @@ def test_adaptors_by_hand():
 
 
 def test_traps_of_random_designs():
-    """The components that the program's rows show as halted are those that are found, each with an operator."""
+    """The components that the program's rows show as halted are the ones that are found, each with an operator."""
     program, count = built(), 0
     for seed in range(60):
         chance = random.Random(f"traps/{seed}")
@@ -199,7 +199,7 @@ def test_traps_of_random_designs():
 
 
 def test_constant_conditions():
-    """Conditions that are always true or false, and those that are neither."""
+    """Conditions that are always true or false, and conditions that are neither."""
     for text, wanted in (
         ("x < 0 and x > 5", False), ("x < 5 or x > 3", True), ("x = x", True), ("x != x", False), ("1 + 1 = 2", True),
         ("x > 5", None), ("x < 5 or x > 5", None), ("x < 5 or x >= 5", True), ("p'fresh and not p'fresh", False),

@@ -16,7 +16,7 @@ M, L, R, T = range(4)
 # Links by their numbers in the listing.
 M_L, M_R, M_T, L_TARGET, R_TARGET, T_TARGET = range(6)
 NO_MESSAGE = "that message did not come within 2 periods"
-# For each fault: how a run has it; what the audit says; a text of the bounds; and a text of a node with its number.
+# For each fault: how a run has it; the audit's output; a text of the bounds; and a text of a node with its number.
 FAULTS = {
     "none": ({}, f"sound rounds {ROUNDS} stop none", "within", None),
     "twice": ({"faults": [f"twice:{M_R}:3"]}, f"sound rounds {ROUNDS} stop none", "within", None),
@@ -60,7 +60,7 @@ class Nodes:
         return Run(network, number, self.program, self.nodes.paths, self.given, **more)
 
     def judged(self, where):
-        """What the audit, the bounds and join say of the records in a folder."""
+        """The output of the audit, the bounds and join for the records in a folder."""
         records = os.path.join(where, "records")
         status, joined, said = tool("join", records, self.design, self.scenario)
         if status == 0:

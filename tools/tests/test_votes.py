@@ -52,7 +52,7 @@ def random_faults(source, design, replicated, rounds):
 
 
 def check(source, text, listing, program, given):
-    """The rows of the C nodes are those of `pals vote` for random lies."""
+    """The rows of the C nodes are the rows of `pals vote` for random faults."""
     design = read_listing(listing)
     replicated = {at for at in range(len(design.components)) if source.random() < 0.6}
     faults = random_faults(source, design, replicated, given["rounds"])

@@ -1,4 +1,4 @@
-"""The page on nodes in C: its commands, what it shows of files, and its loop."""
+"""The page on nodes in C: its commands, the files that it shows, and its loop."""
 
 import os
 import re
@@ -26,8 +26,8 @@ void run(void);
 
 
 def pals_here(where):
-    """A command ./pals that asks the built programs; where pals_code is not built it gives the listing that stands in
-    the repository."""
+    """A command ./pals that runs the built programs; if pals_code is not built it prints the listing in the
+    repository."""
     try:
         code = f'exec {built("pals_code")} Top.impl'
     except Skipped:
@@ -49,7 +49,7 @@ def commands_of(text):
 
 
 def test_the_walk_of_the_page():
-    """Each command of the page runs, and what it shows of listings, C and answers is what comes."""
+    """Each command of the page runs, and the listings, C and outputs that it shows are the results."""
     compilers()
     where = os.path.join(folder(), "walk")
     os.makedirs(where)

@@ -104,7 +104,7 @@ class Run:
         return ran
 
     def turn(self):
-        """Kills and starts what is due."""
+        """Kills and starts the nodes that are due."""
         now = time.clock_gettime_ns(time.CLOCK_MONOTONIC)
         for at in [at for at, due in self.kills.items() if due <= now]:
             self.nodes[at].kill()

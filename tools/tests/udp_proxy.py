@@ -1,4 +1,4 @@
-"""Stands between nodes over UDP and does to their messages what faults say: udp_proxy.py ADDRESS BASE NODES [FAULT ..]
+"""Forwards the messages of nodes over UDP and applies faults to them: udp_proxy.py ADDRESS BASE NODES [FAULT ..]
 
 NODES is a list ADDRESS:PORT,.. of the nodes by their numbers. The node X knows the node Y as the port BASE + 16 * X + Y
 of ADDRESS, and so messages keep their senders. A fault is `lose:LINK:ROUND`, `twice:LINK:ROUND`,
