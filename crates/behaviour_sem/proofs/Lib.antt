@@ -3,3 +3,4 @@ pub mod StateIndependence
 pub mod TransitionSearch
 pub mod StepEnds
 pub mod HeldInputs
+pub mod GroupedTransitions

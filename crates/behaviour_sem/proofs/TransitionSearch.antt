@@ -1,19 +1,21 @@
 -- Transitions that are tried one after another, and the one that is taken.
-use Rattle.std.proofs.Common.{◌≡◌, ℕ, suc, ℤ, ◌<◌, List, ◌∷◌, length, drop, drop-cons, get_or, refl, sym, ap, ◌∙◌}
-use Rattle.std.specs.Prelude.{Bool, true, false, Result, Ok, Err, Some, nat_eq, filter, if◌then◌else◌}
+use Rattle.std.proofs.Common.{◌≡◌, ℕ, suc, ◌+◌, ℤ, ◌<◌, List, length, drop, get_or, cond, refl, sym, ap, ◌∙◌}
+use Rattle.std.specs.Prelude.{Bool, true, false, Result, Ok, Err, Option, None, Some, slice_get, if◌then◌else◌}
 use Rattle.pals_base.specs.declared.basic_types.Trap.{Trap}
 use Rattle.pals_base.specs.declared.frames.Frame.{Frame}
 use Rattle.pals_base.specs.declared.basic_types.PortValue.{PortValue}
 use Rattle.pals_base.specs.ExpressionValues.{on_value}
 use Rattle.pals_base.specs.Actions.{Effect, acts}
-use Rattle.pals_base.specs.SingleStep.{Fired, along, opens, first_open, is_complete, leaving, settled}
+use Rattle.pals_base.specs.SingleStep.{Fired, along, first_open, is_complete, leaving, settled}
 use Rattle.pals_base.specs.ExpressionAndActionTrees.{Edge}
 use Rattle.behaviour_sem.specs.declared.early_end.EarlyEnd.{EarlyEnd}
 use Rattle.behaviour_sem.specs.declared.early_end.EarlyEnd.TheVariants as stop
 use Rattle.behaviour_sem.specs.proof.EvaluationFrames.{frame_of}
 use Rattle.behaviour_sem.specs.proof.PartialStepResults.{IsStepResult}
 use Rattle.behaviour_sem.specs.proof.ActionExecution.{effect}
-use Rattle.behaviour_sem.specs.proof.TransitionMoves.{goes, move}
+use Rattle.behaviour_sem.specs.proof.TransitionMoves.{move, opens_at, dispatches, dispatch_among}
+use Rattle.behaviour_sem.specs.proof.GroupedTransitions.{with_first, numbered}
+use Rattle.behaviour_sem.proofs.GroupedTransitions.{numbered-from}
 use Rattle.behaviour_sem.specs.declared.transitions.StepState.{StepState}
 use Rattle.pals_base.specs.declared.behaviour.BehaviourParts.{BehaviourParts}
 use Rattle.behaviour_sem.proofs.StateIndependence.{acts-seen, opens-seen}
@@ -43,51 +45,50 @@ along-stops (stop.Trapped trap) e at fresh reached reached' left =
     (acts-seen e.actions at.frame fresh at.outs ∙ left)
 along-stops stop.NoMemory e at fresh reached reached' left = tt
 
-by_leaving : (leaves : Bool) (e : Edge) (es : List Edge) (frame : Frame) (fresh : List Bool)
-    → first_open (if leaves then e ∷ es else es) frame fresh
-    ≡ on_value (if leaves then opens e.trigger frame fresh else Ok false)
-    (λ yes. if yes then Ok (Some e) else first_open es frame fresh)
-by_leaving true e es frame fresh = refl
-by_leaving false e es frame fresh = refl
-
-goes-seen : (state : ℕ) (frame : Frame) (fresh : List Bool) (e : Edge)
-    → goes state frame fresh e ≡ goes state (frame_of frame.vars frame.held) fresh e
-goes-seen state frame fresh e =
-    ap (λ r. if nat_eq e.source state then r else Ok false) (opens-seen e.trigger frame fresh)
-
--- the first open transition of a state, of one transition and those after it
-pub first_open-goes : (state : ℕ) (frame : Frame) (fresh : List Bool) (e : Edge) (es : List Edge)
-    → first_open (filter (λ (e : Edge). nat_eq e.source state) (e ∷ es)) frame fresh
-    ≡ on_value (goes state (frame_of frame.vars frame.held) fresh e)
-    (λ yes. if yes then Ok (Some e) else first_open (filter (λ (e : Edge). nat_eq e.source state) es) frame fresh)
-first_open-goes state frame fresh e es =
-    let rest = first_open (filter (λ (e : Edge). nat_eq e.source state) es) frame fresh in
-    by_leaving (nat_eq e.source state) e (filter (λ (e : Edge). nat_eq e.source state) es) frame fresh
-    ∙ ap (λ r. on_value r (λ yes. if yes then Ok (Some e) else rest)) (goes-seen state frame fresh e)
-
--- the answer for a transition, asked at a place that has not changed
-pub goes-same : (answer : Result Bool Trap) (here start : StepState) (vars held : List ℤ) (fresh : List Bool) (e : Edge)
-    → vars ≡ here.vars.items → here ≡ start → answer ≡ goes here.state (frame_of vars held) fresh e
-    → goes start.state (frame_of start.vars.items held) fresh e ≡ answer
-goes-same answer here start vars held fresh e same place asked =
-    sym (asked ∙ ap (λ vs. goes here.state (frame_of vs held) fresh e) same
-    ∙ ap (λ (p : StepState). goes p.state (frame_of p.vars.items held) fresh e) place)
+-- the first open transition, of one that there may be and those after it
+first_open-with : (o : Option Edge) (es : List Edge) (frame : Frame) (fresh : List Bool)
+    → first_open (with_first o es) frame fresh
+    ≡ on_value (opens_at o (frame_of frame.vars frame.held) fresh) (λ yes. if yes then Ok o else first_open es frame fresh)
+first_open-with None es frame fresh = refl
+first_open-with (Some e) es frame fresh =
+    ap (λ r. on_value r (λ yes. if yes then Ok (Some e) else first_open es frame fresh))
+    (opens-seen e.trigger frame fresh)
 
 -- the first open transition from a number on
-pub first_open-from : (state : ℕ) (frame : Frame) (fresh : List Bool) (es : List Edge) (i : ℕ) (e : Edge)
-    (answer : Result Bool Trap) → i < length es → e ≡ get_or es i e
-    → goes state (frame_of frame.vars frame.held) fresh e ≡ answer
-    → first_open (filter (λ (e : Edge). nat_eq e.source state) (drop i es)) frame fresh
+pub first_open-from : (frame : Frame) (fresh : List Bool) (all : List Edge) (ns : List ℕ) (i : ℕ)
+    (answer : Result Bool Trap) → i < length ns
+    → opens_at (slice_get all (get_or ns i 0)) (frame_of frame.vars frame.held) fresh ≡ answer
+    → first_open (numbered all (drop i ns)) frame fresh
     ≡ on_value answer (λ yes.
-    if yes then Ok (Some e) else first_open (filter (λ (e : Edge). nat_eq e.source state) (drop (suc i) es))
-    frame fresh)
-first_open-from state frame fresh es i e answer within item asked =
-    ap (λ es'. first_open (filter (λ (e : Edge). nat_eq e.source state) es') frame fresh)
-    (drop-cons es i e within ∙ ap (λ x. x ∷ drop (suc i) es) (sym item))
-    ∙ first_open-goes state frame fresh e (drop (suc i) es)
+    if yes then Ok (slice_get all (get_or ns i 0)) else first_open (numbered all (drop (i + 1) ns)) frame fresh)
+first_open-from frame fresh all ns i answer within asked =
+    ap (λ es. first_open es frame fresh) (numbered-from all ns i within)
+    ∙ first_open-with (slice_get all (get_or ns i 0)) (numbered all (drop (i + 1) ns)) frame fresh
     ∙ ap (λ r. on_value r (λ yes.
-    if yes then Ok (Some e) else first_open (filter (λ (e : Edge). nat_eq e.source state) (drop (suc i) es)) frame
-    fresh)) asked
+    if yes then Ok (slice_get all (get_or ns i 0)) else first_open (numbered all (drop (i + 1) ns)) frame fresh)) asked
+
+-- the answer for a transition, asked at a place that has not changed
+pub opens-same : (answer : Result Bool Trap) (here start : StepState) (vars held : List ℤ) (fresh : List Bool)
+    (o : Option Edge) → vars ≡ here.vars.items → here ≡ start → answer ≡ opens_at o (frame_of vars held) fresh
+    → opens_at o (frame_of start.vars.items held) fresh ≡ answer
+opens-same answer here start vars held fresh o same place asked =
+    sym (asked ∙ ap (λ vs. opens_at o (frame_of vs held) fresh) same
+    ∙ ap (λ (p : StepState). opens_at o (frame_of p.vars.items held) fresh) place)
+
+-- the first dispatch transition from a number on
+dispatch-with : (o : Option Edge) (es : List Edge) (b : Bool) → dispatches o ≡ b
+    → dispatch_among (with_first o es) ≡ cond b o (dispatch_among es)
+dispatch-with None es true h = cc
+dispatch-with None es false h = refl
+dispatch-with (Some e) es b h = ap (λ c. cond c (Some e) (dispatch_among es)) h
+
+pub dispatch-from : (all : List Edge) (ns : List ℕ) (i : ℕ) (b : Bool) → i < length ns
+    → b ≡ dispatches (slice_get all (get_or ns i 0))
+    → dispatch_among (numbered all (drop i ns))
+    ≡ cond b (slice_get all (get_or ns i 0)) (dispatch_among (numbered all (drop (i + 1) ns)))
+dispatch-from all ns i b within is =
+    ap dispatch_among (numbered-from all ns i within)
+    ∙ dispatch-with (slice_get all (get_or ns i 0)) (numbered all (drop (i + 1) ns)) b (sym is)
 
 on_value-on_value : {A B C : Type 0} (r : Result A Trap) (f : A → Result B Trap) (g : B → Result C Trap)
     → on_value r (λ a. on_value (f a) g) ≡ on_value (on_value r f) g
@@ -96,7 +97,7 @@ on_value-on_value (Err t) f g = refl
 
 -- from a state that is not complete, one transition and those after it
 pub settled-more : (n : ℕ) (b : BehaviourParts) (fresh : List Bool) (at : Fired) → is_complete b at.frame.state ≡ false
-    → settled (suc n) b fresh at ≡ on_value (move b.transitions fresh at) (λ next. settled n b fresh next)
+    → settled (suc n) b fresh at ≡ on_value (move (leaving b at.frame.state) fresh at) (λ next. settled n b fresh next)
 settled-more n b fresh at under_way =
     ap (λ done. if done then Ok at else on_value (first_open (leaving b at.frame.state) at.frame fresh)
     (λ e. on_value (along e fresh at) (λ next. settled n b fresh next))) under_way

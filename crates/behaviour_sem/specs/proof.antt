@@ -2,5 +2,6 @@
 pub mod EvaluationFrames
 pub mod PartialStepResults
 pub mod ActionExecution
+pub mod GroupedTransitions
 pub mod TransitionMoves
 pub mod PartialSteps

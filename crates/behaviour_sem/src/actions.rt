@@ -17,9 +17,9 @@ pub fn run_all(
     actions: &[Act],
     vars: &mut Vec<i64>,
     outs: &mut [PortValue],
-    inputs: StepInputs,
+    inputs: &StepInputs,
 ) -> Result<(), EarlyEnd>
-    ensures runs { Runs result (acts (actions_along actions.now)) inputs.entry (vars.old, outs.old)
+    ensures runs { Runs result (acts (actions_along actions.now)) inputs.now (vars.old, outs.old)
         (vars.new, outs.new) }
     ensures len { length vars.new.items ≡ length vars.old.items }
 {
@@ -35,9 +35,9 @@ fn run(
     action: &Act,
     vars: &mut Vec<i64>,
     outs: &mut [PortValue],
-    inputs: StepInputs,
+    inputs: &StepInputs,
 ) -> Result<(), EarlyEnd>
-    ensures runs { Runs result (act (action_of action.now)) inputs.entry (vars.old, outs.old) (vars.new, outs.new) }
+    ensures runs { Runs result (act (action_of action.now)) inputs.now (vars.old, outs.old) (vars.new, outs.new) }
     ensures len { length vars.new.items ≡ length vars.old.items }
 {
     match action {
@@ -71,9 +71,9 @@ fn run_first(
     branches: &[Branch],
     vars: &mut Vec<i64>,
     outs: &mut [PortValue],
-    inputs: StepInputs,
+    inputs: &StepInputs,
 ) -> Result<bool, EarlyEnd>
-    ensures runs { RunsFirst result (branches_along branches.now) inputs.entry (vars.old, outs.old)
+    ensures runs { RunsFirst result (branches_along branches.now) inputs.now (vars.old, outs.old)
         (vars.new, outs.new) }
     ensures len { length vars.new.items ≡ length vars.old.items }
 {
@@ -94,9 +94,9 @@ fn run_turns(
     body: &[Act],
     vars: &mut Vec<i64>,
     outs: &mut [PortValue],
-    inputs: StepInputs,
+    inputs: &StepInputs,
 ) -> Result<(), EarlyEnd>
-    ensures runs { Runs result (act (For low high (actions_along body.now))) inputs.entry (vars.old, outs.old)
+    ensures runs { Runs result (act (For low high (actions_along body.now))) inputs.now (vars.old, outs.old)
         (vars.new, outs.new) }
     ensures len { length vars.new.items ≡ length vars.old.items }
 {
@@ -114,9 +114,9 @@ fn run_turn(
     body: &[Act],
     vars: &mut Vec<i64>,
     outs: &mut [PortValue],
-    inputs: StepInputs,
+    inputs: &StepInputs,
 ) -> Result<(), EarlyEnd>
-    ensures runs { Runs result (turn number (actions_along body.now)) inputs.entry (vars.old, outs.old)
+    ensures runs { Runs result (turn number (actions_along body.now)) inputs.now (vars.old, outs.old)
         (vars.new, outs.new) }
     ensures len { length vars.new.items ≡ length vars.old.items }
 {

@@ -10,8 +10,8 @@ use pals_base::{Expr, Op, Operand, PortValue, Trap, abs, add, modulo, mul, neg, 
 
 /// The value of an expression over these variables and inputs, or the first trap that it meets.
 #[cycle(eval)]
-pub fn eval(expr: &Expr, vars: &[i64], inputs: StepInputs) -> Result<i64, Trap>
-    ensures { result ≡ eval (tree_of expr.now) (seen vars.now inputs.entry) (fresh inputs.entry) }
+pub fn eval(expr: &Expr, vars: &[i64], inputs: &StepInputs) -> Result<i64, Trap>
+    ensures { result ≡ eval (tree_of expr.now) (seen vars.now inputs.now) (fresh inputs.now) }
 {
     match expr {
         Expr::Literal(number) => Ok(*number),
@@ -33,8 +33,8 @@ pub fn eval(expr: &Expr, vars: &[i64], inputs: StepInputs) -> Result<i64, Trap>
 
 // The later operands of a chain, from the value of the operands to their left.
 #[cycle(eval)]
-fn eval_rest(rest: &[Operand], left: i64, vars: &[i64], inputs: StepInputs) -> Result<i64, Trap>
-    ensures { result ≡ eval_rest (operands_along rest.now) (seen vars.now inputs.entry) (fresh inputs.entry) left }
+fn eval_rest(rest: &[Operand], left: i64, vars: &[i64], inputs: &StepInputs) -> Result<i64, Trap>
+    ensures { result ≡ eval_rest (operands_along rest.now) (seen vars.now inputs.now) (fresh inputs.now) left }
 {
     let mut value = left;
     for operand in rest {

@@ -5,8 +5,11 @@
 mod actions;
 mod early_end;
 mod expressions;
+mod group_table;
 mod step;
 mod step_inputs;
+mod transition_groups;
 mod transitions;
 
 pub use step::{fire, fire_into};
+pub use transition_groups::TransitionGroups;

@@ -3,9 +3,11 @@ ghost use Rattle.std.specs.Prelude.{◌≡◌, IfOk, OnOk, None, length, map, re
 ghost use Rattle.pals_base.specs.SingleStep.{fire, held_of, holding, is_present};
 ghost use Rattle.behaviour_sem.specs.proof.PartialStepResults.{IsStepResult};
 ghost use Rattle.behaviour_sem.specs.proof.PartialSteps.{reacted};
+ghost use Rattle.behaviour_sem.specs.proof.GroupedTransitions.{sources_of};
 
 use crate::early_end::EarlyEnd;
 use crate::step_inputs::StepInputs;
+use crate::transition_groups::TransitionGroups;
 use crate::transitions::{StepState, react};
 use pals_base::{Behaviour, Frame, ItemList, NoMemory, PortValue, TryClone};
 use std::alloc::{AllocError, Global};
@@ -21,11 +23,13 @@ pub fn fire(
 ) -> Result<(Frame, ItemList<PortValue>), NoMemory>
     ensures { IfOk result (λ r. record { frame = r.0; outs = r.1 } ≡ fire behaviour.now frame.now inputs.now) }
 {
+    let groups = TransitionGroups::new(alloc, behaviour)?;
     let mut after = frame.try_clone(alloc)?;
     let mut outs = vec![in alloc; PortValue::Absent; behaviour.outs().len()]?;
     fire_into(
         alloc,
         behaviour,
+        &groups,
         frame,
         inputs,
         &mut after,
@@ -43,11 +47,13 @@ pub fn fire(
 pub fn fire_into(
     alloc: Global,
     behaviour: &Behaviour,
+    groups: &TransitionGroups,
     from: &Frame,
     inputs: &[PortValue],
     to: &mut Frame,
     outs: &mut [PortValue],
 ) -> Result<(), NoMemory>
+    requires groups { groups.now ≡ sources_of behaviour.now.transitions }
     requires vars { length to.old.vars ≡ length from.now.vars }
     requires held { length to.old.held ≡ length from.now.held }
     requires outs { length outs.old ≡ length behaviour.now.outs }
@@ -61,7 +67,7 @@ pub fn fire_into(
     if from.halt.is_some() {
         return Ok(());
     }
-    match react_in(alloc, behaviour, to, inputs, outs) {
+    match react_in(alloc, behaviour, groups, to, inputs, outs) {
         Ok(()) => Ok(()),
         Err(EarlyEnd::Trapped(trap)) => {
             silence(outs);
@@ -108,11 +114,13 @@ fn newest(before: i64, inputs: &[PortValue], at: usize) -> i64
 fn react_in(
     alloc: Global,
     behaviour: &Behaviour,
+    groups: &TransitionGroups,
     frame: &mut Frame,
     present: &[PortValue],
     outs: &mut [PortValue],
 ) -> Result<(), EarlyEnd>
-    requires { frame.old.halt ≡ None }
+    requires groups { groups.now ≡ sources_of behaviour.now.transitions }
+    requires halt { frame.old.halt ≡ None }
     ensures reacts { IsStepResult result (record { frame = frame.new; outs = outs.new })
         (reacted behaviour.now frame.old.state (map is_present present.now)
         (record { frame = frame.old; outs = outs.old })) }
@@ -127,7 +135,7 @@ fn react_in(
         held: frame.held.as_slice(),
         present,
     };
-    let ended = react(behaviour, &mut place, outs, reads);
+    let ended = react(behaviour, groups, &mut place, outs, &reads);
     let StepState { state, vars } = place;
     frame.state = state;
     frame.vars = ItemList::from_vec(vars);

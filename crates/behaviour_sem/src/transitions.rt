@@ -3,13 +3,15 @@ ghost use Rattle.std.specs.Prelude.{◌≡◌, length, slice_get, Some};
 ghost use Rattle.pals_base.specs.SingleStep.{completes, opens, along, settled};
 ghost use Rattle.pals_base.specs.proof.TreeViews.{trigger_of};
 ghost use Rattle.behaviour_sem.specs.proof.EvaluationFrames.{seen, fresh};
-ghost use Rattle.behaviour_sem.specs.proof.TransitionMoves.{goes, move, dispatch_from};
+ghost use Rattle.behaviour_sem.specs.proof.GroupedTransitions.{numbered, sources_of};
+ghost use Rattle.behaviour_sem.specs.proof.TransitionMoves.{move, opens_at, dispatches, dispatch_among};
 ghost use Rattle.behaviour_sem.specs.proof.PartialSteps.{Leads, reacted};
 
 use crate::actions::run_all;
 use crate::early_end::EarlyEnd;
 use crate::expressions::{eval, holds};
 use crate::step_inputs::StepInputs;
+use crate::transition_groups::TransitionGroups;
 use pals_base::{Behaviour, Guard, PortValue, StateDecl, Transition, Trap};
 
 /// The state of a running step: the state of the behaviour that it reached, and the variables.
@@ -20,8 +22,8 @@ pub struct StepState {
 }
 
 // Whether a guard lets a transition go, once the step is under way.
-fn opens(guard: &Guard, vars: &[i64], inputs: StepInputs) -> Result<bool, Trap>
-    ensures { result ≡ opens (trigger_of guard.now) (seen vars.now inputs.entry) (fresh inputs.entry) }
+fn opens(guard: &Guard, vars: &[i64], inputs: &StepInputs) -> Result<bool, Trap>
+    ensures { result ≡ opens (trigger_of guard.now) (seen vars.now inputs.now) (fresh inputs.now) }
 {
     match guard {
         Guard::Dispatch => Ok(false),
@@ -30,17 +32,6 @@ fn opens(guard: &Guard, vars: &[i64], inputs: StepInputs) -> Result<bool, Trap>
             let value = eval(condition, vars, inputs)?;
             Ok(holds(value))
         }
-    }
-}
-
-// Whether a transition leaves a state and its guard is true.
-fn goes(transition: &Transition, state: u32, vars: &[i64], inputs: StepInputs) -> Result<bool, Trap>
-    ensures { result ≡ goes state (seen vars.now inputs.entry) (fresh inputs.entry) transition.now }
-{
-    if transition.source == state {
-        opens(&transition.guard, vars, inputs)
-    } else {
-        Ok(false)
     }
 }
 
@@ -59,9 +50,9 @@ fn follow(
     transition: &Transition,
     place: &mut StepState,
     outs: &mut [PortValue],
-    inputs: StepInputs,
+    inputs: &StepInputs,
 ) -> Result<(), EarlyEnd>
-    ensures leads { Leads result (along (Some transition.now)) inputs.entry (place.old, outs.old)
+    ensures leads { Leads result (along (Some transition.now)) inputs.now (place.old, outs.old)
         (place.new, outs.new) }
     ensures len { length place.new.vars.items ≡ length place.old.vars.items }
 {
@@ -70,51 +61,101 @@ fn follow(
     Ok(())
 }
 
-// Goes along the dispatch transition of the state, if it has one.
-fn dispatch(
+// Returns whether the transition of a number is a dispatch transition.
+fn is_dispatch(transitions: &[Transition], number: usize) -> bool
+    ensures { result ≡ dispatches (slice_get transitions.now number) }
+{
+    match transitions.get(number) {
+        Some(transition) => matches!(transition.guard, Guard::Dispatch),
+        None => false,
+    }
+}
+
+// Returns whether the guard of the transition of a number is true.
+fn is_open(
     transitions: &[Transition],
+    number: usize,
+    vars: &[i64],
+    inputs: &StepInputs,
+) -> Result<bool, Trap>
+    ensures { result ≡ opens_at (slice_get transitions.now number) (seen vars.now inputs.now) (fresh inputs.now) }
+{
+    match transitions.get(number) {
+        Some(transition) => opens(&transition.guard, vars, inputs),
+        None => Ok(false),
+    }
+}
+
+// Follows the transition of a number, if there is one.
+fn follow_number(
+    transitions: &[Transition],
+    number: usize,
     place: &mut StepState,
     outs: &mut [PortValue],
-    inputs: StepInputs,
+    inputs: &StepInputs,
 ) -> Result<(), EarlyEnd>
-    ensures leads { Leads result (along (dispatch_from place.old.state transitions.now)) inputs.entry
+    ensures leads { Leads result (along (slice_get transitions.now number)) inputs.now (place.old, outs.old)
+        (place.new, outs.new) }
+    ensures len { length place.new.vars.items ≡ length place.old.vars.items }
+{
+    match transitions.get(number) {
+        Some(transition) => follow(transition, place, outs, inputs),
+        None => Ok(()),
+    }
+}
+
+// Follows the dispatch transition among those of these numbers, if there is one.
+fn dispatch(
+    transitions: &[Transition],
+    numbers: &[usize],
+    place: &mut StepState,
+    outs: &mut [PortValue],
+    inputs: &StepInputs,
+) -> Result<(), EarlyEnd>
+    ensures leads { Leads result (along (dispatch_among (numbered transitions.now numbers.now))) inputs.now
         (place.old, outs.old) (place.new, outs.new) }
     ensures len { length place.new.vars.items ≡ length place.old.vars.items }
 {
-    for transition in transitions {
-        if transition.source == place.state && matches!(transition.guard, Guard::Dispatch) {
-            return follow(transition, place, outs, inputs);
+    for at in 0..numbers.len() {
+        let number = numbers[at];
+        if is_dispatch(transitions, number) {
+            return follow_number(transitions, number, place, outs, inputs);
         }
     }
     Ok(())
 }
 
-// Goes along the first transition of the state whose guard is true, if there is one.
+// Follows the first transition of these numbers whose guard is true, if there is one.
 fn advance(
     transitions: &[Transition],
+    numbers: &[usize],
     place: &mut StepState,
     outs: &mut [PortValue],
-    inputs: StepInputs,
+    inputs: &StepInputs,
 ) -> Result<(), EarlyEnd>
-    ensures leads { Leads result (move transitions.now) inputs.entry (place.old, outs.old) (place.new, outs.new) }
+    ensures leads { Leads result (move (numbered transitions.now numbers.now)) inputs.now
+        (place.old, outs.old) (place.new, outs.new) }
     ensures len { length place.new.vars.items ≡ length place.old.vars.items }
 {
-    for transition in transitions {
-        if goes(transition, place.state, &place.vars, inputs)? {
-            return follow(transition, place, outs, inputs);
+    for at in 0..numbers.len() {
+        let number = numbers[at];
+        if is_open(transitions, number, &place.vars, inputs)? {
+            return follow_number(transitions, number, place, outs, inputs);
         }
     }
     Ok(())
 }
 
-// Goes on until a complete state, by at most as many transitions as there are states.
+// Follows transitions until a complete state, at most as many as there are states.
 fn settle(
     behaviour: &Behaviour,
+    groups: &TransitionGroups,
     place: &mut StepState,
     outs: &mut [PortValue],
-    inputs: StepInputs,
+    inputs: &StepInputs,
 ) -> Result<(), EarlyEnd>
-    ensures leads { Leads result (settled (length behaviour.now.states) behaviour.now) inputs.entry
+    requires { groups.now ≡ sources_of behaviour.now.transitions }
+    ensures leads { Leads result (settled (length behaviour.now.states) behaviour.now) inputs.now
         (place.old, outs.old) (place.new, outs.new) }
     ensures len { length place.new.vars.items ≡ length place.old.vars.items }
 {
@@ -122,23 +163,27 @@ fn settle(
         if is_complete(behaviour.states(), place.state) {
             return Ok(());
         }
-        advance(behaviour.transitions(), place, outs, inputs)?;
+        let numbers = groups.leaving(place.state);
+        advance(behaviour.transitions(), numbers, place, outs, inputs)?;
     }
     Ok(())
 }
 
-/// The whole step of a frame that is not halted: the dispatch transition of its state, and the
-/// transitions from there to a complete state. A stop leaves as many variables as there were.
+/// Makes the whole step of a frame that is not halted: the dispatch transition of its state, and the
+/// transitions from there to a complete state. An early end leaves as many variables as there were.
 pub fn react(
     behaviour: &Behaviour,
+    groups: &TransitionGroups,
     place: &mut StepState,
     outs: &mut [PortValue],
-    inputs: StepInputs,
+    inputs: &StepInputs,
 ) -> Result<(), EarlyEnd>
-    ensures leads { Leads result (reacted behaviour.now place.old.state) inputs.entry (place.old, outs.old)
+    requires { groups.now ≡ sources_of behaviour.now.transitions }
+    ensures leads { Leads result (reacted behaviour.now place.old.state) inputs.now (place.old, outs.old)
         (place.new, outs.new) }
     ensures len { length place.new.vars.items ≡ length place.old.vars.items }
 {
-    dispatch(behaviour.transitions(), place, outs, inputs)?;
-    settle(behaviour, place, outs, inputs)
+    let numbers = groups.leaving(place.state);
+    dispatch(behaviour.transitions(), numbers, place, outs, inputs)?;
+    settle(behaviour, groups, place, outs, inputs)
 }

@@ -2,6 +2,7 @@
 ghost use Rattle.std.specs.Prelude.{◌≡◌, ◌<◌, length, slice_set};
 ghost use Rattle.plant_fuse.specs.proof.TakenElements.{TakenFrom};
 
+use behaviour_sem::TransitionGroups;
 use pals_base::{Frame, ItemList};
 use pals_model::Part;
 use std::alloc::Global;
@@ -37,6 +38,7 @@ pub fn take_part(alloc: Global, parts: &mut ItemList<Part>, at: usize) -> Part
 fn no_stage(alloc: Global) -> Stage {
     Stage {
         alloc,
+        groups: TransitionGroups::none(),
         inputs: ItemList::new(alloc),
         outs: Vec::new(alloc),
         before: no_frame(alloc),

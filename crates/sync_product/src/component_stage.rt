@@ -1,5 +1,6 @@
 //! The steps that one component runs in a round.
 ghost use Rattle.std.specs.Prelude.{◌≡◌, ◌<◌, [], IfOk, OnOk, length, map, vec_len, slice_index_or, slice_set};
+ghost use Rattle.behaviour_sem.specs.proof.GroupedTransitions.{sources_of};
 ghost use Rattle.pals_base.specs.SingleStep.{fire};
 ghost use Rattle.pals_base.specs.StepSequences.{frame_after, outputs};
 ghost use Rattle.pals_base.specs.Tuples.{column};
@@ -10,18 +11,19 @@ ghost use Rattle.sync_product.specs.proof.ProductSizes.{stage_size_of};
 use crate::round_inputs::{RoundInputs, write_inputs};
 use crate::tuple_columns::write_port_tuple;
 use crate::wiring::WiredComponent;
-use behaviour_sem::fire_into;
+use behaviour_sem::{TransitionGroups, fire_into};
 use pals_base::tuples::absent;
 use pals_base::{Behaviour, Frame, ItemList, NoMemory, PortValue, Tuple};
 use pals_model::{Component, Part};
 use std::alloc::Global;
 use std::mem::swap;
 
-/// The room in which one component runs its steps: the allocator of its loops, the inputs and
-/// outputs of a step, the frame before it, the outputs of each step of the round, and how many of the
-/// steps are sent.
+/// The room in which one component makes its steps: the allocator of its loops, its transitions by
+/// state, the inputs and outputs of a step, the frame before it, the outputs of each step of the
+/// round, and the number of steps that are sent.
 pub struct Stage {
     pub alloc: Global,
+    pub groups: TransitionGroups,
     pub inputs: Tuple,
     pub outs: Vec<PortValue>,
     pub before: Frame,
@@ -33,6 +35,7 @@ impl Drop for Stage {
     fn drop(self) {
         let Stage {
             alloc: _,
+            groups: _,
             inputs: _,
             outs: _,
             before: _,
@@ -43,8 +46,14 @@ impl Drop for Stage {
 }
 
 impl Stage {
-    /// Room for a component that sends `sent` of its steps.
-    pub fn new(alloc: Global, component: &Component, sent: usize) -> Result<Stage, NoMemory>
+    /// Makes room for a component that sends `sent` of its steps.
+    pub fn new(
+        alloc: Global,
+        component: &Component,
+        groups: TransitionGroups,
+        sent: usize,
+    ) -> Result<Stage, NoMemory>
+        requires { groups ≡ sources_of component.now.behaviour.transitions }
         ensures { IfOk result (λ stage. stage_size stage ≡ stage_size_of sent component.now) }
     {
         let outs = component.behaviour.outs().len();
@@ -54,6 +63,7 @@ impl Stage {
         }
         Ok(Stage {
             alloc,
+            groups,
             inputs: absent(alloc, component.behaviour.ins().len())?,
             outs: vec![in alloc; PortValue::Absent; outs]?,
             before: Frame::initial(alloc, &component.behaviour)?,
@@ -122,6 +132,7 @@ impl Stage {
         step: usize,
         frame: &mut Frame,
     ) -> Result<(), NoMemory>
+        requires groups { self.old.groups ≡ sources_of behaviour.now.transitions }
         requires frame { frame_size self.old.before ≡ frame_size frame.old }
         requires outs { vec_len self.old.outs ≡ length behaviour.now.outs }
         requires step { step < length self.old.rows }
@@ -137,6 +148,7 @@ impl Stage {
         fire_into(
             self.alloc,
             behaviour,
+            &self.groups,
             &self.before,
             inputs,
             frame,

@@ -1,5 +1,6 @@
 //! What a product begins with: a stage for each component, absent messages, and the parts before the first round.
 ghost use Rattle.std.specs.Prelude.{◌≡◌, IfOk, map, replicate};
+ghost use Rattle.behaviour_sem.specs.proof.GroupedTransitions.{sources_of};
 ghost use Rattle.pals_base.specs.declared.basic_types.PortValue.TheVariants.{Absent};
 ghost use Rattle.pals_model.specs.PortKindsAndRates.{rate_of};
 ghost use Rattle.sync_product.specs.proof.ProductStates.{opening_parts};
@@ -7,12 +8,30 @@ ghost use Rattle.sync_product.specs.proof.ProductSizes.{stage_size, stage_sizes}
 ghost use Rattle.sync_product.specs.proof.ComponentWiring.{all_taps};
 
 use crate::component_stage::Stage;
+use behaviour_sem::TransitionGroups;
 use pals_base::tuples::absent;
-use pals_base::{Frame, ItemList, NoMemory, Tuple};
+use pals_base::{Behaviour, Frame, ItemList, NoMemory, TryClone, Tuple};
 use pals_model::{Design, Part};
 use std::alloc::Global;
 
-/// Room for the steps of each component.
+// Returns the transitions of a behaviour by state, shared with a stage that has the same.
+fn shared_groups(
+    alloc: Global,
+    stages: &[Stage],
+    behaviour: &Behaviour,
+) -> Result<TransitionGroups, NoMemory>
+    ensures { IfOk result (λ groups. groups ≡ sources_of behaviour.now.transitions) }
+{
+    for stage in stages {
+        if stage.groups.fits(behaviour) {
+            return stage.groups.try_clone(alloc);
+        }
+    }
+    TransitionGroups::new(alloc, behaviour)
+}
+
+/// Makes room for the steps of each component. Components whose transitions leave the same states
+/// share one table of them, so the memory does not grow with components times transitions.
 pub fn stages(alloc: Global, design: &Design) -> Result<Vec<Stage>, NoMemory>
     ensures { IfOk result (λ stages. map stage_size stages.items ≡ stage_sizes design.now) }
 {
@@ -21,7 +40,8 @@ pub fn stages(alloc: Global, design: &Design) -> Result<Vec<Stage>, NoMemory>
     let mut stages = Vec::new(alloc);
     for component in design.components() {
         let sent = gamma.sent_steps(period, component.rate);
-        stages.push(Stage::new(alloc, component, sent as usize)?)?;
+        let groups = shared_groups(alloc, stages.as_slice(), &component.behaviour)?;
+        stages.push(Stage::new(alloc, component, groups, sent as usize)?)?;
     }
     Ok(stages)
 }

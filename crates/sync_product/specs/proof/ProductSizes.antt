@@ -1,6 +1,7 @@
 -- The sizes of a product's frames, tuples and stages, which stay the same from round to round.
 use Rattle.std.specs.Prelude.{ℕ, List, length, map, replicate}
 use Rattle.std.specs.List.{enumerate_from}
+use Rattle.behaviour_sem.specs.proof.GroupedTransitions.{sources_of}
 use Rattle.pals_base.specs.declared.basic_types.PortValue.{PortValue}
 use Rattle.pals_base.specs.declared.frames.Frame.{Frame}
 use Rattle.pals_base.specs.PeriodBoundAndReleases.{sent_steps}
@@ -39,8 +40,10 @@ abbrev pub part_sizes : DesignParts → List PartSize
 part_sizes design =
     map (λ numbered. part_size_of numbered.1 (tap_ports design.taps numbered.0)) (enumerate_from 0 design.components)
 
--- ---- stages: their inputs and outputs, the frame before a step, the places of each row, and how many steps are sent
+-- ---- stages: the states that transitions leave, the inputs and outputs, the frame before a step, the places of each
+-- row, and the number of steps that are sent
 pub record StageSize : Type 0 where
+  pub sources : List ℕ
   pub inputs : ℕ
   pub outs : ℕ
   pub before : FrameSize
@@ -49,6 +52,7 @@ pub record StageSize : Type 0 where
 
 abbrev pub stage_size : Stage → StageSize
 stage_size stage = record {
+  sources = stage.groups;
   inputs = length stage.inputs;
   outs = length stage.outs.items;
   before = frame_size stage.before;
@@ -58,6 +62,7 @@ stage_size stage = record {
 
 abbrev pub stage_size_of : ℕ → Component → StageSize
 stage_size_of sent c = record {
+  sources = sources_of c.behaviour.transitions;
   inputs = length c.behaviour.ins;
   outs = length c.behaviour.outs;
   before = frame_size_of c;

@@ -16,8 +16,8 @@ use Rattle.behaviour_sem.proofs.actions.+run.Goals as goal
 
 pub run-returns-in_err-run_first-in-If-clause-runs : goal.run-returns-in_err-run_first-in-If-clause-runs
 run-returns-in_err-run_first-in-If-clause-runs t c =
-    let frame = frame_of c.args.vars.now.items c.args.inputs.held.now in
-    let fresh = map is_present c.args.inputs.present.now in
+    let frame = frame_of c.args.vars.now.items c.args.inputs.now.held.now in
+    let fresh = map is_present c.args.inputs.now.present.now in
     let outs = c.args.outs.now in
     let otherwise = acts (actions_along c.in-If.otherwise.items) frame fresh outs in
     let stop = c.in_err-run_first-in-If.field-0.0 in
@@ -37,8 +37,8 @@ run-returns-in_err-run_first-in-If-clause-runs t c =
 
 pub run-returns-then-branch-clause-runs : goal.run-returns-then-branch-clause-runs
 run-returns-then-branch-clause-runs t c =
-    let frame = frame_of c.args.vars.now.items c.args.inputs.held.now in
-    let fresh = map is_present c.args.inputs.present.now in
+    let frame = frame_of c.args.vars.now.items c.args.inputs.now.held.now in
+    let fresh = map is_present c.args.inputs.now.present.now in
     let outs = c.args.outs.now in
     let otherwise = acts (actions_along c.in-If.otherwise.items) frame fresh outs in
     let before = effect c.args.vars.now.items outs in
@@ -52,9 +52,9 @@ run-returns-then-branch-clause-runs t c =
 
 pub run-returns-else-branch-clause-runs : goal.run-returns-else-branch-clause-runs
 run-returns-else-branch-clause-runs t c =
-    let held = c.args.inputs.held.now in
+    let held = c.args.inputs.now.held.now in
     let frame = frame_of c.args.vars.now.items held in
-    let fresh = map is_present c.args.inputs.present.now in
+    let fresh = map is_present c.args.inputs.now.present.now in
     let outs = c.args.outs.now in
     let others = c.in-If.otherwise.items in
     let otherwise = acts (actions_along others) frame fresh outs in
@@ -78,8 +78,8 @@ run-returns-else-branch-clause-runs t c =
 pub run-returns-in-For-clause-runs : goal.run-returns-in-For-clause-runs
 run-returns-in-For-clause-runs t c =
     let vars = c.args.vars.now.items in
-    let held = c.args.inputs.held.now in
-    let fresh = map is_present c.args.inputs.present.now in
+    let held = c.args.inputs.now.held.now in
+    let fresh = map is_present c.args.inputs.now.present.now in
     let outs = c.args.outs.now in
     let low : SFits w64 c.in-For.low = search rules in
     let high : SFits w64 c.in-For.high = search rules in
@@ -93,8 +93,8 @@ run-returns-in-For-clause-runs t c =
 
 pub run_turns-loop-number-preserved : goal.run_turns-loop-number-preserved
 run_turns-loop-number-preserved t c =
-    let held = c.args.inputs.held.now in
-    let fresh = map is_present c.args.inputs.present.now in
+    let held = c.args.inputs.now.held.now in
+    let fresh = map is_present c.args.inputs.now.present.now in
     let acts' = actions_along c.args.body.now in
     let body = turn_after (length c.args.vars.now.items) acts' held fresh in
     let number = to_z w64 c.loop-number.number-bits in
@@ -118,8 +118,8 @@ run_turns-returns-clause-runs t c =
     let low = c.ranges.low in
     let high = c.ranges.high in
     let body =
-    turn_after (length c.args.vars.now.items) (actions_along c.args.body.now) c.args.inputs.held.now
-    (map is_present c.args.inputs.present.now) in
+    turn_after (length c.args.vars.now.items) (actions_along c.args.body.now) c.args.inputs.now.held.now
+    (map is_present c.args.inputs.now.present.now) in
     let number = to_z w64 c.loop-number.number-bits in
     let over : c.args.high <ℤ number = grind (arith, ints) in
     let all = simp to_z-of_z at c.loop-number.invariant.rest in
@@ -130,8 +130,8 @@ pub run_turns-returns-in_ok-run_turn-clause-runs : goal.run_turns-returns-in_ok-
 run_turns-returns-in_ok-run_turn-clause-runs t c =
     let low = c.ranges.low in
     let high = c.ranges.high in
-    let held = c.args.inputs.held.now in
-    let fresh = map is_present c.args.inputs.present.now in
+    let held = c.args.inputs.now.held.now in
+    let fresh = map is_present c.args.inputs.now.present.now in
     let acts' = actions_along c.args.body.now in
     let body = turn_after (length c.args.vars.now.items) acts' held fresh in
     let number = to_z w64 c.loop-number.number-bits in

@@ -11,8 +11,8 @@ use Rattle.behaviour_sem.proofs.expressions.+eval.Goals as goal
 
 pub eval-returns-in_ok-left-in-Chain : goal.eval-returns-in_ok-left-in-Chain
 eval-returns-in_ok-left-in-Chain t c =
-    let frame = frame_of c.args.vars.now c.args.inputs.held.now in
-    let fresh = map is_present c.args.inputs.present.now in
+    let frame = frame_of c.args.vars.now c.args.inputs.now.held.now in
+    let fresh = map is_present c.args.inputs.now.present.now in
     let left = c.in_ok-left-in-Chain.left in
     let fits : SFits w64 left = search rules in
     let first : eval (tree_of c.in-Chain.first.value) frame fresh ≡ Ok left =

@@ -13,32 +13,32 @@ use Rattle.behaviour_sem.proofs.transitions.follow.Goals as goal
 
 pub returns-in_err-run_all-clause-leads : goal.returns-in_err-run_all-clause-leads
 returns-in_err-run_all-clause-leads c =
-    let at = fired (c.args.place.now, c.args.outs.now) c.args.inputs in
+    let at = fired (c.args.place.now, c.args.outs.now) c.args.inputs.now in
     let edge = c.args.transition.now in
-    let meant = λ (e : Edge). acts e.actions (frame_of at.frame.vars at.frame.held) (fresh c.args.inputs) at.outs in
+    let meant = λ (e : Edge). acts e.actions (frame_of at.frame.vars at.frame.held) (fresh c.args.inputs.now) at.outs in
     let stop = c.in_err-run_all.field-0.0 in
     let after = effect c.run_all.new.vars.items c.run_all.new.outs in
     let answers : c.from_residual.result ≡ Err stop = search rules in
     let same =
-    ap (λ as'. acts (actions_along as') (frame_of at.frame.vars at.frame.held) (fresh c.args.inputs) at.outs)
+    ap (λ as'. acts (actions_along as') (frame_of at.frame.vars at.frame.held) (fresh c.args.inputs.now) at.outs)
     c.deref.ensures.value
     ∙ ap meant c.transition.view_is in
     let left = subst (λ m. IsStepResult (Err stop) after m) same c.in_err-run_all.ensures.runs in
     let reached =
-    fired (record { state = at.frame.state; vars = c.run_all.new.vars }, c.run_all.new.outs) c.args.inputs in
-    subst (λ r. IsStepResult r reached (along (Some edge) (fresh c.args.inputs) at)) (sym answers)
-    (along-stops stop edge at (fresh c.args.inputs) after reached left)
+    fired (record { state = at.frame.state; vars = c.run_all.new.vars }, c.run_all.new.outs) c.args.inputs.now in
+    subst (λ r. IsStepResult r reached (along (Some edge) (fresh c.args.inputs.now) at)) (sym answers)
+    (along-stops stop edge at (fresh c.args.inputs.now) after reached left)
 
 pub returns-clause-leads : goal.returns-clause-leads
 returns-clause-leads c =
-    let at = fired (c.args.place.now, c.args.outs.now) c.args.inputs in
+    let at = fired (c.args.place.now, c.args.outs.now) c.args.inputs.now in
     let edge = c.args.transition.now in
-    let meant = λ (e : Edge). acts e.actions (frame_of at.frame.vars at.frame.held) (fresh c.args.inputs) at.outs in
+    let meant = λ (e : Edge). acts e.actions (frame_of at.frame.vars at.frame.held) (fresh c.args.inputs.now) at.outs in
     let after = effect c.run_all.new.vars.items c.run_all.new.outs in
     let same =
-    ap (λ as'. acts (actions_along as') (frame_of at.frame.vars at.frame.held) (fresh c.args.inputs) at.outs)
+    ap (λ as'. acts (actions_along as') (frame_of at.frame.vars at.frame.held) (fresh c.args.inputs.now) at.outs)
     c.deref.ensures.value
     ∙ ap meant c.transition.view_is in
-    along-ran edge at (fresh c.args.inputs) after.vars after.outs (sym same ∙ c.in_ok-run_all.ensures.runs)
+    along-ran edge at (fresh c.args.inputs.now) after.vars after.outs (sym same ∙ c.in_ok-run_all.ensures.runs)
     ∙ ap (λ (e : Edge). Ok (fired (record { state = e.target; vars = c.run_all.new.vars }, c.run_all.new.outs)
-    c.args.inputs)) (sym c.transition.view_is)
+    c.args.inputs.now)) (sym c.transition.view_is)

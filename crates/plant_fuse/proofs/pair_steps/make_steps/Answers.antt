@@ -16,6 +16,10 @@ row_before-last-requires c =
     count_of_rows c.loop-step.controller_stage.rows component.rate (length component.behaviour.outs) sizes in
     omega (arith, count, c.requires.rates, c.as_slice.ensures.len)
 
+pub make_step-requires-clause-groups : goal.make_step-requires-clause-groups
+make_step-requires-clause-groups c =
+    ap (λ (s : StageSize). s.sources) (c.loop-step.invariant.plant_room ∙ c.requires.plant_room)
+
 pub make_step-requires-clause-step : goal.make_step-requires-clause-step
 make_step-requires-clause-step c =
     let component = c.args.fused.plant.wired.component.now in
@@ -39,6 +43,10 @@ index-requires c =
       count_of_rows c.make_step.new.self.rows component.rate (length component.behaviour.outs)
           (same ∙ sizes),
     )
+
+pub make_step-requires-in-loop-step-clause-groups : goal.make_step-requires-in-loop-step-clause-groups
+make_step-requires-in-loop-step-clause-groups c =
+    ap (λ (s : StageSize). s.sources) (c.loop-step.invariant.controller_room ∙ c.requires.controller_room)
 
 pub make_step-requires-in-loop-step-clause-step : goal.make_step-requires-in-loop-step-clause-step
 make_step-requires-in-loop-step-clause-step c =

@@ -11,6 +11,10 @@ use Rattle.sync_product.specs.proof.ProductSizes.{StageSize, stage_size}
 use Rattle.sync_product.proofs.TupleLengths.{count_of_rows, length_of_row}
 use Rattle.sync_product.proofs.component_stage.Stage.make_steps.Goals as goal
 
+pub make_step-requires-clause-groups : goal.make_step-requires-clause-groups
+make_step-requires-clause-groups c =
+    ap (λ (s : StageSize). s.sources) (c.loop-step.invariant.stage_size ∙ c.requires.stage)
+
 pub make_step-requires-clause-row : goal.make_step-requires-clause-row
 make_step-requires-clause-row c =
     let component = c.args.wired.component.now in
