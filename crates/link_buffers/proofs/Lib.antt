@@ -1,8 +1,12 @@
 pub mod FirstPassingItem
 pub mod ShiftedItems
 pub mod PartitionPoints
-pub mod RingCopies
 pub mod PartitionedLists
 pub mod DueOrder
 pub mod DueEntryPositions
 pub mod BufferLaws
+pub mod EmptyStruct
+pub mod CopiesByRound
+pub mod KeptItems
+pub mod OldestCopies
+pub mod LeastDue

@@ -2,5 +2,5 @@
 pub mod Flights
 pub mod BinarySearch
 pub mod DueQueues
-pub mod RingCopies
+pub mod CopiesByRound
 pub mod FirstAndLeastItems

@@ -3,10 +3,12 @@
 #![tactic(auto)]
 
 mod binary_search;
+mod copies_by_round;
+mod copy_nodes;
+mod copy_order;
 pub mod due_queue;
 pub mod flight;
 pub mod laws;
-mod oldest_and_due_copies;
 mod ring_insertion_and_removal;
 pub mod slot;
 

@@ -1,6 +1,6 @@
 //! An item is removed from a place of a ring, or inserted there. Only those between that place and the nearer end
 //! move, each by one place.
-ghost use Rattle.std.specs.Prelude.{◌≡◌, ◌-◌, ◌<◌, ◌≤◌, Some, length, insert, remove, slice_get, slice_index_or};
+ghost use Rattle.std.specs.Prelude.{◌≡◌, ◌-◌, ◌<◌, ◌≤◌, [], ◌∷◌, ◌++◌, Some, length, insert, remove, slice_get, slice_index_or};
 ghost use Rattle.std.specs.Prelude.{slice_set};
 ghost use Rattle.circular_buffer.specs.Buffer.{buffer};
 
@@ -107,6 +107,17 @@ fn put_by_back<T>(ring: &mut HeapCircularBuffer<T>, place: usize, item: T)
         exchange(ring, moved, &mut held);
     }
     match ring.try_push_back(held) {
+        Ok(()) => {}
+        Err(_refused) => unreachable!(),
+    }
+}
+
+/// Puts an item in after all others.
+pub fn put_last<T>(ring: &mut HeapCircularBuffer<T>, item: T)
+    requires { length ring.old.items < ring.old.capacity }
+    ensures { ring.new ≡ buffer (ring.old.items ++ item ∷ []) ring.old.capacity }
+{
+    match ring.try_push_back(item) {
         Ok(()) => {}
         Err(_refused) => unreachable!(),
     }

@@ -1,88 +1,70 @@
-use Rattle.std.proofs.Common.{◌≡◌, ◌+◌, ◌<◌, length, true, remove, Option, Some, None, IfNone, option_map, slice_get}
-use Rattle.std.proofs.Common.{is_some, sym, ap, ◌∙◌, subst, rules, arith}
-use Rattle.std.specs.List.{position}
+use Rattle.std.proofs.Common.{◌≡◌, ◌+◌, ◌<◌, [], length, take, Some, None, option_map, sym, ap, ◌∙◌, subst}
+use Rattle.std.proofs.Common.{arith}
 use Rattle.std.proofs.lemmas.Grind.{common_steps}
-use Rattle.std.proofs.lemmas.List.Edits.{length-remove}
 use Rattle.pals_model.specs.declared.flight_copy.FlightCopy.{FlightCopy}
-use Rattle.pals_model.specs.Flights.{is_of, oldest}
-use Rattle.link_buffers.specs.declared.oldest_and_due_copies.RingEntry.{RingEntry}
-use Rattle.link_buffers.specs.proof.RingCopies.{copies_of, AreTopped}
-use Rattle.link_buffers.proofs.FirstPassingItem.{find_some, find_none, without_some}
-use Rattle.link_buffers.proofs.RingCopies.{oldest_within, entry_there, tuple_at, copies_remove, topped_remove}
-use Rattle.link_buffers.proofs.flight.Flight.flight_take.Goals.{After-map}
+use Rattle.pals_model.specs.Flights.{without_oldest}
+use Rattle.link_buffers.specs.proof.CopiesByRound.{copies_of, AreByRound}
+use Rattle.link_buffers.proofs.OldestCopies.{oldest_none, oldest_some, round_is, length_left, by_round-taken}
+use Rattle.link_buffers.proofs.flight.Flight.flight_take.Goals.{After-give_back}
 use Rattle.link_buffers.proofs.flight.Flight.flight_take.Goals as goal
 
-pub returns-in_err-place-clause-taken : goal.returns-in_err-place-clause-taken
-returns-in_err-place-clause-taken c =
-    let copies = copies_of c.self.inside.ring.items in
-    let at : position (is_of c.args.round) copies ≡ None = grind (arith, common_steps) in
+pub returns-in_err-node-clause-taken : goal.returns-in_err-node-clause-taken
+returns-in_err-node-clause-taken c =
+    let f = c.self.inside in
+    let none : copies_of c.args.round f.rounds.items ≡ [] = grind (arith, common_steps) in
     let nothing : c.from_residual.result ≡ None = grind (arith, common_steps) in
     rw (← c.self.view_is) (nothing
-    ∙ ap (option_map (λ (copy : FlightCopy). copy.tuple)) (sym (find_none (is_of c.args.round) copies at)))
+    ∙ ap (option_map (λ (copy : FlightCopy). copy.tuple))
+    (sym (oldest_none f.rounds.items f.order.copies c.self.invariant.1 c.args.round none).0))
 
-pub take_at-requires : goal.take_at-requires
-take_at-requires c =
-    let xs = c.self.inside.ring.items in
-    let at : position (is_of c.args.round) (copies_of xs) ≡ Some c.in_ok-place.place = grind (arith, common_steps) in
-    oldest_within xs c.args.round c.in_ok-place.place at
+pub returns-in_err-node-clause-others : goal.returns-in_err-node-clause-others
+returns-in_err-node-clause-others c =
+    let f = c.self.inside in
+    let none : copies_of c.args.round f.rounds.items ≡ [] = grind (arith, common_steps) in
+    rw (← c.self.view_is) (sym (oldest_none f.rounds.items f.order.copies c.self.invariant.1 c.args.round none).1)
 
--- the place of the oldest copy, which is therefore taken
-place_is : (c : After-map)
-    → position (is_of c.args.round) (copies_of c.self.inside.ring.items) ≡ Some c.in_ok-place.place
-place_is c = grind (arith, common_steps)
+-- ---- where there is a copy of the round
+some : (c : After-give_back) → 0 < length (copies_of c.args.round c.self.inside.rounds.items)
+some c = grind (arith, common_steps)
 
-within : (c : After-map) → c.in_ok-place.place < length c.self.inside.ring.items
-within c = oldest_within c.self.inside.ring.items c.args.round c.in_ok-place.place (place_is c)
+first : (c : After-give_back) → c.in_ok-node.node ≡ take 1 (copies_of c.args.round c.self.inside.rounds.items)
+first c = grind (arith, common_steps)
 
-is_taken : (c : After-map) → is_some c.map.result ≡ true
-is_taken c =
-    c.map.ensures.variant ∙ (ap is_some c.take_at.ensures.item
-    ∙ entry_there c.self.inside.ring.items c.in_ok-place.place (within c))
+left_is : (c : After-give_back)
+    → c.without_oldest-self-inside.result.copies ≡ without_oldest c.args.round c.self.inside.order.copies
+left_is c =
+    let f = c.self.inside in
+    c.without_oldest-self-inside.ensures
+    ∙ ap (λ round. without_oldest round f.order.copies)
+    (round_is f.rounds.items f.order.copies c.self.invariant.1 c.args.round c.in_ok-node.node c.copy_in.result.now
+    (some c) (first c) c.copy_in.ensures)
 
-if_none : {X : Type 0} (o : Option X) (P : Type 0) → is_some o ≡ true → IfNone o P
-if_none None P some = absurd (cc)
-if_none (Some x) P some = tt
-
-pub invariant_of-self : goal.invariant_of-self
-invariant_of-self c =
-    let xs = c.self.inside.ring.items in
-    let n = c.in_ok-place.place in
-    let at : position (is_of c.args.round) (copies_of xs) ≡ Some n = grind (arith, common_steps) in
-    let inside : n < length xs = oldest_within xs c.args.round n at in
-    let items : c.take_at.new.ring.items ≡ remove xs n = ap (λ b. b.items) c.take_at.ensures.others in
-    let same : c.take_at.new.ring.capacity ≡ c.self.inside.ring.capacity =
-    ap (λ b. b.capacity) c.take_at.ensures.others in
-    let long : length (remove xs n) + 1 ≡ length xs = length-remove xs n inside in
-    let room = c.self.invariant.0 in
-    (rw (items, same) (omega arith), subst AreTopped (sym items) (topped_remove xs n inside c.self.invariant.1))
+pub invariant_of-self-2 : goal.invariant_of-self-2
+invariant_of-self-2 c =
+    let f = c.self.inside in
+    let round = c.args.round in
+    let left = left_is c in
+    let by_round = by_round-taken f.rounds.items c.split_oldest.new.rounds.items f.order.copies c.self.invariant.1 round
+    c.split_oldest.ensures.left c.split_oldest.ensures.others in
+    let less : length c.without_oldest-self-inside.result.copies + 1 ≡ length f.order.copies = rw left (length_left
+    f.rounds.items f.order.copies c.self.invariant.1 round c.in_ok-node.node c.copy_in.result.now (some c)
+    (first c) c.copy_in.ensures) in (
+      c.split_oldest.ensures.rising,
+      subst (AreByRound c.split_oldest.new.rounds.items) (sym left) by_round,
+      omega (arith, less, c.self.invariant.2, c.give_back.ensures.free, c.give_back.ensures.made),
+      omega (arith, c.self.invariant.3, c.give_back.ensures.made),
+      omega (arith, c.self.invariant.4, c.give_back.ensures.free),
+      omega (arith, c.self.invariant.5, c.split_oldest.ensures.length, c.split_oldest.ensures.capacity),
+    )
 
 pub returns-clause-taken : goal.returns-clause-taken
 returns-clause-taken c =
-    let xs = c.self.inside.ring.items in
-    let n = c.in_ok-place.place in
-    let some : oldest c.args.round (copies_of xs) ≡ slice_get (copies_of xs) n =
-    find_some (is_of c.args.round) (copies_of xs) n (place_is c) in
-    let mapped : c.map.result ≡ option_map (λ (s : RingEntry). s.copy.tuple) c.take_at.result =
-    first_of (search rules, grind (arith, common_steps, c.map.ensures.cases)) in
-    rw (← c.self.view_is)
-    (mapped ∙ (ap (option_map (λ (s : RingEntry). s.copy.tuple)) c.take_at.ensures.item
-    ∙ sym (ap (option_map (λ (copy : FlightCopy). copy.tuple)) some ∙ tuple_at xs n)))
+    let f = c.self.inside in
+    let copy = c.copy_in.result.now in
+    let is = oldest_some f.rounds.items f.order.copies c.self.invariant.1 c.args.round c.in_ok-node.node copy (some c) (first c)
+    c.copy_in.ensures in
+    rw (← c.self.view_is) (ap Some (c.give_back.ensures.tuple copy c.copy_in.ensures)
+    ∙ sym (ap (option_map (λ (copy : FlightCopy). copy.tuple)) is))
 
 pub returns-clause-others : goal.returns-clause-others
-returns-clause-others c =
-    let xs = c.self.inside.ring.items in
-    rw (← c.self.view_is, c.take_at.ensures.others)
-    (copies_remove xs c.in_ok-place.place
-    ∙ sym (without_some (is_of c.args.round) (copies_of xs) c.in_ok-place.place (place_is c)))
-
-pub returns-clause-spare : goal.returns-clause-spare
-returns-clause-spare c =
-    let long : length c.take_at.new.ring.items + 1 ≡ length c.self.inside.ring.items =
-    rw c.take_at.ensures.others (length-remove c.self.inside.ring.items c.in_ok-place.place (within c)) in
-    let same : c.take_at.new.ring.capacity ≡ c.self.inside.ring.capacity =
-    ap (λ b. b.capacity) c.take_at.ensures.others in
-    let room = c.self.invariant.0 in
-    rw (← c.self.view_is, is_taken c) (omega arith)
-
-pub returns-clause-same : goal.returns-clause-same
-returns-clause-same c = if_none c.map.result _ (is_taken c)
+returns-clause-others c = rw (← c.self.view_is) (left_is c)
