@@ -9,7 +9,11 @@ use pals_base::NodeNo;
 use pals_node::Done;
 use std::sync::{Mutex, Wait};
 use std::thread;
-use std::thread::Threads;
+use std::thread::{Builder, Threads};
+
+// The bytes of a worker's stack. The deepest worker that was measured used 12,504, with 256 nodes and expressions
+// nested 60 deep: the operands of step code are not on it. So this leaves a factor of 20.
+const STACK: usize = 0x4_0000;
 
 /// The parts of all nodes, up to their ends.
 pub fn work_all<R: Threads + Wait + Sync, W: Starter, G: Gate + Sync>(
@@ -24,8 +28,9 @@ pub fn work_all<R: Threads + Wait + Sync, W: Starter, G: Gate + Sync>(
         for number in 0..count {
             let node = NodeNo(number);
             let started = starter.admits(node)
-                && scope
-                    .spawn(move || work(rt, lock, bells, gate, node))
+                && Builder::new()
+                    .stack_size(STACK)
+                    .spawn_scoped(scope, move || work(rt, lock, bells, gate, node))
                     .is_ok();
             if !started {
                 lock.lock(rt).give_to_caller(node);
