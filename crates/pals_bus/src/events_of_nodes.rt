@@ -6,6 +6,7 @@ ghost use Rattle.pals_bus.specs.proof.Meeting.{GoesAt};
 ghost use Rattle.pals_bus.specs.BusValues.{Happens};
 ghost use Rattle.pals_bus.specs.proof.Answers.{StartsRound, BusStartEnds, StepsOn, BusStepEnds, FinishesStep};
 ghost use Rattle.pals_bus.specs.proof.Answers.{BusFinishEnds, SendsRound, BusSendEnds};
+ghost use Rattle.pals_bus.specs.proof.StepCodesOfNodes.{code_at};
 
 use crate::bus::Bus;
 use crate::bus_error::{BusError, BusFinishEnd, BusSendEnd, BusStartEnd, BusStepEnd};
@@ -93,6 +94,28 @@ impl Bus {
         }
         let round = f.round_in_hand(node);
         let how = match f.nodes.finish(node.0 as usize, done) {
+            Ok(how) => how,
+            Err(end) => return Err(BusError::Refused(end)),
+        };
+        f.journal
+            .push_reserved(JournalEntry::Finish { node, round });
+        Ok(how)
+    }
+
+    /// As `finish`, with a job of the node's code, so that no code is compared.
+    pub fn finish_own(&mut self, node: NodeNo, done: Done) -> Result<Finished, BusFinishEnd>
+        requires node { node.0 < length self.old.run.design.components }
+        requires own { done.code ≡ code_at self.old.codes node.0 }
+        ensures ok { IfOk result (λ how. FinishesStep self.old node done self.new how) }
+        ensures same { OnErr result (self.new ≡ self.old) }
+        ensures cause { IfErr result (BusFinishEnds self.old node) }
+    {
+        let f = &mut self.fields;
+        if let Some(stop) = f.stop {
+            return Err(BusError::Stopped(stop));
+        }
+        let round = f.round_in_hand(node);
+        let how = match f.nodes.finish_own(node.0 as usize, done) {
             Ok(how) => how,
             Err(end) => return Err(BusError::Refused(end)),
         };

@@ -121,6 +121,20 @@ impl NodeList {
         answer
     }
 
+    /// As `finish`, with a job of the node's code.
+    pub fn finish_own(&mut self, node: usize, done: Done) -> Result<Finished, FinishEnd>
+        requires node { node < length self.old }
+        requires own { done.code ≡ (node_of self.old node).program.code }
+        ensures ok { IfOk result (λ how. FinishesWith (node_of self.old node) done (node_of self.new node) how) }
+        ensures others { self.new ≡ slice_set self.old node (node_of self.new node) }
+        ensures same { OnErr result (self.new ≡ self.old) }
+        ensures cause { OnErr result (NoneRuns (node_of self.old node)) }
+    {
+        let answer = self.nodes[node].finish_own(done);
+        keep_target(&mut self.targets, &self.nodes, node);
+        answer
+    }
+
     /// A node finishes the step that is out by running its job here.
     pub fn finish_here(&mut self, node: usize) -> Result<(), FinishEnd>
         requires { node < length self.old }

@@ -14,7 +14,9 @@ use Rattle.bus_machine.specs.Nodes.{at_rest}
 use Rattle.bus_machine.specs.NodeEvents.{fired, finished, finished_with}
 use Rattle.pals_node.specs.declared.node_fields_and_events.NodeFields.{NodeFields}
 use Rattle.std.proofs.lemmas.Option.{slice_get-get_or, get_or_from_slice_get}
-use Rattle.pals_node.specs.proof.NodeAndJobValues.{Program, job_value, job_at}
+use Rattle.step_code.specs.declared.instr.CodeParts.{CodeParts}
+use Rattle.bus_machine.specs.Nodes.{StepWork}
+use Rattle.pals_node.specs.proof.NodeAndJobValues.{Program, JobValue, job_value, job_at}
 use Rattle.pals_node.specs.proof.NodeInvariants.{IsProgram, AreTuples, HasRound, IsOpen, PhaseKeeps, HasMessageRoom}
 use Rattle.pals_node.specs.proof.NodeInvariants.{Keeps, state_of, value_of}
 use Rattle.pals_node.specs.proof.JobMemories.{HasMemory}
@@ -146,3 +148,8 @@ pub job_is : (f : NodeFields) (step : ℕ) (program : Program) (inputs : List Po
 job_is f step program inputs round same is =
     ap₂ (λ (p : Program) (i : List PortValue). job_value p (f.count - 1) step f.frame i) same
     (input_at f step inputs round is)
+
+-- a job is its code and its step
+pub same_job : (a b : JobValue) → a.code ≡ b.code → a.work ≡ b.work → a ≡ b
+same_job a b code work =
+    ap₂ (λ (c : CodeParts) (w : StepWork). let job : JobValue = record { code = c; work = w } in job) code work

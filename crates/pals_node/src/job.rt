@@ -222,17 +222,30 @@ impl Job {
 }
 
 impl Done {
-    /// Whether this is the job of a step.
-    pub(crate) fn is_of(&self, plan: &NodePlan, start: StepStart) -> bool
-        ensures { IsTrue result ↔ (self.now ≡ job_value plan.now start.entry.round start.entry.step
-            start.entry.frame.now start.entry.inputs.now) }
+    /// The node whose step it was.
+    pub fn node(&self) -> NodeNo
+        ensures { result ≡ self.now.work.node }
+    {
+        self.plan.plan.node
+    }
+
+    /// Whether its code is that of a plan. The length is compared first.
+    pub(crate) fn has_code_of(&self, plan: &NodePlan) -> bool
+        ensures { IsTrue result ↔ (self.now.code ≡ plan.now.code) }
+    {
+        same_code(self.plan.code.parts(), plan.code.parts())
+    }
+
+    /// Whether this is the job of a step, if its code is the node's. No code is compared.
+    pub(crate) fn is_work_of(&self, plan: &NodePlan, start: StepStart) -> bool
+        ensures { IsTrue result ↔ (self.now.work ≡ (job_value plan.now start.entry.round start.entry.step
+            start.entry.frame.now start.entry.inputs.now).work) }
     {
         self.plan.plan.node == plan.plan.node
             && self.round == start.round
             && self.step == start.step
             && self.frame.same(start.frame)
             && self.inputs.same(start.inputs)
-            && same_code(self.plan.code.parts(), plan.code.parts())
     }
 
     /// The frame and the outputs that it left come in place of those of the step before, which go into
@@ -267,12 +280,12 @@ impl Done {
 fn same_code(left: &CodeParts, right: &CodeParts) -> bool
     ensures { IsTrue result ↔ (left.now ≡ right.now) }
 {
-    same_instrs(left.instrs.as_slice(), right.instrs.as_slice())
-        && same_entries(left.entries.as_slice(), right.entries.as_slice())
-        && left.vars == right.vars
+    left.vars == right.vars
         && left.loops == right.loops
         && left.ins == right.ins
         && left.outs == right.outs
+        && same_instrs(left.instrs.as_slice(), right.instrs.as_slice())
+        && same_entries(left.entries.as_slice(), right.entries.as_slice())
 }
 
 fn same_instrs(left: &[Instr], right: &[Instr]) -> bool

@@ -1,6 +1,6 @@
 //! A node, event by event.
-ghost use Rattle.std.specs.Prelude.{◌≡◌, ◌<◌, ◌≤◌, ◌-◌, ◌&&◌, not, false, nat_eq, nat_le, IfOk, IfErr, OnErr, OnOk};
-ghost use Rattle.std.specs.Prelude.{length, option_copied, option_map, slice_get, slice_index_or, position, zip, None};
+ghost use Rattle.std.specs.Prelude.{◌≡◌, ◌↔◌, ◌<◌, ◌≤◌, ◌-◌, ◌&&◌, not, false, nat_eq, nat_le, IfOk, IfErr, OnErr};
+ghost use Rattle.std.specs.Prelude.{OnOk, IsTrue, length, option_copied, option_map, slice_get, slice_index_or, position, zip, None};
 ghost use Rattle.std.specs.Prelude.{if◌then◌else◌};
 ghost use Rattle.std.specs.Option.{option_map_or};
 ghost use Rattle.std.specs.Arc.{arc_value};
@@ -151,6 +151,20 @@ impl Node {
         ensures same { OnErr result (self.new ≡ self.old) }
         ensures cause { OnErr result (NoneRuns self.old) }
     {
+        if self.is_own(&done) {
+            return self.finish_own(done);
+        }
+        self.finish_here()?;
+        Ok(Finished::Redone)
+    }
+
+    /// As `finish`, with a job of this node's code, so that no code is compared.
+    pub fn finish_own(&mut self, done: Done) -> Result<Finished, FinishEnd>
+        requires own { done.code ≡ self.old.program.code }
+        ensures ok { IfOk result (λ how. FinishesWith self.old done self.new how) }
+        ensures same { OnErr result (self.new ≡ self.old) }
+        ensures cause { OnErr result (NoneRuns self.old) }
+    {
         let Phase::Running(step) = self.fields.phase else {
             return Err(FinishEnd::NotRunning);
         };
@@ -161,7 +175,7 @@ impl Node {
             frame: &f.frame,
             inputs: &f.vectors[step as usize],
         };
-        if done.is_of(&f.plan, start) {
+        if done.is_work_of(&f.plan, start) {
             f.take_step(step, done);
             return Ok(Finished::Used);
         }
@@ -270,6 +284,14 @@ impl Node {
         ensures { option_copied result ≡ slice_get self.now.state.parts (length self.now.state.parts - 1) }
     {
         self.fields.parts.last()
+    }
+
+    // Whether a job that is done is of this node, with its code. The node is compared first.
+    fn is_own(&self, done: &Done) -> bool
+        ensures { IsTrue result ↔ ((done.now.work.node ≡ self.now.program.plan.node)
+            × (done.now.code ≡ self.now.program.code)) }
+    {
+        done.node() == self.fields.plan.plan.node && done.has_code_of(&self.fields.plan)
     }
 }
 
