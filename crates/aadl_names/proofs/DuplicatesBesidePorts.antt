@@ -1,5 +1,5 @@
--- What is looked at of names that are declared twice among ports and beside them has the first fault of all of them.
--- For the claim `first_of_all`.
+-- The comparisons of names that are declared twice among ports and other declarations find the first fault of all of
+-- them. For the claim `first_of_all`.
 use Rattle.std.proofs.Common.{◌≡◌, ◌⊎◌, ℕ, ◌+◌, Bool, true, false, cond, ◌&&◌, ◌||◌, nat_eq, nat_lt, List, [], ◌∷◌}
 use Rattle.std.proofs.Common.{◌++◌, Contains, Option, Some, None, refl, sym, ap, ◌∙◌, subst, inl, inr, suc, add-zero}
 use Rattle.std.proofs.Common.{arith}
@@ -55,7 +55,7 @@ passed_if : (b : Bool) (f g : PackageFault) → Contains (cond b (f ∷ []) []) 
 passed_if true f g h = refl
 passed_if false f g h = absurd (Contains-nil g h)
 
--- another one of the name stands before it
+-- another declaration of the name precedes it
 abbrev stands_before : SpelledName → SpelledName → Bool
 stands_before x y = same_name x.name y.name && nat_lt y.at x.at
 
@@ -125,7 +125,7 @@ earliest_same a b n (x ∷ xs) e =
     ∙ ap (λ (bs : List ℕ). sooner (cond (bytes_eq bs (folded x.name)) (Some (spot_at n x)) None)
     (earliest b (n + 1) xs)) e
 
--- ---- one that stands beside the ports
+-- ---- a declaration other than a port
 again_both : (ports others : List SpelledName) (x : SpelledName)
     → again (ports ++ others) x ≡ again_beside (earliest x.name 0 ports) (earliest x.name 0 others) x
 again_both ports others x =
@@ -134,7 +134,7 @@ again_both ports others x =
     ∙ (ap (λ b. b || list_any (stands_before x) others) (any_before x.name x.at 0 ports)
     ∙ ap (λ b. is_before (earliest x.name 0 ports) x.at || b) (any_before x.name x.at 0 others)))
 
--- what is found among all by a declaration of one of the two lists
+-- a finding for a declaration of one of the two lists is among all
 whole_left : (ports others : List SpelledName) (x : SpelledName) (f : PackageFault) → Contains ports x
     → Contains (again (ports ++ others) x) f
     → Contains (twice (ports ++ others)) f
@@ -157,7 +157,7 @@ more_again ports others x f h =
     subst (Contains (again (ports ++ others) x)) (is_if (list_any (stands_before x) ports) (Twice x.name x.at) f h)
     (there_if (list_any (stands_before x) (ports ++ others)) (Twice x.name x.at) all)
 
--- a port with one of its name before it beside the ports
+-- a port that an earlier declaration other than a port has the name of
 port_again_in : (ports others : List SpelledName) (x y : SpelledName) → Contains others x
     → same_name x.name y.name ≡ true → nat_lt x.at y.at ≡ true
     → Contains (again (ports ++ others) y) (Twice y.name y.at)
@@ -169,7 +169,7 @@ port_again_in ports others x y there same before =
     (list_any-append (stands_before y) ports others
     ∙ or_right (list_any (stands_before y) ports) (list_any (stands_before y) others) one)
 
--- ---- what is asked is among all
+-- ---- the comparisons are among all
 port_among : (ports others : List SpelledName) (x : SpelledName) (f : PackageFault) → Contains others x
     → (o : Option NumberedPlace) → earliest x.name 0 ports ≡ o
     → Contains (port_again ports o x) f → Contains (twice (ports ++ others)) f
@@ -235,7 +235,7 @@ in_asked ports others x f there here =
     Contains-append_right (of_ports ports) (flat_map (beside_each ports others) others) f
     (among_all (beside_each ports others) others x f there here)
 
--- a declaration beside the ports
+-- a declaration other than a port
 other_enough : (ports others : List SpelledName) (x : SpelledName) (f : PackageFault) → Contains others x
     → Contains (again (ports ++ others) x) f
     → NotBehind (asked ports others) f
@@ -257,7 +257,7 @@ level_at a b c x y = grind (arith, nat_tests)
 same_place : (a c : ℕ) → c ≡ a → (nat_lt a c || (nat_eq a c && nat_lt 3 3)) ≡ false
 same_place a c e = grind (arith, nat_tests)
 
--- a port with one of its name before it, but only beside the ports: it stands where the earliest port of its name does
+-- a port that only an earlier declaration other than a port has the name of: it is the earliest port of its name
 cross_enough : (ports others : List SpelledName) (x y : SpelledName) → Contains ports x
     → list_any (stands_before x) ports ≡ false
     → Contains others y → same_name x.name y.name ≡ true → nat_lt y.at x.at ≡ true → (o : Option NumberedPlace)

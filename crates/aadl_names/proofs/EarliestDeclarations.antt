@@ -125,7 +125,7 @@ before_here : (t : Bool) (spot : NumberedPlace) (at : ℕ)
 before_here true spot at = refl
 before_here false spot at = refl
 
--- one of the name stands before a place where the earliest one does
+-- a declaration of the name precedes a place if the earliest one does
 pub any_before : (name : List ℕ) (at n : ℕ) (xs : List SpelledName)
     → list_any (λ y. same_name name y.name && nat_lt y.at at) xs ≡ is_before (earliest name n xs) at
 any_before name at n [] = refl

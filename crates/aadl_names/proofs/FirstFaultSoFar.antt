@@ -16,7 +16,7 @@ pub wrong_none : (b : Bool) (at : ℕ) → wrong_if b at ≡ [] → b ≡ false
 wrong_none true at none = absurd (cc none)
 wrong_none false at none = refl
 
--- One turn of a loop finds what is wrong with the first of the things that are left.
+-- One iteration of a loop finds the fault of the first remaining item.
 pub next_found : {A : Type 0} (parts : List A → List PackageFault) (here : A → List PackageFault)
     → ((x : A) (xs : List A) → parts (x ∷ xs) ≡ here x ++ parts xs)
     → (xs : List A) (i : ℕ) (x : A) (whole before after : (Option PackageFault)) → i < length xs → x ≡ get_or xs i x
@@ -28,7 +28,7 @@ next_found parts here splits xs i x whole before after within is left more =
     ∙ found_append before (here x) (parts (drop (i + 1) xs))
     ∙ ap (λ (p : Option PackageFault). found p (parts (drop (i + 1) xs))) (sym more)
 
--- Behind the last turn nothing is left.
+-- After the last iteration no item remains.
 pub last_found : {A : Type 0} (parts : List A → List PackageFault) (xs : List A) (i : ℕ)
     (whole now : (Option PackageFault))
     → length xs ≤ i → parts [] ≡ [] → whole ≡ found now (parts (drop i xs)) → now ≡ whole

@@ -1,4 +1,4 @@
--- The first of all that is wrong with names is the first of what is looked at.
+-- The first fault of all names is the first of the comparisons that are made.
 use Rattle.std.proofs.Common.{◌≡◌, ℕ, Bool, true, false, List, [], ◌∷◌, ◌++◌, Option, None, sym, subst, if◌then◌else◌}
 use Rattle.std.specs.List.{filter_map, flat_map}
 use Rattle.aadl_tree.specs.Annexes.{AnnexTree}

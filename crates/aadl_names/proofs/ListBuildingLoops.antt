@@ -4,7 +4,7 @@ use Rattle.std.proofs.Common.{◌∙◌}
 use Rattle.std.proofs.lemmas.List.{append-nil, drop_all}
 use Rattle.list_lemmas.proofs.ListOperations.{drop-next}
 
--- One turn of a loop adds what the first of the things that are left gives.
+-- One iteration of a loop appends the result of the first remaining item.
 pub next_added : {A B : Type 0} (parts : List A → List B) (here : A → List B)
     → ((x : A) (xs : List A) → parts (x ∷ xs) ≡ here x ++ parts xs)
     → (xs : List A) (i : ℕ) (x : A) (whole before after : (List B)) → i < length xs → x ≡ get_or xs i x

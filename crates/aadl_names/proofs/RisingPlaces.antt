@@ -32,7 +32,7 @@ spots_rise inside text from to (t ∷ ts) order =
           (spots_rise (inside_behind inside t.kind) text t.end to ts order.2),
     )
 
--- ---- the places of parts lie between those of the spots
+-- ---- the places of parts are between the places of the spots
 abbrev IsBetween : ℕ → ℕ → ℕ → Type 0
 IsBetween low high p = (low ≤ p) × (p < high)
 

@@ -87,7 +87,7 @@ only_one f =
       first = λ other there. ap (λ g. precedes g f) (sym (only_here f other there)) ∙ not_itself f;
     }
 
--- of two, the one that is kept
+-- the one of two that is retained
 kept_covers : (f x : PackageFault) (b : Bool) → precedes x f ≡ b
     → Covers (as_list (cond b (Some x) (Some f))) (f ∷ x ∷ [])
 kept_covers f x true e = record {
@@ -131,7 +131,7 @@ first_of_found first (x ∷ xs) =
 pub found_is_first : (xs : List PackageFault) → FirstOf xs (found None xs)
 found_is_first xs = first_of_found None xs
 
--- the first finding alone is enough
+-- the first finding is enough
 pub first_covers : (xs : List PackageFault) (o : Option PackageFault) → FirstOf xs o → Covers (as_list o) xs
 first_covers xs None h = subst (Covers []) (sym h) (covers_itself [])
 first_covers xs (Some f) h = record {

@@ -6,7 +6,7 @@ use Rattle.aadl_names.specs.declared.fault.PackageFault.{PackageFault}
 use Rattle.aadl_names.specs.declared.fault.PackageFault.TheVariants.{Twice, WrongKind}
 use Rattle.aadl_names.specs.declared.declared_name.SpelledName.{SpelledName}
 
--- each that has the name of another one which stands before it in the text
+-- each declaration that has the name of an earlier one in the text
 abbrev pub again : List SpelledName → SpelledName → List PackageFault
 again xs x = if list_any (λ y. same_name x.name y.name && nat_lt y.at x.at) xs then Twice x.name x.at ∷ [] else []
 

@@ -1,4 +1,4 @@
--- What is declared twice in a package, one list for each space of names. What a list of properties gives twice stands
+-- The duplicate declarations of a package, one list for each namespace. Duplicates within a list of properties are
 -- with the properties.
 use Rattle.std.specs.Prelude.{ℕ, List, [], ◌∷◌, ◌++◌, map, flat_map, Option, Some, None, if◌then◌else◌}
 use Rattle.std.specs.List.{filter_map}

@@ -1,5 +1,5 @@
--- Which of several faults of a package is the first: the one at the least place, and at one place the one of the
--- lower number.
+-- The first of several faults of a package: the one at the smallest place, and at one place the one of the lower
+-- number.
 use Rattle.std.specs.Prelude.{◌≡◌, ℕ, Bool, false, ◌&&◌, ◌||◌, nat_eq, nat_lt, ◌<◌, List, [], Contains, Option, Some}
 use Rattle.std.specs.Prelude.{None}
 use Rattle.aadl_names.specs.declared.fault.PackageFault.{PackageFault}
@@ -37,7 +37,7 @@ pub record IsFirst (Found : PackageFault → Type 0) (fault : PackageFault) : Ty
   pub found : Found fault
   pub first : (other : PackageFault) → Found other → precedes other fault ≡ false
 
--- the first of a list, or none where the list is empty
+-- the first of a list; `None` if the list is empty
 abbrev pub FirstOf : List PackageFault → Option PackageFault → Type 0
 FirstOf faults None = faults ≡ []
 FirstOf faults (Some fault) = IsFirst (Contains faults) fault

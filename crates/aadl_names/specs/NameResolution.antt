@@ -1,5 +1,5 @@
--- What a package declares, and what its references name. Declarations, subcomponents, connections and ports go by their
--- numbers in the text's order; where a name is declared twice, a use means the first.
+-- The declarations of a package, and the declarations that its references name. Declarations, subcomponents,
+-- connections and ports are numbered in the text's order; if a name is declared twice, a use means the first.
 use Rattle.std.specs.Prelude.{ℕ, Bool, true, false, ◌&&◌, ◌||◌, List, [], ◌∷◌, ◌++◌, Option, Some, None, slice_get}
 use Rattle.std.specs.Prelude.{codes, if◌then◌else◌, option_map}
 use Rattle.std.specs.List.{position_from}
@@ -49,7 +49,7 @@ is_root name (implementation x) = is_system x.category && same_name name (spelle
 abbrev pub root_number : PackageTree ℕ → List ℕ → Option ℕ
 root_number tree name = first_number (is_root name) tree.declarations
 
--- ---- what has a number
+-- ---- elements by number
 abbrev pub type_in : Option (Declaration ℕ) → Option (TypeDeclaration ℕ)
 type_in None = None
 type_in (Some (type x)) = Some x
@@ -63,7 +63,7 @@ implementation_in (Some (implementation x)) = Some x
 abbrev pub implementation_at : PackageTree ℕ → ℕ → Option (Implementation ℕ)
 implementation_at tree n = implementation_in (slice_get tree.declarations n)
 
--- ---- what belongs to a type or an implementation, if there is one
+-- ---- the parts of a type or an implementation, if there is one
 abbrev pub features_of : Option (TypeDeclaration ℕ) → List (Feature ℕ)
 features_of None = []
 features_of (Some x) = x.features

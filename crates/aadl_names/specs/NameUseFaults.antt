@@ -18,7 +18,7 @@ use Rattle.aadl_names.specs.declared.name_roles.Usage.TheVariants.{Set, Send, Re
 abbrev pub NameRoles : Type 0
 NameRoles = List ℕ → Option Role
 
--- a name stands for what one of two says, and where both do, for what the first says
+-- a name has the meaning that one of two gives it, and if both do, the first one's
 abbrev pub either : NameRoles → NameRoles → NameRoles
 either first second = λ name. option_or (first name) (second name)
 

@@ -1,5 +1,5 @@
--- What is wrong with the names of a whole package, one list for each sentence of the rules. What is declared twice
--- stands in a file of its own.
+-- The faults of the names of a whole package, one list for each sentence of the rules. Duplicate declarations are in a
+-- file of their own.
 use Rattle.std.specs.Prelude.{ℕ, Bool, true, false, not, ◌&&◌, nat_eq, nat_lt, List, [], ◌∷◌, ◌++◌, map, flat_map}
 use Rattle.std.specs.Prelude.{Option, Some, None, slice_get, option_map, find, if◌then◌else◌}
 use Rattle.std.specs.List.{list_any, enumerate_from}
@@ -45,7 +45,7 @@ port_roles ports = λ name. option_map (λ p. role_in p.direction) (find (λ p. 
 abbrev pub variable_roles : List (Identifier ℕ) → NameRoles
 variable_roles variables = λ name. if is_among variables name then Some Varies else None
 
--- what a type declares goes before what an implementation declares where it stands before it
+-- the declarations of a type precede the declarations of an implementation if the type precedes it
 abbrev pub comes_first : Option (TypeDeclaration ℕ) → Implementation ℕ → Bool
 comes_first None x = true
 comes_first (Some t) x = nat_lt t.at x.at
@@ -93,7 +93,7 @@ variable_faults x = list_faults holders.Variable x.properties
 abbrev pub variables_faults : Annex ℕ → List PackageFault
 variables_faults x = flat_map variable_faults (variables_in x)
 
--- a behaviour where none may stand
+-- a behaviour at a position where none is allowed
 abbrev pub stray_faults : Annex ℕ → List PackageFault
 stray_faults x =
     elim x.content as (λ _. List PackageFault) [ foreign bytes ↦ [] | behaviour tree ↦ WrongKind x.at ∷ [] ]
@@ -109,7 +109,7 @@ same_category categories.System other = is_system other
 same_category categories.Process other = is_process other
 same_category categories.Thread other = is_thread other
 
--- a reference stands where its first word does
+-- the position of a reference is the position of its first word
 abbrev pub reference_at : Reference ℕ → ℕ
 reference_at x = elim x.qualifiers as (λ _. ℕ) [ [] ↦ x.type_name.at | y ∷ ys ↦ y.at ]
 

@@ -70,7 +70,7 @@ abbrev pub only_text : Value ℕ → Option (List ℕ)
 only_text (list (value v no_values)) = text_of v
 only_text _ = None
 
--- digits with `_` between them, at most the greatest number
+-- digits with `_` between them, at most the maximum number
 abbrev pub is_number : List ℕ → Bool
 is_number [] = false
 is_number (c ∷ cs) = whole_len (c ∷ cs) == length (c ∷ cs) && not (c == 95) && nat_le (decimal (c ∷ cs)) most

@@ -3,7 +3,7 @@ use Rattle.std.specs.Prelude.{ℕ, List, ◌++◌, flat_map, Option, Some, None,
 use Rattle.aadl_tree.specs.Names.{Identifier, Name, Reference}
 use Rattle.aadl_tree.specs.Declarations.{ImplementationName, ConnectionEnd}
 
--- ---- nothing stands between the tokens of a name
+-- ---- the tokens of a name without anything between them
 abbrev pub spelled_name : Name ℕ → List ℕ
 spelled_name x = x.first.spelling ++ flat_map (λ y. codes "::" ++ y.spelling) x.rest
 

@@ -1,5 +1,5 @@
--- The properties that mean something, where they do, whether their values have the shape that they need, and what is
--- wrong with a list of them.
+-- The properties with a meaning, the positions of that meaning, whether their values have the required shape, and the
+-- faults of a list of them.
 use Rattle.std.specs.Prelude.{ℕ, Bool, true, false, not, ◌&&◌, List, [], ◌∷◌, ◌++◌, filter, map, flat_map, codes}
 use Rattle.std.specs.Prelude.{Option, if◌then◌else◌, find}
 use Rattle.std.specs.Option.{is_some}

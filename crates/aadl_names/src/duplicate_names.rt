@@ -40,7 +40,7 @@ fn compare_all(finder: &mut FaultFinder, entries: &[SpelledName]) -> Result<(), 
     Ok(())
 }
 
-// Finds that an entry has the name of another one that stands before it.
+// Finds that an entry has the name of an earlier one.
 fn compare_entry(
     finder: &mut FaultFinder,
     entries: &[SpelledName],
@@ -54,14 +54,14 @@ fn compare_entry(
     Ok(())
 }
 
-// Whether one of some entries has the name of this one, and stands before it.
+// Whether one of some entries has the name of this one, and precedes it.
 fn is_declared_before(entries: &[SpelledName], entry: &SpelledName) -> bool
     ensures { result ≡ list_any (λ y. same_name entry.now.name y.name && nat_lt y.at entry.now.at) entries.now }
 {
     entries.iter().any(|other| is_again(entry, other))
 }
 
-// Whether an entry has the name of another one, which stands before it.
+// Whether an entry has the name of an earlier one.
 fn is_again(entry: &SpelledName, other: &SpelledName) -> bool
     ensures { result ≡ (same_name entry.now.name other.now.name && nat_lt other.now.at entry.now.at) }
 {
@@ -83,7 +83,7 @@ fn look_up_all(finder: &mut FaultFinder, entries: &[SpelledName]) -> Result<(), 
     Ok(())
 }
 
-// Finds that an entry stands behind the earliest one of its name.
+// Finds that an entry follows the earliest one of its name.
 fn check_entry(
     finder: &mut FaultFinder,
     table: &NameTable<NumberedPlace>,

@@ -27,7 +27,7 @@ pub fn earliest_of(
     Ok(table)
 }
 
-// Adds a declaration of a name, unless one of the name stands before it.
+// Adds a declaration of a name, unless a declaration of the name precedes it.
 fn add_spot(
     alloc: Global,
     table: &mut NameTable<NumberedPlace>,
@@ -46,7 +46,7 @@ fn add_spot(
     }
 }
 
-// Whether a declaration stands before another one, if there is one.
+// Whether a declaration precedes another one, if there is one.
 fn is_sooner(spot: NumberedPlace, other: Option<NumberedPlace>) -> bool
     ensures { result ≡ spec.is_sooner spot other }
 {
@@ -56,7 +56,7 @@ fn is_sooner(spot: NumberedPlace, other: Option<NumberedPlace>) -> bool
     }
 }
 
-/// Whether there is a declaration, and it stands before a place.
+/// Whether there is a declaration, and it precedes a place.
 pub fn is_before(spot: Option<NumberedPlace>, at: usize) -> bool
     ensures { result ≡ spec.is_before spot at }
 {

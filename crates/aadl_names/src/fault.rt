@@ -21,7 +21,7 @@ pub enum PackageFault {
     /// Something of another kind is due here.
     #[error("WrongKind")]
     WrongKind { at: usize },
-    /// The subcomponent leads back to the implementation in which it stands.
+    /// The subcomponent leads back to the implementation that contains it.
     #[error("Recursive")]
     Recursive { name: Text, at: usize },
     /// The connection is on no chain between threads, or between a thread and the root's ports.
@@ -58,7 +58,7 @@ impl PackageFault {
     ghost use Rattle.std.specs.Prelude.{◌≡◌};
     ghost use Rattle.aadl_names.specs.FirstFaults.{place_of, number_of};
 
-    /// Where it stands; 0 where it has no place.
+    /// Its position; 0 if it has none.
     pub fn place(&self) -> usize
         ensures { result ≡ place_of self.now }
     {

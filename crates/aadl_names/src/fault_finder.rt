@@ -27,14 +27,14 @@ impl FaultFinder {
     ghost use Rattle.aadl_names.specs.proof.FirstFaultSoFar.{found, comes_first, as_list};
     ghost use Rattle.aadl_names.specs.DuplicateNames as spec;
 
-    /// A finder that has found nothing yet. It takes no memory.
+    /// A finder without a finding. Does not allocate.
     pub fn new(alloc: Global) -> FaultFinder
         ensures { result ≡ None }
     {
         FaultFinder { alloc, first: None }
     }
 
-    /// Where memory comes from.
+    /// The allocator.
     pub fn alloc(&self) -> Global {
         self.alloc
     }

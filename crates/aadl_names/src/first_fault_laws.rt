@@ -1,4 +1,4 @@
-//! The law that what is looked at in a package has the first of all faults of its names.
+//! The law that the comparisons of a package's names find the first fault of all.
 
 ghost use Rattle.std.specs.Prelude.{ℕ, ◌++◌, None};
 ghost use Rattle.aadl_tree.specs.Declarations.{PackageTree};
@@ -7,7 +7,7 @@ ghost use Rattle.aadl_names.specs.proof.FirstFaultSoFar.{found};
 ghost use Rattle.aadl_names.specs.PackageNameFaults.{wrong_names, package_faults};
 ghost use Rattle.aadl_names.specs.proof.DuplicatesBesidePorts.{beside_names};
 
-/// The first of what is looked at in a package is the first of all that is wrong with its names.
+/// The first finding of the comparisons of a package's names is the first fault of all names.
 pub fn first_of_all()
     ensures { (tree : PackageTree ℕ) → (root : ℕ)
         → FirstOf (package_faults tree root) (found None (wrong_names tree root ++ beside_names tree)) }

@@ -1,5 +1,5 @@
-//! The names of a package: what its references and the ends of its connections name, and the first name that is wrong
-//! so far. Laws: places rise along a tree, and the first of what is looked at is the first of all that is wrong.
+//! The names of a package: the declarations that its references and the ends of its connections name, and the first
+//! wrong name so far. Laws: places rise along a tree, and the comparisons find the first fault of all.
 #![tactic(auto)]
 
 pub mod declarations_by_number;

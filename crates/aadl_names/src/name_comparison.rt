@@ -8,7 +8,7 @@ ghost use Rattle.aadl_names.specs.proof.PiecewiseComparison.{goes_on};
 
 use aadl_tree::{Identifier, Name, Reference};
 
-// What is left of a text behind a word with which it begins, whatever the case of letters.
+// The rest of a text after a word with which it begins, whatever the case of letters.
 #[tactic(auto, using(crate::proofs::PiecewiseComparison::too_short, crate::proofs::PiecewiseComparison::cut_behind, crate::proofs::PiecewiseComparison::cut_elsewhere))]
 fn behind<'a>(text: &'a [u8], word: &[u8]) -> Option<&'a [u8]>
     ensures { (more : List ℕ) → same_name (word.now ++ more) text.now ≡ goes_on more result }
@@ -24,7 +24,7 @@ fn behind<'a>(text: &'a [u8], word: &[u8]) -> Option<&'a [u8]>
     }
 }
 
-// What is left of a text behind `::` and a word.
+// The rest of a text after `::` and a word.
 fn behind_scope<'a>(text: &'a [u8], word: &Identifier) -> Option<&'a [u8]>
     ensures { (more : List ℕ) → same_name ((codes "::" ++ word.now.spelling) ++ more) text.now ≡ goes_on more result }
 {
@@ -58,7 +58,7 @@ pub fn is_spelled(name: &Name, text: &str) -> bool
     rest.is_empty()
 }
 
-// What is left of a text behind a word and a mark.
+// The rest of a text after a word and a mark.
 fn behind_marked<'a>(text: &'a [u8], word: &Identifier, mark: &[u8]) -> Option<&'a [u8]>
     ensures { (more : List ℕ) → same_name ((word.now.spelling ++ mark.now) ++ more) text.now ≡ goes_on more result }
 {

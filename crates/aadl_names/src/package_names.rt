@@ -217,7 +217,7 @@ fn implementations_of(
     Ok(table)
 }
 
-// The numbers of what each declaration has.
+// The numbers of the members of each declaration.
 fn members_of(
     alloc: Global,
     declarations: &[Declaration],
@@ -256,7 +256,7 @@ fn sub_numbers(alloc: Global, subs: &[Subcomponent]) -> Result<NameTable<usize>,
     Ok(table)
 }
 
-// The numbers of what a declaration has: the ports of a type, or the subcomponents of an
+// The numbers of the members of a declaration: the ports of a type, or the subcomponents of an
 // implementation.
 fn member_numbers(alloc: Global, declaration: &Declaration) -> Result<NameTable<usize>, AllocError>
     ensures { IfOk result (λ table. (name : List ℕ)

@@ -5,8 +5,8 @@ ghost use Rattle.aadl_tree.specs.Declarations.{PackageTree, package_parts};
 ghost use Rattle.aadl_tree.specs.TextTreesAndFaults.{IsTreeOf};
 ghost use Rattle.aadl_names.specs.proof.PlaceOrder.{StandsBefore};
 
-/// In the tree of a text, a place that is kept in front of some part is less than one that is kept
-/// behind it. So names that a package declares one after the other stand at different places.
+/// In the tree of a text, a place that is stored before some part is less than a place that is stored
+/// after it. So names that a package declares one after the other are at different places.
 pub fn places_rise()
     ensures { (text : List ℕ) (tree : PackageTree ℕ) → IsTreeOf text tree → (p q : ℕ)
         → StandsBefore (package_parts tree) p q → p < q }

@@ -35,7 +35,7 @@ impl PropertyName {
     }
 }
 
-/// A kind of place at which properties stand.
+/// A kind of position of properties.
 #[derive(Clone, Copy)]
 pub enum PropertyHolder {
     Port,

@@ -104,7 +104,7 @@ fn follow_number(
     }
 }
 
-// Follows the dispatch transition among those of these numbers, if there is one.
+// Follows the dispatch transition among the transitions of these numbers, if there is one.
 fn dispatch(
     transitions: &[Transition],
     numbers: &[usize],

@@ -1,5 +1,5 @@
--- For this crate's laws: the oldest copy is the first of its round, the least number is in its list, and how often
--- an entry stands in a list.
+-- For this crate's laws: the oldest copy is the first of its round, the smallest number is in its list, and how often
+-- an entry occurs in a list.
 use Rattle.std.proofs.Common.{◌≡◌, ℕ, zero, suc, ◌+◌, ◌<◌, ◌≤◌, min, Bool, true, false, not, cond, List, [], ◌∷◌, ◌++◌}
 use Rattle.std.proofs.Common.{length, get_or, filter, find, fold, All, Contains, count_by, Some, None, slice_get}
 use Rattle.std.proofs.Common.{⊎_elim, refl, sym, ap, ◌∙◌, subst, arith, length-append, length-take}
@@ -43,7 +43,7 @@ module _ {X : Type 0} (p : X → Bool) where
         | false ↦ λ here rest. All-cons (λ y. p y ≡ false) x xs here (none_from_find xs rest)
       ]) refl none
 
--- ---- the least
+-- ---- the minimum
 least_below : (n : ℕ) (ns : List ℕ) → (fold min n ns ≤ n) × All (λ m. fold min n ns ≤ m) ns
 least_below n [] = (omega arith, All-nil (λ m. n ≤ m))
 least_below n (m ∷ ms) =

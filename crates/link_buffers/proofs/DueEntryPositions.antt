@@ -1,4 +1,4 @@
--- For the due queue's `add`, `remove` and `due_count`: at which place an entry stands in the order of the queue.
+-- For the due queue's `add`, `remove` and `due_count`: the position of an entry in the order of the queue.
 use Rattle.std.proofs.Common.{◌≡◌, ◌≢◌, ℕ, ◌<◌, ◌≤◌, true, false, not, List, length, get_or, take, drop, insert, remove}
 use Rattle.std.proofs.Common.{filter, Some, slice_get, Contains, ⊎_elim, refl, sym, ap, ◌∙◌, subst, arith}
 use Rattle.std.specs.List.Sorted.{IsPartitionPoint, IsPartitionedBy}
@@ -88,7 +88,7 @@ module _ (xs : List DueEntry) (entry : DueEntry) (n : ℕ) (order : IsRising xs)
   pub found : slice_get xs n ≡ Some entry → Contains xs entry
   found at = (n, slice_get_within xs n entry at, get_or_from_slice_get xs n entry entry at)
 
-  -- an entry of the list that equals this one stands at the place
+  -- an entry of the list that equals this one is at the place
   stands : (k : ℕ) → k < length xs → get_or xs k entry ≡ entry → slice_get xs n ≡ Some entry
   stands k within same =
       ⊎_elim

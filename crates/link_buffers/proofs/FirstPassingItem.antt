@@ -39,7 +39,7 @@ module _ {X : Type 0} (p : X → Bool) where
       → p (get_or xs n d) ≡ true → before_first p xs ++ after_first p xs ≡ remove xs n
   without_at xs n d within before at = rw (position_or_len_is p xs n d (omega arith) before (λ _. at), add-one) refl
 
-  -- where none passes
+  -- if none passes
   pub without_any : (xs : List X) (d : X) → ((k : ℕ) → k < length xs → p (get_or xs k d) ≡ false)
       → before_first p xs ++ after_first p xs ≡ xs
   without_any xs d none =

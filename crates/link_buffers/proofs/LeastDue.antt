@@ -1,4 +1,4 @@
--- For `flight_due`: the first round with a copy that is due is the least.
+-- For `flight_due`: the first round with a copy that is due is the smallest.
 use Rattle.std.proofs.Common.{◌≡◌, ℕ, ◌<◌, ◌≤◌, nat_eq, Bool, true, false, ◌||◌, cond, List, [], ◌∷◌}
 use Rattle.std.proofs.Common.{get_or, map, filter, find, Some, None, option_map, ⊎_elim, refl, sym}
 use Rattle.std.proofs.Common.{ap, ◌∙◌, subst, arith, eqb-true}
@@ -20,7 +20,7 @@ use Rattle.link_buffers.proofs.CopiesByRound.{copies-other, copies-here, copies_
 abbrev is_in : ℕ → List ℕ → Bool
 is_in n ns = list_any (λ m. nat_eq m n) ns
 
--- ---- the least number
+-- ---- the smallest number
 least_from : (ns : List ℕ) (n : ℕ) → is_in n ns ≡ true → ((m : ℕ) → is_in m ns ≡ true → n ≤ m) → least ns ≡ Some n
 least_from ns n has below =
     (elim (least ns) as (λ o. least ns ≡ o → o ≡ Some n) [

@@ -1,5 +1,5 @@
--- For `partition_point`: in a list where no item passes a test behind one that fails it, all pass up to one place
--- and fail from it on.
+-- For `partition_point`: in a list where no item passes a test after one that fails it, all pass up to one place and
+-- fail from it on.
 use Rattle.std.proofs.Common.{◌≡◌, ℕ, ◌+◌, ◌<◌, Bool, true, false, List, length, get_or, ap, ◌∙◌, arith}
 use Rattle.std.specs.List.{AllWithin}
 use Rattle.std.specs.List.Sorted.{IsPartitionedBy}

@@ -32,8 +32,8 @@ module _ {X : Type 0} where
   next_back (x ∷ z ∷ xs) zero within = refl
   next_back (x ∷ z ∷ xs) (suc n) within = next_back (z ∷ xs) n (omega arith)
 
-  -- an exchange at a place, where the item there is held and the others stand in the ring: now the next is held, or
-  -- the one before
+  -- an exchange at a place, while the item there is held and the others are in the ring: now the next is held, or the
+  -- one before
   module _ (xs : List X) (room n : ℕ) (held next : X) (ring new : Buffer X) (within : suc n < length xs)
       (put : new ≡ buffer (set ring.items n held) ring.capacity) (out : slice_get ring.items n ≡ Some next) where
     pub moved_on : ring ≡ buffer (remove xs n) room → slice_get xs n ≡ Some held

@@ -57,7 +57,7 @@ fn remove_empty(rounds: &mut Rounds)
     }
 }
 
-// Moves the first round behind the others, or removes it if it has no copies.
+// Moves the first round after the others, or removes it if it has no copies.
 fn turn_on(rounds: &mut Rounds)
     requires { length rounds.old.items ≤ rounds.old.capacity }
     ensures fits { length rounds.new.items ≤ rounds.new.capacity }
@@ -73,7 +73,7 @@ fn turn_on(rounds: &mut Rounds)
     put_last(rounds, entry);
 }
 
-/// Appends copies to those of a round.
+/// Appends copies to the copies of a round.
 pub fn append_to_round(rounds: &mut Rounds, round: u32, copies: CopyList)
     requires rising { AreRising rounds.old.items }
     requires room { length rounds.old.items < rounds.old.capacity }
@@ -123,7 +123,7 @@ pub fn oldest_of_round(rounds: &Rounds, round: u32) -> Option<&FlightCopy>
     standing_at(rounds, place).copies.front()
 }
 
-/// The first round with a copy that is due at a reading, in nanoseconds, or none.
+/// The first round with a copy that is due at a reading, in nanoseconds, or `None`.
 pub fn first_due(rounds: &Rounds, reading: Nanos) -> Option<u32>
     ensures { result ≡ option_map (λ entry. entry.round) (find (has_due reading) rounds.now.items) }
 {
@@ -152,7 +152,7 @@ fn is_round_at(rounds: &Rounds, place: usize, round: u32) -> bool
     }
 }
 
-// Appends copies to those of the round at a place.
+// Appends copies to the copies of the round at a place.
 fn append_at(rounds: &mut Rounds, place: usize, copies: CopyList)
     requires place { place < length rounds.old.items }
     requires few { (d : Entry) → length (slice_index_or rounds.old.items place d).copies + length copies < 2 ^ 63 }

@@ -7,7 +7,7 @@ ghost use Rattle.pals_model.specs.Flights.{without_oldest};
 use pals_model::FlightCopy;
 use std::marker::Model;
 
-/// Copies in order of adding. The type takes no memory, and its methods do nothing at run time.
+/// Copies in order of adding. The type has no size, and its methods do nothing at run time.
 #[derive(Drop)]
 pub struct CopyOrder {
     pub ghost copies: { List Copied },

@@ -73,7 +73,7 @@ impl Flight {
         Ok(())
     }
 
-    /// Adds a copy as the newest. It takes no memory.
+    /// Adds a copy as the newest. Does not allocate.
     pub fn flight_add(&mut self, round: u32, due: Option<Nanos>, tuple: Tuple)
         requires { 1 ≤ self.old.spare }
         ensures { self.new ≡ flight_of (self.old.copies ++ record { round = round; due = due; tuple = tuple } ∷ [])
@@ -86,8 +86,8 @@ impl Flight {
         self.spare -= 1;
     }
 
-    /// Takes out the oldest copy of a round, or nothing if there is none. The others keep their
-    /// order. It takes no memory, and the room does not shrink.
+    /// Removes the oldest copy of a round, or nothing if there is none. The others keep their
+    /// order. Does not allocate, and the room does not shrink.
     pub fn flight_take(&mut self, round: u32) -> Option<Tuple>
         ensures taken { result ≡ option_map (λ copy. copy.tuple) (oldest round self.old.copies) }
         ensures others { self.new.copies ≡ without_oldest round self.old.copies }
@@ -106,7 +106,7 @@ impl Flight {
         oldest_of_round(&self.rounds, round)
     }
 
-    /// The least round with a copy that is due at a reading, in nanoseconds, or none.
+    /// The smallest round with a copy that is due at a reading, in nanoseconds, or `None`.
     pub fn flight_due(&self, reading: Nanos) -> Option<u32>
         ensures { result ≡ least (due_rounds reading self.now.copies) }
     {

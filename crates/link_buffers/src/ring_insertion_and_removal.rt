@@ -7,7 +7,7 @@ ghost use Rattle.circular_buffer.specs.Buffer.{buffer};
 use circular_buffer::HeapCircularBuffer;
 use std::mem;
 
-/// What stands at a place.
+/// The item at a place.
 pub fn standing_at<T>(ring: &HeapCircularBuffer<T>, place: usize) -> &T
     requires { place < length ring.now.items }
     ensures { (d : T) → slice_index_or ring.now.items place d ≡ result.now }
@@ -34,7 +34,7 @@ pub fn take_at<T>(ring: &mut HeapCircularBuffer<T>, place: usize) -> Option<T>
     }
 }
 
-// Takes out the item that stands behind `ahead` others, which move on by one place.
+// Removes the item that follows `ahead` others, which move on by one place.
 fn take_by_front<T>(ring: &mut HeapCircularBuffer<T>, ahead: usize) -> Option<T>
     requires { ahead < length ring.old.items }
     ensures item { result ≡ slice_get ring.old.items ahead }
@@ -49,7 +49,7 @@ fn take_by_front<T>(ring: &mut HeapCircularBuffer<T>, ahead: usize) -> Option<T>
     Some(held)
 }
 
-// Takes out the item that stands ahead of `behind` others, which move up by one place.
+// Removes the item that precedes `behind` others, which move up by one place.
 fn take_by_back<T>(ring: &mut HeapCircularBuffer<T>, behind: usize) -> Option<T>
     requires { behind < length ring.old.items }
     ensures item { let place = length ring.old.items - 1 - behind in result ≡ slice_get ring.old.items place }
@@ -66,7 +66,7 @@ fn take_by_back<T>(ring: &mut HeapCircularBuffer<T>, behind: usize) -> Option<T>
     Some(held)
 }
 
-/// Puts an item in at a place, ahead of what stands there. The others keep their order. Only those
+/// Inserts an item at a place, before the item there. The others keep their order. Only the items
 /// between that place and the nearer end move: none at an end, and at most half of the ring.
 pub fn put_at<T>(ring: &mut HeapCircularBuffer<T>, place: usize, item: T)
     requires place { place ≤ length ring.old.items }
@@ -80,7 +80,7 @@ pub fn put_at<T>(ring: &mut HeapCircularBuffer<T>, place: usize, item: T)
     }
 }
 
-// Puts an item in behind `ahead` others, which move up by one place.
+// Inserts an item after `ahead` others, which move up by one place.
 fn put_by_front<T>(ring: &mut HeapCircularBuffer<T>, ahead: usize, item: T)
     requires place { ahead ≤ length ring.old.items }
     requires room { length ring.old.items < ring.old.capacity }

@@ -4,7 +4,7 @@ ghost use Rattle.std.specs.Prelude.{◌≡◌, ◌↔◌, IsTrue, IsSome, is_som
 use pals_base::Tuple;
 use std::marker::Model;
 
-/// The slot of an in port, which holds one message or none. Contracts see that message.
+/// The slot of an in port, which holds one message or none. The model is that message.
 #[derive(Drop)]
 pub struct Slot {
     tuple: Option<Tuple>,
@@ -20,7 +20,7 @@ impl Model for Slot {
 }
 
 impl Slot {
-    /// An empty slot. It takes no memory.
+    /// An empty slot. Does not allocate.
     pub fn new() -> Slot
         ensures { result ≡ None }
     {
@@ -41,8 +41,8 @@ impl Slot {
         self.tuple.as_ref()
     }
 
-    /// Puts a message into the slot. It comes back exactly where the slot is full, which then keeps
-    /// what it holds.
+    /// Puts a message into the slot. Returns the message if and only if the slot is full, which then keeps
+    /// its message.
     pub fn slot_put(&mut self, tuple: Tuple) -> Option<Tuple>
         ensures back { result ≡ (if is_some self.old then Some tuple else None) }
         ensures slot { self.new ≡ (if is_some self.old then self.old else Some tuple) }

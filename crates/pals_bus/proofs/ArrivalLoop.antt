@@ -1,5 +1,5 @@
--- For the loop of `arrive_all`: the bus when the first due messages have arrived and the others are left, and one
--- more arrival.
+-- For the loop of `arrive_all`: the bus when the first due messages have arrived and the others remain, and one more
+-- arrival.
 use Rattle.std.proofs.Common.{◌≡◌, ◌∙◌, ℕ, ◌+◌, ◌-◌, ◌<◌, ◌≤◌, Bool, true, false, List, ◌∷◌, length, drop, Option, Some}
 use Rattle.std.proofs.Common.{None, is_some, refl, sym, ap, subst, arith, length-append}
 use Rattle.std.specs.Prelude.{sum_by, slice_index_or, count_by, vec_capacity, IfSome, IfNone, nat_eq}
@@ -25,7 +25,7 @@ use Rattle.pals_bus.proofs.EqualDueReadings.{SameDue, same_dues}
 use Rattle.pals_bus.proofs.DueEntriesAndCopies.{if_some, copy_there, link_there}
 use Rattle.pals_bus.proofs.FirstDueArrival.{first_flies, first_in_flight, is_next, left_after}
 
--- the first messages have arrived, and the others are left
+-- the first messages have arrived, and the others remain
 pub record Arriving (first now : BusFields) (node reading at : ℕ) (due : List DueEntry) : Type 0 where
   pub keeps : IsBusInvariant now
   pub going : now.stop ≡ None
@@ -89,7 +89,7 @@ takes_more first now next node reading at due message so_far within is happens =
     (is_next (value_of now) node reading message (drop (at + 1) due) (flights_many now so_far.keeps)
     (left_now first now node reading at due message so_far within is)) happens
 
--- no stop is told
+-- no entry is a stop
 pub none_told : (o : Option Stop) (b : Bool) → b ≡ is_some o → b ≡ false → o ≡ None
 none_told None b is told = refl
 none_told (Some why) b is told = absurd (false≢true (sym told ∙ is))

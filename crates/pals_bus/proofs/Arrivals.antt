@@ -94,7 +94,7 @@ tuple_is f t link round tuple takes =
     tuple_there (oldest round (slice_index_or f.flights link.0 no_flight).copies) tuple takes.taken
     ∙ ap (λ (copies : List FlightCopy). arriving round copies) (sym (flight_is f.flights link.0))
 
--- a message was taken, and came to its target
+-- a message was taken, and reached its target
 pub record Comes (f t g : BusFields) (link : LinkNo) (round : ℕ) (reading : Option ℕ) (tuple : List PortValue)
     (m : NodeValue) : Type 0 where
   pub takes : Takes f t link round (Some tuple)
@@ -228,7 +228,7 @@ reached_within f t link round tuple target keeps within takes target_is =
     let nodes : length t.nodes ≡ length f.nodes = ap (λ (k : BusFields). length k.nodes) takes.others in
     omega (arith, nodes, count, there, target_is)
 
--- the node, as it stands then
+-- the node in its new state
 node_reached : (f t : BusFields) (link : LinkNo) (round : ℕ) (tuple : Option (List PortValue)) (target : ℕ) → IsBusInvariant f
     → link.0 < length (arc_value f.design).links → Takes f t link round tuple
     → target ≡ (slice_index_or (arc_value f.design).links link.0 no_link).target.0
@@ -254,7 +254,7 @@ slot_reached f t link round tuple target port keeps within takes target_is port_
     let room = has_slot f link.0 keeps within in
     omega (arith, slots, room, port_is)
 
--- what the node answers is what the machine says
+-- the node's result is the machine's
 pub arrival_is : (f t : BusFields) (link : LinkNo) (round : ℕ) (tuple : Option (List PortValue)) (target port : ℕ)
     (result : Arrived) → IsBusInvariant f → link.0 < length (arc_value f.design).links → Takes f t link round tuple
     → target ≡ (slice_index_or (arc_value f.design).links link.0 no_link).target.0

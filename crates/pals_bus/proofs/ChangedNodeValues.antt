@@ -28,13 +28,13 @@ turn_shown f g node m s keeps within is same =
     (same_node f node m s keeps within is)) within_h)
     ∙ get_or-set_at f.nodes node node m no_node_value refl within
 
--- a call changed this node alone, and its entry was told
+-- a call changed only this node, and its entry was recorded
 pub record Turned (f g : BusFields) (node : ℕ) (x : JournalEntry) : Type 0 where
   pub same : g ≡ record f { nodes = slice_set f.nodes node (node_in g node); journal = g.journal }
   pub told : g.journal.items ≡ f.journal.items ++ x ∷ []
   pub capacity : vec_capacity g.journal ≡ vec_capacity f.journal
 
--- what a call says of the node, as contracts see it
+-- the model of the node after a call
 pub turn_told : (f : BusFields) (node : ℕ) (P : NodeValue → Type 0) → IsBusInvariant f → node < length f.nodes
     → P (node_of f.nodes node) → P (node_value (value_of f) node)
 turn_told f node P keeps within says = subst P (node_is f node keeps within) says

@@ -30,7 +30,7 @@ use Rattle.pals_bus.proofs.FlightRooms.{flight_is}
 use Rattle.pals_bus.proofs.QueueChanges.{one_or_none}
 use Rattle.pals_bus.proofs.QueueFlightAgreement.{count_none}
 
--- what stands in the place of an entry that is not there
+-- the default for a missing entry
 abbrev pub no_entry : DueEntry
 no_entry = record { due = 0; link = record { 0 = 0 }; round = 0 }
 
@@ -94,7 +94,7 @@ counts_at_first f node reading queue keeps is e =
     if nat_eq (link_at (value_of f).run.design e.link.0).target.0 node then count_by (is_copy_of e) copies else 0)
     (sym (flight_is f.flights e.link.0)))
 
--- all messages that are due stand in the queue
+-- all messages that are due are in the queue
 pub left_at_first : (f : BusFields) (node reading : ℕ) (queue : QueueState) (due : List DueEntry) → IsBusInvariant f
     → queue ≡ slice_index_or f.queues node no_queue → AreDueEntries queue reading due
     → AreLeft (value_of f) node reading due
@@ -277,7 +277,7 @@ in_order xs rises short i j d before within =
     in_order_two (slice_index_or xs i d) (slice_index_or xs j d) (rises i j d (omega (arith, before)) within)
     (short j d within)
 
--- ---- the entries that are due stand first
+-- ---- the entries that are due come first
 pub due_place : (entries : List DueEntry) (reading count place : ℕ) → count ≡ count_by (is_due_at reading) entries
     → place < count → slice_get entries place ≡ None → ⊥
 due_place [] reading count place is below none = let least = count_by-le-length (is_due_at reading) [] in

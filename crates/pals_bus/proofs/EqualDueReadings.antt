@@ -122,7 +122,7 @@ start_dues : (run : Run) (s : BusState) (node : NodeNo) (reading m : Option ℕ)
 start_dues run s node reading None dues = dues
 start_dues run s node reading (Some link) dues = dues
 
--- what is in flight from a node that has not sent its round is of earlier ones
+-- the copies in flight from a node that has not sent its round belong to earlier rounds
 in_flight_earlier : (n : NodeState) (round : ℕ) → n.sent ≡ false → round < sent_rounds n → round < round_of n
 in_flight_earlier n round unsent lt = let is : sent_rounds n ≡ round_of n =
     ap (λ b. if b then n.count else round_of n) unsent in omega (arith, lt, is)

@@ -1,5 +1,5 @@
--- What contracts see of a bus after an event that changes one node or some flights, and that the bus invariant is
--- kept.
+-- The model of a bus after an event that changes one node or some flights, and that the event maintains the bus
+-- invariant.
 use Rattle.std.proofs.Common.{◌≡◌, ◌∙◌, ℕ, ◌+◌, ◌<◌, ◌≤◌, true, List, ◌++◌, length, Option, None, refl, sym, ap, ap₂}
 use Rattle.std.proofs.Common.{subst, arith}
 use Rattle.std.specs.Prelude.{sum_by, slice_set, vec_capacity}
@@ -23,7 +23,7 @@ use Rattle.pals_bus.specs.proof.DueQueues.{AreQueues}
 use Rattle.pals_bus.proofs.NodeChanges.{states, states-set, codes-set, same_node}
 use Rattle.pals_bus.proofs.FlightRooms.{rooms_kept}
 
--- what contracts see of a bus where one node, the flights, the stop and the journal have changed
+-- the model of a bus after one node, the flights, the stop and the journal have changed
 abbrev pub changed : BusFields → ℕ → NodeValue → List FlightState → Option Stop → List JournalEntry → BusValue
 changed f node m flights stop journal = record (value_of f) {
   codes = codes_in (slice_set f.nodes node m);
@@ -56,7 +56,7 @@ node_happens f e node m s flights copies stop journal keeps going within is same
       (codes-set f.nodes node m (same_node f node m s keeps within is));
 }
 
--- an event that changes flights alone
+-- an event that changes only flights
 pub flights_happen : (f : BusFields) (e : BusEvent) (flights : List FlightState) (copies : List (List FlightCopy))
     (journal : List JournalEntry)
     → f.stop ≡ None → copies_in flights ≡ copies → is_allowed (run_of f) (state_of f) e ≡ true

@@ -1,4 +1,4 @@
--- For `take_due`: the first due entry's message arrives, the others are left, and so on until none is due.
+-- For `take_due`: the first due entry's message arrives, the others remain, and so on until none is due.
 use Rattle.std.proofs.Common.{◌≡◌, ◌∙◌, inl, inr, ◌⊎◌, ℕ, zero, suc, ◌+◌, ◌<◌, ◌≤◌, nat_eq, Bool, true, false, cond}
 use Rattle.std.proofs.Common.{List, [], ◌∷◌, length, Option, Some, refl, sym, ap, ap₂, arith}
 use Rattle.std.specs.Prelude.{count_by, slice_index_or, slice_set, if◌then◌else◌}
@@ -30,7 +30,7 @@ use Rattle.pals_bus.proofs.OldestCopyRemoval.{oldest_round}
 use Rattle.pals_bus.proofs.DueEntriesAndCopies.{if_some, copy_there, copy_parts, flies, due_of_entry, IsEntryOf}
 use Rattle.pals_bus.proofs.DueEntriesAndCopies.{entry_of_due, not_first}
 
--- ---- the first entry that is left
+-- ---- the first remaining entry
 -- it is due, and its copy is in flight
 pub first_flies : (b : BusValue) (node reading : ℕ) (x : DueEntry) (rest : List DueEntry)
     → AreLeft b node reading (x ∷ rest) → (is_due_at reading x ≡ true) × (1 ≤ copies_in_flight b node x)
@@ -90,7 +90,7 @@ is_next b node reading x rest many left =
           ];
     }
 
--- ---- the others are left after it
+-- ---- the others remain after it
 flights_after : (b c : BusValue) (link : LinkNo) (round : ℕ) (reading : Option ℕ)
     → Happens b (Arrive link round reading) c
     → c.state.flights ≡ slice_set b.state.flights link.0 (without_oldest round (flight_at b.state link.0))
@@ -190,7 +190,7 @@ left_after b c node reading x rest same within left happens = record {
   order = ordered_rest x rest left.order;
 }
 
--- none is left in the end
+-- none remains in the end
 pub none_due : (b : BusValue) (node reading : ℕ) → AreLeft b node reading [] → (link round : ℕ)
     → IsDueTo b node reading link round → ⊥
 none_due b node reading left link round is_due_to =

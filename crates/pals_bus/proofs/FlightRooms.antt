@@ -1,4 +1,4 @@
--- Room in flights, and what is left where one of them changes.
+-- Room in flights, and the remaining room after one of them changes.
 use Rattle.std.proofs.Common.{◌≡◌, ◌≢◌, ◌∙◌, inl, inr, ℕ, ◌<◌, ◌≤◌, false, List, [], length, Some, sym, ap, subst}
 use Rattle.std.proofs.Common.{arith}
 use Rattle.std.specs.Prelude.{slice_set, slice_index_or, slice_get}

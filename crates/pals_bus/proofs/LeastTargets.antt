@@ -1,4 +1,4 @@
--- For `first_of` and `meet`: which of the targets of a run is the least.
+-- For `first_of` and `meet`: which of the targets of a run is the smallest.
 use Rattle.std.proofs.Common.{◌≡◌, ◌∙◌, inl, inr, ℕ, ◌+◌, ◌<◌, ◌≤◌, nat_lt, true, false, List, length, Option, Some}
 use Rattle.std.proofs.Common.{None, refl, sym, ap, ap₂, subst, arith}
 use Rattle.std.specs.Prelude.{slice_index_or, slice_set}
@@ -41,7 +41,7 @@ bound_set targets node t bound within is above k = elim (cases_eq k node) [
   | inr other ↦ subst (λ o. is_below o bound ≡ false) (sym (get_or-set_other targets node k t None other)) (is k)
 ]
 
--- a target below it is the least one
+-- a target below it is the smallest one
 pub first_set : (targets : List (Option ℕ)) (node : ℕ) (t bound : Option ℕ) → node < length targets
     → IsBound targets bound → is_below t bound ≡ true → IsFirst (slice_set targets node t) node
 first_set targets node t bound within is below =
@@ -89,7 +89,7 @@ first_of_all targets count first past all k = elim (cases_lt k (length targets))
       (sym (get_or_past targets k None out)) refl
 ]
 
--- ---- who has a target, and who has the least one
+-- ---- which node has a target, and which has the smallest one
 pub some_within : (targets : List (Option ℕ)) (node own : ℕ) → slice_index_or targets node None ≡ Some own
     → node < length targets
 some_within targets node own is = elim (cases_lt node (length targets)) [

@@ -23,7 +23,7 @@ use Rattle.pals_bus.specs.proof.RoundMessages.{is_from, HasRoomFor, HasRoomOn}
 use Rattle.pals_bus.specs.proof.DueQueues.{HasQueueRoomFor, HasQueueRoomOn}
 use Rattle.pals_bus.specs.proof.LinksFromNodes.{AreOutgoing, links_from, no_numbers, number_of}
 
--- those of the links from a node, where the first has this number
+-- the numbers of the links from a node, if the first has this number
 abbrev pub numbers_from : ℕ → ℕ → List Link → List LinkNo
 numbers_from node first links =
     map number_of (filter (λ (numbered : ℕ × Link). is_from node numbered.1) (enumerate_from first links))
@@ -106,7 +106,7 @@ pub source_within : (design : DesignParts) (link : ℕ) → IsDesign design → 
     → (slice_index_or design.links link no_link).source.0 < length design.components
 source_within design link is within = (is.links.each link no_link within).source.node_is
 
--- ---- what holds of the links from a node
+-- ---- properties of the links from a node
 all_if : (P : LinkNo → Type 0) (b : Bool) (e : ℕ × Link) (es : List (ℕ × Link)) → (b ≡ true → P (number_of e))
     → All P (map number_of es) → All P (map number_of (cond b (e ∷ es) es))
 all_if P true e es holds all = All-cons P (number_of e) (map number_of es) (holds refl) all
@@ -132,7 +132,7 @@ all_numbers P node from (x ∷ xs) each =
     (λ is. each 0 from x (omega arith) refl is)
     (all_numbers P node (from + 1) xs (λ k n link at is_link is. each (suc k) n link (omega (arith, at)) is_link is))
 
--- it holds of each number where it holds of each link from the node
+-- it holds for each number if it holds for each link from the node
 pub all_from : (P : LinkNo → Type 0) (node : ℕ) (links : List Link)
     → ((k : ℕ) (link : Link) → slice_get links k ≡ Some link → is_from node link ≡ true → P (numbered k))
     → All P (links_from node links)
@@ -157,7 +157,7 @@ of_number P node from (suc k) n (x ∷ xs) link all at is_link is =
     (all_later P (is_from node x) (from, x) (filter own (enumerate_from (from + 1) xs)) all)
     (omega (arith, at)) is_link is
 
--- it holds of a link from the node where it holds of each number
+-- it holds for a link from the node if it holds for each number
 pub of_one : (P : LinkNo → Type 0) (node k : ℕ) (links : List Link) (link : Link) → All P (links_from node links)
     → slice_get links k ≡ Some link → link.source.0 ≡ node → P (numbered k)
 of_one P node k links link all is_link is =

@@ -1,5 +1,5 @@
--- Why an event without a reading is refused or stops the bus, and that no stop stands after one that happens: for
--- `loose_world_events`.
+-- Why an event without a reading is rejected or stops the bus, and that the run has no stop after an event that
+-- happens: for `loose_world_events`.
 use Rattle.std.proofs.Common.{◌≡◌, ◌≢◌, ◌∙◌, inl, inr, ℕ, true, false, Option, Some, None, refl, ap}
 use Rattle.std.specs.Prelude.{is_some}
 use Rattle.std.proofs.lemmas.Bool.{false≢true}
@@ -87,7 +87,7 @@ none_runs (Between steps) not = refl
 none_runs Holding not = refl
 none_runs Done not = refl
 
--- ---- what is told of messages
+-- ---- the results of messages
 pub link_ends : (old new : BusValue) (e : Event) (what : BusEvent) (link : LinkNo) (round : ℕ)
     (end : BusError MessageError) → new ≡ old → LinkEnds old link round end → loose_event e ≡ Some what
     → event_message e ≡ Some (link, round)
@@ -98,7 +98,7 @@ link_ends old new e what link round (fault.Refused message.NoSuchMessage) same c
     (record { same = same; going = cause.0; what = what; is_what = is; refused = allowed ∙ cause.1 }, about)
 link_ends old new e what link round (fault.Refused message.Memory) same cause is about allowed = same
 
--- ---- what is told of nodes
+-- ---- the results of nodes
 refused : (old new : BusValue) (e : Event) (what : BusEvent) → new ≡ old → old.state.stop ≡ None
     → loose_event e ≡ Some what → is_allowed old.run old.state what ≡ false → IsRefused old e new
 refused old new e what same going is not =

@@ -1,5 +1,4 @@
--- For the loop of `send_messages`: the links from a node one after the other, with those of other nodes between
--- them.
+-- For the loop of `send_messages`: the links from a node one after the other, with links of other nodes between them.
 use Rattle.std.proofs.Common.{◌≡◌, ◌∙◌, ℕ, zero, suc, ◌+◌, ◌<◌, ◌≤◌, Bool, true, false, cond, List, [], ◌∷◌, length}
 use Rattle.std.proofs.Common.{map, drop, refl, sym, ap, ap₂, subst, arith, length-drop}
 use Rattle.std.specs.Prelude.{filter, slice_index_or}
@@ -83,7 +82,7 @@ none_left node from (x ∷ xs) none (suc k) lt =
     (none_if (is_from node x) (from, x) (filter (λ (e : ℕ × Link). is_from node e.1) (enumerate_from (from + 1) xs))
     none).1 k (omega (arith, lt))
 
--- what holds at a link holds at the next one that is the node's, where links of other nodes change nothing
+-- a property at a link holds at the node's next link, if links of other nodes change nothing
 past : (P : ℕ → Type 0) (node : ℕ) (links : List Link)
     → ((k : ℕ) → k < length links → is_from node (slice_index_or links k no_link) ≡ false → P k → P (k + 1))
     → (from count : ℕ) → from + count ≤ length links
@@ -95,14 +94,14 @@ past P node links step from (suc count) le others holds =
     subst P (let e : from + count + 1 ≡ from + suc count = omega arith in e)
     (step (from + count) (omega (arith, le)) (others count (omega arith)) before)
 
--- the first of a node's links are done: it holds at a link from which on the others of the node are left
+-- the first of a node's links are done: it holds at a link after which the node's other links remain
 pub record Reaches (P : ℕ → Type 0) (node first : ℕ) (links : List Link) (numbers : List LinkNo) : Type 0 where
   pub at : ℕ
   pub within : at ≤ length links
   pub left : drop first numbers ≡ numbers_from node at (drop at links)
   pub holds : P at
 
--- where it holds at each link of the node, in order, it holds at the end
+-- if it holds at each link of the node, in order, it holds at the end
 pub reaches_all : (P : ℕ → Type 0) (node first : ℕ) (links : List Link) (numbers : List LinkNo)
     → ((k : ℕ) → k < length links → is_from node (slice_index_or links k no_link) ≡ false → P k → P (k + 1))
     → Reaches P node first links numbers → length numbers ≤ first → P (length links)
@@ -116,7 +115,7 @@ reaches_all P node first links numbers step so_far all =
     subst P end (past P node links step at count (omega (arith, end))
     (λ k lt. ap (is_from node) (sym (get_or-drop at links k no_link)) ∙ none k lt) so_far.holds)
 
--- the next number is of a link of the node's, at which it holds
+-- the next number belongs to a link of the node, at which it holds
 pub record IsAt (P : ℕ → Type 0) (node first : ℕ) (links : List Link) (numbers : List LinkNo)
     (number : LinkNo) : Type 0 where
   pub within : number.0 < length links

@@ -1,4 +1,4 @@
--- What a bus shows of its nodes, and what is left where one of them changes.
+-- The nodes that a bus shows, and the invariant after one of them changes.
 use Rattle.std.proofs.Common.{◌≡◌, ◌∙◌, inl, inr, ℕ, ◌<◌, ◌≤◌, Bool, true, false, List, length, map, sym, ap, ap₂}
 use Rattle.std.proofs.Common.{subst, arith}
 use Rattle.std.specs.Prelude.{slice_set, slice_index_or, if◌then◌else◌}
@@ -99,7 +99,7 @@ nodes-set design rounds nodes at m are within same = record {
   ];
 }
 
--- a node whose state alone has changed
+-- a node of which only the state has changed
 pub same_node : (f : BusFields) (node : ℕ) (m : NodeValue) (s : NodeState) → IsBusInvariant f → node < length f.nodes
     → m ≡ with_state (node_value (value_of f) node) s → IsSameNode (slice_index_or f.nodes node no_node_value) m
 same_node f node m s keeps within is =

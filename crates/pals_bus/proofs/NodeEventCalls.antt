@@ -31,7 +31,7 @@ use Rattle.pals_bus.proofs.StartsStepsAndFinishes.{start_happens, start_keeps, s
 use Rattle.pals_bus.proofs.StartsStepsAndFinishes.{step_keeps, finish_happens, finish_room, finish_keeps_bus}
 use Rattle.pals_bus.proofs.RoundSends.{send_owes, send_happens, send_keeps_bus, send_queues}
 
--- what an event leaves: fields that keep the bus, and what is said of them
+-- the result of an event: fields with the bus invariant, and their model
 pub record Leaves (g : BusFields) (Says : Type 0) : Type 0 where
   pub keeps : IsBusInvariant g
   pub says : Says
@@ -67,7 +67,7 @@ journal_shows f g same items = ap value_of same ∙ ap (λ es. record (value_of 
 pub values_show : (f g : BusFields) → g ≡ record f { values = g.values } → value_of g ≡ value_of f
 values_show f g same = ap value_of same
 
--- more room in the journal alone
+-- only more room in the journal
 pub reserved : (v : BusValue) (old f : BusFields) (node : ℕ) → value_of old ≡ v → old.stop ≡ None
     → node < length v.run.design.components → f ≡ record old { journal = f.journal }
     → f.journal.items ≡ old.journal.items → IsBusInvariant f
@@ -79,7 +79,7 @@ reserved v old f node shows going within others items keeps = record {
   within = within;
 }
 
--- no stop stands, and a node says why it refuses
+-- the run has no stop, and a node returns why it refuses
 pub refuses : (v : BusValue) (f : BusFields) (node : ℕ) (Says : NodeValue → Type 0) → Stands v f node
     → Says (node_of f.nodes node) → Going v × Says (node_value v node)
 refuses v f node Says stands says = (
@@ -210,7 +210,7 @@ finishes v f g node step round stands says round_is turned =
       says = subst (λ (k : BusValue). Happens k (Finish node) (value_of g)) stands.shows happens;
     }
 
--- with what was handed in
+-- with the submitted job
 pub finishes_with : (v : BusValue) (f g : BusFields) (node : NodeNo) (job : JobValue) (how : Finished) (round : ℕ)
     → Stands v f node.0 → FinishesWith (node_of f.nodes node.0) job (node_in g node.0) how
     → round ≡ round_of (node_at (state_of f) node.0) → Turned f g node.0 (entry.Finish node round)
@@ -245,7 +245,7 @@ finish_place v f node step m stands says =
     omega (arith, less, place)
 
 -- ---- a send
--- the node is changed, its messages are in flight, and its entry is told
+-- the node is changed, its messages are in flight, and its entry is recorded
 pub record IsSent (f s g : BusFields) (nodes : List NodeValue) (node : NodeNo) (reading : Option ℕ) (round : ℕ)
     (messages : List (List PortValue)) : Type 0 where
   pub nodes_are : nodes ≡ slice_set f.nodes node.0 (node_of nodes node.0)

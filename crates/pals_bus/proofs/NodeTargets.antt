@@ -1,4 +1,4 @@
--- For `Bus::target` and `meet`: the reading that a node of a bus waits for stands in the list of targets.
+-- For `Bus::target` and `meet`: the reading that a node of a bus waits for is in the list of targets.
 use Rattle.std.proofs.Common.{◌≡◌, ◌∙◌, inl, inr, ℕ, ◌<◌, List, length, map, Option, None, false, is_some, sym, ap}
 use Rattle.std.proofs.Common.{subst, arith}
 use Rattle.std.specs.Prelude.{slice_index_or}
@@ -42,7 +42,7 @@ within_run f b keeps shows node within =
     let count = keeps.nodes.count ∙ ap (λ (v : BusValue). length v.run.design.components) shows in
     omega (arith, count, within)
 
--- ---- the run goes on
+-- ---- the run continues
 pub still_going : (b : BusValue) → b.closed ≡ false → is_some b.state.stop ≡ false → HasEnded b → ⊥
 still_going b not_closed none (inl stopped) = stopped (none_unless_some b.state.stop none)
 still_going b not_closed none (inr closed) = false≢true (sym not_closed ∙ closed)

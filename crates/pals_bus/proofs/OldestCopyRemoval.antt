@@ -36,7 +36,7 @@ pub oldest_round : (round : ℕ) (copies : List FlightCopy) (copy : FlightCopy) 
     → copy.round ≡ round
 oldest_round round copies copy is = eqb-true copy.round round (find-passes (is_of round) copies copy is)
 
--- where there is none, the flights stay
+-- if there is none, the flights stay
 pub none_taken : (flights : List FlightState) (at round : ℕ)
     → oldest round (slice_index_or flights at no_flight).copies ≡ None
     → copies_in flights ≡ slice_set (copies_in flights) at
@@ -131,7 +131,7 @@ none_keeps f g link round keeps takes =
     (keeps_room f h keeps refl refl (same_count f g link round None takes) (same_copies f g link round takes)
     takes.room takes.queues refl (omega arith))
 
--- what holds anyhow holds where there is none
+-- a property that holds anyway holds if there is none
 pub none_holds : {X : Type 0} (o : Option X) {P : Type 0} → P → IfNone o P
 none_holds None holds = holds
 none_holds (Some x) holds = tt

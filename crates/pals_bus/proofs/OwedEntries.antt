@@ -37,7 +37,7 @@ owed_more nodes at m within =
     let most = owed_at_most m in
     omega (arith, all, most)
 
--- it makes one of those that it owes
+-- it records one of the entries that must follow
 pub owed_less : (nodes : List NodeValue) (at : ℕ) (m : NodeValue) → at < length nodes
     → owed m + 1 ≡ owed (slice_index_or nodes at no_node_value)
     → sum_by owed (slice_set nodes at m) + 1 ≡ sum_by owed nodes

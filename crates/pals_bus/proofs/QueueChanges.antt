@@ -166,7 +166,7 @@ queues-set links nodes flights queues at m are within before = record {
 abbrev pub IsFewInto : List Link → Type 0
 IsFewInto links = (node : ℕ) → count_by (λ (link : Link). nat_eq link.target.0 node) links ≤ PORTS
 
--- a node that starts a round: those that read from it have room for a message on each in port
+-- a node that starts a round: each reader of the node has room for a message on each in port
 pub queues_started : (links : List Link) (nodes : List NodeValue) (flights : List FlightState)
     (queues : List QueueState) (at : ℕ) (m : NodeValue) → AreQueues links nodes flights queues → IsFewInto links
     → HasQueueRoomFor at links queues

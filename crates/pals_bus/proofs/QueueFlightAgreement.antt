@@ -40,7 +40,7 @@ tests_not true false c is = refl
 tests_not false false c is = refl
 tests_not a true c is = absurd (false≢true (sym is))
 
--- ---- how many entries of a kind a message has in its queue: one, or none
+-- ---- how many entries of a kind a message has in its queue: one, or zero
 abbrev pub counts : DueEntry → Option ℕ → LinkNo → ℕ → ℕ
 counts e None link round = 0
 counts e (Some due) link round = cond (is_entry e (record { due = due; link = link; round = round })) 1 0
@@ -208,7 +208,7 @@ contains_counted entries x some = elim (one_or_none (is_entry x) entries) [
   | inr none ↦ absurd (let zero_is = count_none (is_entry x) entries none in omega (arith, some, zero_is))
 ]
 
--- the entry of a copy in flight stands in the queue of its target
+-- the entry of a copy in flight is in the queue of its target
 pub entry_there : (links : List Link) (flights : List FlightState) (queues : List QueueState) (link : LinkNo)
     (copy : FlightCopy) (round d : ℕ) → HaveCopies links flights queues
     → oldest round (slice_index_or flights link.0 no_flight).copies ≡ Some copy → copy.due ≡ Some d

@@ -157,7 +157,7 @@ sent_one node k links delays round reading messages old new flight are within fr
       ∙ are.others number (omega (arith, lt));
 }
 
--- ---- what the machine says
+-- ---- the machine's result
 message_at : (plan : Plan) (n : NodeState) (node number : ℕ) (links : List Link) (link : Link)
     → plan.out_links ≡ map (λ (l : Link). l.out_port) (filter (is_from node) links) → slice_get links number ≡ Some link
     → is_from node link ≡ true

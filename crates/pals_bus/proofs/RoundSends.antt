@@ -1,4 +1,4 @@
--- For `Bus::send`: the event of sending a node's round happens, and the bus invariant is kept.
+-- For `Bus::send`: the event of sending a node's round happens, and maintains the bus invariant.
 use Rattle.std.proofs.Common.{◌≡◌, ◌∙◌, ℕ, ◌+◌, ◌<◌, true, false, List, [], ◌∷◌, ◌++◌, length, map, Option, None, refl}
 use Rattle.std.proofs.Common.{sym, ap, subst, arith}
 use Rattle.std.specs.Prelude.{filter, sum_by, slice_set, slice_index_or, vec_capacity}

@@ -26,7 +26,7 @@ use Rattle.pals_bus.proofs.QueueOpeningsAndSends.{amid_one}
 use Rattle.pals_bus.proofs.RoundMessages.{place_next, place_within, sent_other, sent_one}
 use Rattle.pals_bus.proofs.OldestCopyRemoval.{target_within}
 
--- the first links have their messages, and the others are left
+-- the first links have their messages, and the others remain
 pub record Sending (first now : BusFields) (node round : ℕ) (reading : Option ℕ) (messages left : List (List PortValue))
     (number : ℕ) : Type 0 where
   pub sent : AreSent node (arc_value first.design).links first.delays round reading messages number
@@ -182,7 +182,7 @@ sending_queue_room first now node round reading messages left number so_far with
     amid_room node number (arc_value first.design).links first.nodes now.flights now.queues so_far.queues within
     (eqb-true (slice_index_or (arc_value first.design).links number no_link).source.0 node from)
 
--- a message is left for the link
+-- a message remains for the link
 pub message_left : (first now : BusFields) (node round : ℕ) (reading : Option ℕ) (messages left : List (List PortValue))
     (number : ℕ) → CanSend first node messages → Sending first now node round reading messages left number
     → number < length (arc_value first.design).links
@@ -196,7 +196,7 @@ message_left first now node round reading messages left number can so_far within
     omega (arith, count, placed, size, all)
 
 -- ---- the next link from the node
--- the numbers that the code reads are those of the fields as they were
+-- the numbers that the code reads are the numbers of the unchanged fields
 pub own_links : (first now : BusFields) (node round : ℕ) (reading : Option ℕ)
     (messages left : List (List PortValue)) (at : ℕ)
     (ns all : List LinkNo)

@@ -17,7 +17,7 @@ use Rattle.pals_node.specs.proof.NodeAndJobValues.{NodeValue, with_state}
 use Rattle.pals_bus.specs.proof.OutOfRangeDefaults.{no_node_value}
 use Rattle.pals_bus.specs.proof.NodeLists.{node_of, target_of_node}
 
--- the targets are those of the nodes, once that of the changed node is put in
+-- the targets are the targets of the nodes, once the changed node's target is set
 pub targets_kept : (nodes : List NodeValue) (targets kept : List (Option ℕ)) (node : ℕ) (m : NodeValue)
     → targets ≡ map target_of_node nodes → node < length nodes
     → kept ≡ slice_set targets node (target_of_node (node_of (slice_set nodes node m) node))

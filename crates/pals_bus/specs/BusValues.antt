@@ -7,7 +7,7 @@ use Rattle.bus_machine.specs.RunParameters.{Run}
 use Rattle.bus_machine.specs.Machine.{BusEvent, IsStep}
 use Rattle.bus_machine.specs.Replay.{entries}
 
--- what it is of, the codes of its nodes, where it stands, and what happened so far
+-- its run, the codes of its nodes, its state, and its journal
 pub record BusValue : Type 0 where
   pub run : Run
   pub codes : List CodeParts
@@ -17,7 +17,7 @@ pub record BusValue : Type 0 where
   pub state : BusState
   pub journal : List JournalEntry
 
--- an event is a step of the machine, and stands in the journal
+-- an event is a step of the machine, and is recorded in the journal
 pub record Happens (old : BusValue) (e : BusEvent) (new : BusValue) : Type 0 where
   pub step : IsStep old.run old.state e new.state
   pub journal : new.journal ≡ old.journal ++ entries old.run old.state e

@@ -8,7 +8,7 @@ use Rattle.bus_machine.specs.Machine.{BusEvent, Start, Step, Finish, Send, Arriv
 use Rattle.pals_bus.specs.BusValues.{BusValue, Happens}
 use Rattle.pals_runs.specs.declared.events_and_faults.Event.TheVariants as event
 
--- what it is to the bus: no event has a reading, and none is a passing of time
+-- the event of the bus: no event has a reading, and none is a passing of time
 abbrev pub loose_event : Event → Option BusEvent
 loose_event (event.Pass time readings) = None
 loose_event (event.Start node) = Some (Start node None)
@@ -56,12 +56,12 @@ event_message (event.Repeat link round) = Some (link, round)
 abbrev pub HappensLoose : BusValue → Event → BusValue → Type 0
 HappensLoose old e new = (what : BusEvent) × (loose_event e ≡ Some what) × Happens old what new
 
--- it happened, and no stop stands
+-- it happened, and the run has no stop
 pub record GoesOn (old : BusValue) (e : Event) (new : BusValue) : Type 0 where
   pub happens : HappensLoose old e new
   pub going : new.state.stop ≡ None
 
--- no stop stands, and the machine does not allow it; nothing has changed
+-- the run has no stop, and the machine does not allow the event; nothing has changed
 pub record IsRefused (old : BusValue) (e : Event) (new : BusValue) : Type 0 where
   pub same : new ≡ old
   pub going : old.state.stop ≡ None

@@ -14,9 +14,9 @@ use pals_runs::Stop;
 use std::alloc::Global;
 
 impl Bus {
-    /// All messages to a node that are due at a reading of its clock arrive, in link order and then
-    /// in order of rounds, up to the first that comes too early, which stops the run. If there is
-    /// not enough memory, none has arrived.
+    /// Delivers all messages to a node that are due at a reading of its clock, in link order and then
+    /// in order of rounds, up to the first that arrives too early, which stops the run. If memory runs
+    /// out, none has arrived.
     pub fn take_due(&mut self, node: NodeNo, reading: Nanos) -> Result<(), DueEnd>
         requires { node.0 < length self.old.run.design.components }
         ensures ok { OnOk result (TakesAllDue self.old node.0 reading self.new) }
@@ -34,7 +34,7 @@ impl Bus {
         Ok(())
     }
 
-    /// Whether some message to a node is due at a reading of its clock. It takes no memory.
+    /// Whether some message to a node is due at a reading of its clock. Does not allocate.
     pub fn has_due(&self, node: NodeNo, reading: Nanos) -> bool
         requires { node.0 < length self.now.run.design.components }
         ensures { IsTrue result ↔ HasDue self.now node.0 reading }
@@ -44,8 +44,8 @@ impl Bus {
 }
 
 impl BusFields {
-    // The messages that are due to a node arrive, up to the first that comes too early. It takes no
-    // memory.
+    // Delivers the messages that are due to a node, up to the first that arrives too early. Does not
+    // allocate.
     fn arrive_all(&mut self, due: &[DueEntry], node: NodeNo, reading: Nanos) -> Option<Stop>
         requires keeps { IsBusInvariant self.old }
         requires going { self.old.stop ≡ None }

@@ -16,8 +16,8 @@ use pals_model::Link;
 use pals_runs::{Arrived, JournalEntry, Stop};
 
 impl BusFields {
-    /// A link's message of a round arrives, where no stop stands and the journal has room for it and
-    /// for a stop. It takes no memory.
+    /// A link's message of a round arrives, in a run without a stop and with room in the journal for it
+    /// and for a stop. Does not allocate.
     pub fn arrive(&mut self, link: LinkNo, round: u32, reading: Option<Nanos>) -> Option<Arrived>
         requires keeps { IsBusInvariant self.old }
         requires going { self.old.stop ≡ None }
@@ -59,7 +59,7 @@ fn end_of(links: &[Link], at: usize) -> (usize, u32)
     (link.target.0 as usize, link.in_port)
 }
 
-// The stop that an arrival gives, if it comes too early.
+// The stop of an arrival, if it is too early.
 fn early_stop(link: LinkNo, round: u32, reading: Option<Nanos>, arrived: Arrived) -> Option<Stop>
     ensures { result ≡ early_stop link round reading arrived }
 {

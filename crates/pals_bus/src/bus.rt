@@ -1,4 +1,4 @@
-//! The bus, and what it shows.
+//! The bus and its observers.
 ghost use Rattle.std.specs.Prelude.{◌≡◌, ◌<◌, ◌≤◌, ◌↔◌, IsTrue, true, length, IfOk, slice_get, option_copied, None};
 ghost use Rattle.std.specs.Arc.{arc_value};
 ghost use Rattle.pals_base.specs.declared.limits.TheConstants.{ROUNDS};
@@ -84,7 +84,7 @@ impl Bus {
         Bus::open(alloc, run, meeting, nodes)
     }
 
-    // A run before its first event, of nodes that stand before theirs.
+    // A run before its first event, of nodes before theirs.
     fn open(alloc: Global, run: Run, meeting: bool, nodes: NodeList) -> Result<Bus, NoMemory>
         requires some { 1 ≤ run.rounds }
         requires most { run.rounds ≤ ROUNDS }
@@ -187,7 +187,7 @@ impl Bus {
         self.fields.closed = true;
     }
 
-    /// What a node needs to know of the design: when it may do what, and what goes to it and from it.
+    /// The part of the design that a node needs: when it may act, its inputs and its outputs.
     pub fn plan(&self, node: NodeNo) -> &Plan
         requires { node.0 < length self.now.run.design.components }
         ensures { result.now ≡ plan_of self.now.run.design node.0 }
@@ -237,7 +237,7 @@ impl Bus {
         self.fields.nodes[node.0 as usize].parts().len() as u32
     }
 
-    /// What a node left in a round, or none where it has not finished that.
+    /// The part of a node in a round; `None` if it has not finished the round.
     pub fn part(&self, node: NodeNo, round: u32) -> Option<&Part>
         requires { node.0 < length self.now.run.design.components }
         ensures { option_copied result ≡ slice_get (node_at self.now.state node.0).parts round }
@@ -247,7 +247,7 @@ impl Bus {
             .get(round as usize)
     }
 
-    /// The oldest copy of a round that is in flight on a link, or none.
+    /// The oldest copy of a round that is in flight on a link, or `None`.
     pub fn in_flight(&self, link: LinkNo, round: u32) -> Option<&FlightCopy>
         requires { link.0 < length self.now.run.design.links }
         ensures { option_copied result ≡ oldest round (flight_at self.now.state link.0) }
@@ -273,8 +273,8 @@ impl Bus {
         Bus::open(alloc, run, f.meeting, nodes)
     }
 
-    /// Whether another bus is of the same run: of an equal design, with equal values of the root in
-    /// ports, for as many rounds, with equal delays, and both with or both without a meeting.
+    /// Whether another bus belongs to the same run: to an equal design, with equal values of the root in
+    /// ports, for as many rounds, with equal delays, and both with or both without virtual time.
     pub fn same_run(&self, other: &Bus) -> bool
         ensures { IsTrue result ↔ ((self.now.run ≡ other.now.run) × (self.now.meeting ≡ other.now.meeting)) }
     {

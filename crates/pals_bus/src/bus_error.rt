@@ -1,14 +1,14 @@
-//! Why a bus does not go on after an event. Where a stop stands, each event is refused by it.
+//! Why a bus stops at an event. In a run with a stop, every event is refused for that stop.
 use pals_base::NoMemory;
 use pals_node::{FinishEnd, SendEnd, StartEnd, StepEnd};
 use pals_runs::Stop;
 
-/// Why a bus does not go on after an event.
+/// Why a bus stops at an event.
 #[derive(Clone, Copy, PartialEq)]
 pub enum BusError<E> {
-    /// A stop stands: it stood before, or the event gives it.
+    /// The run has a stop: it had the stop before, or the event gives it.
     Stopped(Stop),
-    /// No stop stands, and the event is refused for this.
+    /// The run has no stop, and the event is refused for this reason.
     Refused(E),
 }
 
@@ -27,10 +27,10 @@ pub type BusSendEnd = BusError<SendEnd>;
 /// Why nothing happens to a message.
 pub type LinkEnd = BusError<MessageError>;
 
-/// Why not all messages that are due have arrived. A message that came too early stops the run.
+/// Why not all due messages have arrived. A message that arrived too early stops the run.
 pub type DueEnd = BusError<NoMemory>;
 
-/// Why nothing happens to a message where no stop stands.
+/// Why nothing happens to a message in a run without a stop.
 #[derive(Clone, Copy)]
 pub enum MessageError {
     /// No copy of that round is in flight on the link.

@@ -41,7 +41,7 @@ pub struct BusFields {
     pub values: Vec<PortValue>,
 }
 
-// By hand, so that a bus let go is one call, which the crates above cite.
+// By hand, so that dropping a bus is one call, which the crates above cite.
 impl Drop for BusFields {
     fn drop(self) {
         let BusFields {
@@ -64,7 +64,7 @@ impl Drop for BusFields {
 }
 
 impl BusFields {
-    /// Makes room in the journal for the entries of one event, and for those that the nodes owe.
+    /// Makes room in the journal for the entries of one event, and for the later entries of the nodes.
     #[tactic(auto, using(crate::proofs::OwedEntries::all_owed))]
     pub fn reserve_entries(&mut self) -> Result<(), NoMemory>
         requires keeps { IsBusInvariant self.old }
@@ -94,7 +94,7 @@ impl BusFields {
         self.journal.reserve(most)
     }
 
-    /// Makes room for all that a round of a node needs: its entries, and its messages.
+    /// Makes room for everything that a round of a node needs: its entries, and its messages.
     pub fn reserve_round(&mut self, node: NodeNo) -> Result<(), NoMemory>
         requires keeps { IsBusInvariant self.old }
         requires node { node.0 < length (arc_value self.old.design).components }
@@ -116,8 +116,8 @@ impl BusFields {
         self.reserve_entries()
     }
 
-    /// Makes room for one more copy of a link's message, beside those that the rounds in hand send, and
-    /// for its entry.
+    /// Makes room for one more copy of a link's message, in addition to the copies that the current rounds
+    /// send, and for its entry.
     pub fn reserve_message(&mut self, link: LinkNo) -> Result<(), NoMemory>
         requires keeps { IsBusInvariant self.old }
         requires link { link.0 < length (arc_value self.old.design).links }
@@ -138,7 +138,7 @@ impl BusFields {
         self.reserve_entries()
     }
 
-    /// Reads the values of the root in ports in a round. It takes no memory.
+    /// Reads the values of the root in ports in a round. Does not allocate.
     pub fn read_values(&mut self, round: u32)
         requires keeps { IsBusInvariant self.old }
         ensures keeps { IsBusInvariant self.new }

@@ -12,7 +12,7 @@ use pals_runs::{Arrived, JournalEntry};
 
 impl Bus {
     /// A link's message of a round arrives, at a reading of its target's clock, in nanoseconds, or
-    /// without one. Where it comes too early, the run stops.
+    /// without one. If it arrives too early, the run stops.
     pub fn deliver(
         &mut self,
         link: LinkNo,

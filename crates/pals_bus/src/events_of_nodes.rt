@@ -15,9 +15,9 @@ use pals_node::{Done, Finished, Job, StartEnd};
 use pals_runs::JournalEntry;
 
 impl Bus {
-    /// A node starts its next round, and the job of its first step goes out. Where a message of the
-    /// round before is not there, the run stops. It reserves all memory that the end of the step and
-    /// the send of the round need. Where the nodes meet, this one may go on at the reading.
+    /// A node starts its next round, and returns the job of its first step. If a message of the round
+    /// before is missing, the run stops. The call reserves all memory that the end of the step and the
+    /// send of the round need. In virtual time, this node must be the next to act at the reading.
     pub fn start(&mut self, node: NodeNo, reading: Option<Nanos>) -> Result<Job, BusStartEnd>
         requires node { node.0 < length self.old.run.design.components }
         requires meets { self.old.meeting ≡ true → GoesAt self.old node.0 reading }
@@ -52,8 +52,8 @@ impl Bus {
         Ok(job)
     }
 
-    /// A node starts the next step of its round, and the job goes out. It reserves the memory that
-    /// the end of the step needs. Where the nodes meet, this one may go on at the reading.
+    /// A node starts the next step of its round, and returns its job. The call reserves the memory that
+    /// the end of the step needs. In virtual time, this node must be the next to act at the reading.
     pub fn step(&mut self, node: NodeNo, reading: Option<Nanos>) -> Result<Job, BusStepEnd>
         requires node { node.0 < length self.old.run.design.components }
         requires meets { self.old.meeting ≡ true → GoesAt self.old node.0 reading }
@@ -145,8 +145,8 @@ impl Bus {
         Ok(())
     }
 
-    /// A node sends its round: one message goes into flight on each link from it. It takes no memory.
-    /// Where the nodes meet, this one may go on at the reading.
+    /// A node sends its round: one message enters flight on each link from it. Does not allocate.
+    /// In virtual time, this node must be the next to act at the reading.
     pub fn send(&mut self, node: NodeNo, reading: Option<Nanos>) -> Result<(), BusSendEnd>
         requires node { node.0 < length self.old.run.design.components }
         requires reading { IfSome reading (λ at. at ≤ READING) }

@@ -1,4 +1,4 @@
-//! Messages that a send puts into flight and that leave it, the queues of those that become due, and
+//! Messages that enter and leave flight, the queues of the messages that become due, and
 //! room for them.
 ghost use Rattle.std.specs.Prelude.{◌≡◌, ◌+◌, ◌<◌, ◌≤◌, length, filter, All, OnOk, IfSome, option_map, slice_set};
 ghost use Rattle.std.specs.Arc.{arc_value};
@@ -56,7 +56,7 @@ pub fn reserve_queues(
 
 impl BusFields {
     /// Puts the messages of a node's round into flight, one on each link from it, in order. They
-    /// become due after the link's delay, where the round is sent at a reading. It takes no memory.
+    /// become due after the link's delay, if the round is sent at a reading. Does not allocate.
     pub fn send_messages(
         &mut self,
         node: NodeNo,
@@ -94,8 +94,8 @@ impl BusFields {
         }
     }
 
-    /// Takes the oldest copy of a link's message of a round out of its flight, and out of the queue of
-    /// its target; nothing where there is none. It takes no memory.
+    /// Removes the oldest copy of a link's message of a round from its flight, and from the queue of
+    /// its target; does nothing if there is none. Does not allocate.
     pub fn take_message(&mut self, link: LinkNo, round: u32) -> Option<Tuple>
         requires keeps { IsBusInvariant self.old }
         requires link { link.0 < length (arc_value self.old.design).links }
@@ -112,8 +112,8 @@ impl BusFields {
         self.flights[at].flight_take(round)
     }
 
-    /// Puts one more copy of a link's message into flight, and into the queue of its target. It takes
-    /// no memory.
+    /// Puts one more copy of a link's message into flight, and into the queue of its target. Does not
+    /// allocate.
     pub fn add_message(&mut self, link: LinkNo, copy: FlightCopy)
         requires link { link.0 < length self.old.flights }
         requires number { link.0 < length (arc_value self.old.design).links }
@@ -132,7 +132,7 @@ impl BusFields {
     }
 }
 
-/// Adds a message to the queue of its target, where it has a due reading. It takes no memory.
+/// Adds a message to the queue of its target, if it has a due reading. Does not allocate.
 pub fn add_due(queue: &mut DueQueue, due: Option<Nanos>, link: LinkNo, round: u32)
     requires { 1 ≤ queue.old.spare }
     ensures { queue.new ≡ with_due queue.old due link round }

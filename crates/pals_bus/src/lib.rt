@@ -1,6 +1,6 @@
-//! The bus of a run: all nodes, the messages in flight on all links, what becomes due to each node, and the journal
-//! of what happened. Each event is a step of the bus machine (`bus_machine`), which stands in the journal in the same
-//! call, so the journal replays to the bus, and the bus agrees with the composition.
+//! The bus of a run: all nodes, the messages in flight on all links, the messages that become due to each node, and the
+//! journal. Each event is a step of the bus machine (`bus_machine`), which the same call records in the journal, so the
+//! journal replays to the bus, and the bus agrees with the composition.
 #![tactic(auto)]
 
 mod all_due_arrivals;

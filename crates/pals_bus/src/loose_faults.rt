@@ -10,10 +10,10 @@ use pals_base::{LinkNo, NodeNo};
 use pals_node::{StartEnd, StepEnd};
 use pals_runs::Stop;
 
-/// Why a loose world does not go on after an event.
+/// Why a loose world stops at an event.
 #[derive(Clone, Copy)]
 pub enum LooseFault {
-    /// A stop stands: it stood before, or the event gives it.
+    /// The run has a stop: it had the stop before, or the event gives it.
     Stopped(Stop),
     /// The node's phase allows no such event.
     WrongPhase { node: NodeNo },

@@ -11,9 +11,9 @@ use crate::loose_faults::{
 use pals_base::{LinkNo, NodeNo};
 use pals_runs::Event;
 
-/// Does an event of a loose world, in which the nodes do not meet. The job of a start or a step is let go, and a
-/// finish runs it. An error is an event that is refused, and leaves the bus as it was, or a stop: one that stood
-/// before, or the one that the event gives.
+/// Executes an event of a loose world, whose nodes are not in virtual time. The job of a start or a step is dropped,
+/// and a finish runs it. An error is an event that is refused, and leaves the bus unchanged, or a stop: an earlier
+/// one, or the one that the event gives.
 pub fn apply_loose(bus: &mut Bus, event: &Event) -> Result<(), LooseFault>
     requires names { IsNamedIn bus.old.run.design event.now }
     requires loose { bus.old.meeting ≡ false }

@@ -8,19 +8,19 @@ ghost use Rattle.pals_bus.specs.proof.Meeting.{target_in, HasEnded, Meets};
 use crate::bus::Bus;
 use pals_base::{Nanos, NodeNo};
 
-/// Whether a node may go on where the nodes meet. The reading is in nanoseconds.
+/// Whether a node may act in virtual time. The reading is in nanoseconds.
 #[derive(Clone, Copy, PartialEq)]
 pub enum Meet {
     /// It may, at this reading.
     Go { reading: Nanos },
-    /// This node has to go on first.
+    /// This node has to act first.
     Wait { node: NodeNo },
-    /// A stop stands, or the run is closed.
+    /// The run has a stop, or is closed.
     Ended,
 }
 
 impl Bus {
-    /// The reading that a node waits for, or works at; none where it is done. It takes no memory.
+    /// The reading that a node waits for, or works at; `None` if it is done. Does not allocate.
     pub fn target(&self, node: NodeNo) -> Option<Nanos>
         requires { node.0 < length self.now.run.design.components }
         ensures { result ≡ target_in self.now node.0 }
@@ -28,8 +28,8 @@ impl Bus {
         self.fields.nodes.targets().target(node.0 as usize)
     }
 
-    /// Whether a node whose nodes meet, and whose next action is to come, may go on: it may where no
-    /// other node that is not done has a lesser target. It takes no memory.
+    /// Whether a node in virtual time, which has a next action, may act: it may if no other node that is
+    /// not done has a smaller target. Does not allocate.
     pub fn meet(&self, node: NodeNo) -> Meet
         requires node { node.0 < length self.now.run.design.components }
         requires meeting { self.now.meeting ≡ true }

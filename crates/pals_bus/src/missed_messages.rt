@@ -64,7 +64,7 @@ fn cause_by(sent: bool, flying: bool) -> Cause
     }
 }
 
-// The link into an in port, the first one where there is none.
+// The link into an in port, the first one if there is none.
 fn link_into(links: &[Link], node: NodeNo, port: u32) -> LinkNo
     requires { length links.now ≤ LINKS }
     ensures { result.0 ≡ unwrap_or (position (link_goes_to node.0 port) links.now) 0 }
@@ -83,7 +83,7 @@ fn place_of_link(links: &[Link], node: NodeNo, port: u32) -> Option<usize>
         .position(|link| link.target == node && link.in_port == port)
 }
 
-// The source of a link, the first node where there is no such link.
+// The source of a link, the first node if there is no such link.
 fn source_of(links: &[Link], number: LinkNo) -> NodeNo
     ensures { result ≡ (slice_index_or links.now number.0 no_link).source }
 {

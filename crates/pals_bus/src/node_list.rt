@@ -161,7 +161,7 @@ impl NodeList {
         answer
     }
 
-    /// A message of a round comes to an in port of a node. Its target stays.
+    /// An in port of a node receives a message of a round. Its target stays.
     pub fn arrive(&mut self, node: usize, port: u32, round: u32, tuple: Tuple) -> Arrived
         requires node { node < length self.old }
         requires port { port < length (node_of self.old node).state.slots }

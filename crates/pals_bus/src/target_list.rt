@@ -5,8 +5,8 @@ ghost use Rattle.pals_bus.specs.proof.LeastTargets.{is_below, IsFirst, IsBound};
 use pals_base::{ItemList, Nanos};
 use std::marker::Model;
 
-/// The target of each node, in order: the reading that it waits for, or works at, in nanoseconds; none
-/// where it is done. Contracts see them as a list. A least one of them is at hand.
+/// The target of each node, in order: the reading that it waits for, or works at, in nanoseconds; `None`
+/// if it is done. The model is the list. A smallest target is known at any time.
 #[derive(Drop)]
 pub struct TargetList {
     targets: ItemList<Option<Nanos>>,
@@ -34,22 +34,22 @@ impl TargetList {
         TargetList { targets, first }
     }
 
-    /// The target of a node; none where there is no such node.
+    /// The target of a node; `None` if there is no such node.
     pub fn target(&self, node: usize) -> Option<Nanos>
         ensures { result ≡ slice_index_or self.now node None }
     {
         target_at(self.targets.as_slice(), node)
     }
 
-    /// The number of a node with the least target, where there is a target.
+    /// The number of a node with the smallest target, if there is a target.
     pub fn first(&self) -> usize
         ensures { IsFirst self.now result }
     {
         self.first
     }
 
-    /// A node has another target. The next of the least ones is looked for from the last one on: where
-    /// targets rise, each is looked at once for each new least one, and once more.
+    /// Changes a node's target. The search for the next smallest target starts at the last one: if
+    /// targets rise, each is read once for each new smallest one, and once more.
     pub fn set(&mut self, node: usize, target: Option<Nanos>)
         requires { node < length self.old }
         ensures { self.new ≡ slice_set self.old node target }
@@ -64,7 +64,7 @@ impl TargetList {
     }
 }
 
-// A node with the least target, from a node on, where none is below a bound.
+// A node with the smallest target, from a node on, if none is below a bound.
 fn first_from(targets: &[Option<Nanos>], from: usize, bound: Option<Nanos>) -> usize
     requires { IsBound targets.now bound }
     ensures { IsFirst targets.now result }
@@ -77,7 +77,7 @@ fn first_from(targets: &[Option<Nanos>], from: usize, bound: Option<Nanos>) -> u
     first_of(targets)
 }
 
-// The first node with the least target.
+// The first node with the smallest target.
 fn first_of(targets: &[Option<Nanos>]) -> usize
     ensures { IsFirst targets.now result }
 {
@@ -90,7 +90,7 @@ fn first_of(targets: &[Option<Nanos>]) -> usize
     first
 }
 
-// The target of a node; none where there is no such node.
+// The target of a node; `None` if there is no such node.
 fn target_at(targets: &[Option<Nanos>], node: usize) -> Option<Nanos>
     ensures { result ≡ slice_index_or targets.now node None }
 {

@@ -1,4 +1,4 @@
--- For `take_step`: what is left of a job has the memory that the node's next job needs.
+-- For `take_step`: a finished job returns the memory that the node's next job needs.
 use Rattle.std.proofs.Common.{◌≡◌, ◌∙◌, ℕ, [], sym, ap, subst, length}
 use Rattle.std.specs.Arc.{arc_value}
 use Rattle.pals_base.specs.declared.frames.Frame.{Frame}

@@ -1,4 +1,4 @@
--- For `start` and `first_job`: what the start of a round leaves, and that the node's invariant is kept.
+-- For `start` and `first_job`: the state after the start of a round, and that the start maintains the node's invariant.
 use Rattle.std.proofs.Common.{◌≡◌, ◌∙◌, ℕ, suc, ◌+◌, ◌-◌, ◌<◌, false, List, [], ◌∷◌, length, map, replicate, Option}
 use Rattle.std.proofs.Common.{slice_index_or, refl, sym, ap, ap₂, subst, arith}
 use Rattle.std.specs.Prelude.{zip}

@@ -1,4 +1,4 @@
--- For `end_step` and `finish`: what the end of a step leaves, and that the node's invariant is kept.
+-- For `end_step` and `finish`: the state after the end of a step, and that it maintains the node's invariant.
 use Rattle.std.proofs.Common.{◌≡◌, ◌∙◌, inl, inr, ℕ, ◌-◌, ◌≤◌, nat_eq, Bool, true, false, List, [], length}
 use Rattle.std.proofs.Common.{slice_index_or, refl, sym, ap, ap₂, subst, arith}
 use Rattle.std.specs.Prelude.{if◌then◌else◌}
@@ -96,8 +96,8 @@ makes f step frame outs keeps runs left =
       count_is = ap (λ (r : Fired). length r.outs) is ∙ leaves_outs p f.frame inputs keeps.program keeps.frame;
     }
 
--- ---- what stays
--- all that a node keeps, except its phase
+-- ---- the unchanged parts
+-- everything that a node stores, except its phase
 pub record KeepsRest (f : NodeFields) : Type 0 where
   pub program : IsProgram (arc_value f.plan)
   pub rounds : f.rounds ≤ ROUNDS

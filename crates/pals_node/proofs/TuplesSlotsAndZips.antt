@@ -121,7 +121,7 @@ empty_at [] k within = refl
 empty_at (x ∷ xs) zero within = refl
 empty_at (x ∷ xs) (suc k) within = empty_at xs k (omega arith)
 
--- a column of what a function gives
+-- a column of the results of a function
 pub column_of : {X : Type 0} (f : X → List PortValue) (at : ℕ) (xs : List X)
     → column at (map f xs) ≡ map (λ x. slice_index_or (f x) at Absent) xs
 column_of f at [] = refl

@@ -8,8 +8,8 @@ use std::alloc::Global;
 use step_code::Code;
 use step_vm::Room;
 
-/// What the job of a step is made of: the frame that it goes on from, its inputs, the frame and the
-/// outputs that it leaves, and the room for its code. What it holds is of no use to the next job.
+/// The memory of a step's job: the frame before the step, its inputs, the frame and the outputs
+/// after it, and the room for its code. Its contents do not matter to the next job.
 #[derive(Drop)]
 pub struct Memory {
     pub frame: Frame,
@@ -19,8 +19,8 @@ pub struct Memory {
     pub room: Room,
 }
 
-/// The memory for a step of a code that goes on from this frame with these inputs: that of an earlier
-/// job, where there is some, and else a new one.
+/// The memory for a step of a code that continues from this frame with these inputs: the memory of an
+/// earlier job, if there is one, and otherwise a new one.
 pub fn memory_for(
     alloc: Global,
     code: &Code,
@@ -57,7 +57,7 @@ fn new_memory(alloc: Global, code: &Code, frame: &Frame, inputs: &Tuple) -> Resu
 }
 
 impl Memory {
-    // Writes what a step goes on from. It takes no memory.
+    // Writes the frame and the inputs of a step. Does not allocate.
     fn fill(&mut self, code: &Code, frame: &Frame, inputs: &Tuple)
         requires frame { FitsCode code.now frame.now }
         requires inputs { length inputs.now ≡ code.now.ins }

@@ -1,6 +1,6 @@
-//! One node: the machine that runs a component, round by round. It starts a round once its messages
-//! are there, hands the job of each step out, takes what was done back, and sends what its steps
-//! gave. Its contracts are the rows of the bus machine for one node (`bus_machine`).
+//! One node: the machine that runs a component, round by round. It starts a round once its messages have
+//! arrived, returns the job of each step, takes the finished job, and sends the outputs of its steps. Its
+//! contracts are the rows of the bus machine for one node (`bus_machine`).
 #![tactic(auto)]
 
 mod instruction_key;

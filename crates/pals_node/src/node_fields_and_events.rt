@@ -1,4 +1,4 @@
-//! The fields of a node, and what each event does with them.
+//! The fields of a node, and the effect of each event on them.
 ghost use Rattle.std.specs.Prelude.{◌≡◌, ◌+◌, ◌<◌, ◌≤◌, ◌++◌, ◌∷◌, IfOk, OnOk, OnErr, length, replicate, vec_len};
 ghost use Rattle.std.specs.Prelude.{vec_capacity, if◌then◌else◌, Some, None, nat_eq, true, false, [], All, Option};
 ghost use Rattle.std.specs.Arc.{arc_value};
@@ -30,8 +30,8 @@ use std::alloc::Global;
 use std::sync::Arc;
 use step_vm::Room;
 
-/// What a node stands at, the room for its steps, what its last start reserved, and the memory of the
-/// last job that came back.
+/// The state of a node, the room for its steps, the memory that its last start reserved, and the memory of
+/// the last finished job.
 pub struct NodeFields {
     pub alloc: Global,
     pub plan: Arc<NodePlan>,
@@ -51,7 +51,7 @@ pub struct NodeFields {
     pub spare: Option<Memory>,
 }
 
-// By hand, so that a node let go is one call, which the crates above cite.
+// By hand, so that dropping a node is one call, which the crates above cite.
 impl Drop for NodeFields {
     fn drop(self) {
         let NodeFields {
@@ -125,7 +125,7 @@ impl NodeFields {
         Job::new(self.alloc, &self.plan, start, None)
     }
 
-    /// Starts the next round, and reserves what its steps, its part and its messages need.
+    /// Starts the next round, and reserves the memory of its steps, its part and its messages.
     pub fn start(&mut self, env: &[PortValue]) -> Result<Job, NoMemory>
         requires keeps { Keeps self.old }
         requires waits { self.old.phase ≡ Phase.Waiting }
@@ -188,7 +188,7 @@ impl NodeFields {
         Ok((vectors, job))
     }
 
-    // Begins a round with what its start reserved. It takes no memory.
+    // Begins a round with the memory that its start reserved. Does not allocate.
     fn begin(&mut self, room: RoundRoom)
         requires count { self.old.count < ROUNDS }
         ensures { self.new ≡ begun_with self.old room }
@@ -209,7 +209,7 @@ impl NodeFields {
         self.messages = Some(messages);
     }
 
-    /// Runs the step that is out here. It takes no memory.
+    /// Runs the outstanding step here. Does not allocate.
     pub fn run_step(&mut self, step: u32)
         requires keeps { Keeps self.old }
         requires runs { self.old.phase ≡ Running step }
@@ -227,7 +227,7 @@ impl NodeFields {
         self.end_step(step);
     }
 
-    /// Takes the result of the job that is out. It takes no memory.
+    /// Takes the result of the outstanding job. Does not allocate.
     pub fn take_step(&mut self, step: u32, done: Done)
         requires keeps { Keeps self.old }
         requires runs { self.old.phase ≡ Running step }
@@ -263,7 +263,7 @@ impl NodeFields {
         self.phase = after_round(self.sent, self.count, self.rounds);
     }
 
-    /// Sends the round in hand. It takes no memory.
+    /// Sends the current round. Does not allocate.
     pub fn send(&mut self) -> ItemList<Tuple>
         requires keeps { Keeps self.old }
         requires may { may_send (arc_value self.old.plan).plan (state_of self.old) ≡ true }

@@ -44,7 +44,7 @@ impl Model for NodePlan {
 }
 
 impl NodePlan {
-    /// The plan of a design's node. The code means what its component does.
+    /// The configuration of a design's node. The code means its component's behaviour.
     pub fn new(
         alloc: Global,
         design: &Design,

@@ -23,7 +23,7 @@ pub fn empty_slots(alloc: Global, inputs: &[Input]) -> Result<ItemList<Slot>, No
     Ok(slots)
 }
 
-/// Empties all slots. It takes no memory.
+/// Empties all slots. Does not allocate.
 pub fn empty_all(slots: &mut ItemList<Slot>)
     ensures { slots.new ≡ map (λ (_ : Option (List PortValue)). None) slots.old }
 {

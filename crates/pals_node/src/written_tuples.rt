@@ -18,7 +18,7 @@ pub fn absent_tuples(alloc: Global, count: usize, places: u32) -> Result<ItemLis
     Ok(tuples)
 }
 
-/// Writes a value into the place with a number of each tuple. It takes no memory.
+/// Writes a value into the place with a number of each tuple. Does not allocate.
 pub fn write_places(tuples: &mut ItemList<Tuple>, at: usize, values: &[PortValue])
     requires count { length values.now ≡ length tuples.old }
     requires within { All (λ tuple. at < length tuple) tuples.old }
@@ -29,8 +29,8 @@ pub fn write_places(tuples: &mut ItemList<Tuple>, at: usize, values: &[PortValue
     }
 }
 
-/// Writes the first places of the tuples of these ports, and absent places after them. It takes no
-/// memory.
+/// Writes the first places of the tuples of these ports, and absent places after them. Does not
+/// allocate.
 pub fn write_ports(to: &mut ItemList<Tuple>, from: &[Tuple], ports: &[u32], count: u32, places: u32)
     requires ports { All (λ port. port < length from.now) ports.now }
     requires to_count { length to.old ≡ length ports.now }

@@ -26,7 +26,7 @@ use Rattle.step_code.proofs.VerifiedInstructionsAndEntries.{verified_entry}
 use Rattle.step_code.proofs.VerifiedPremises.{verified_nested, verified_fed, verified_level}
 use Rattle.step_code.proofs.StepResults.{entry_within}
 
--- the code, what a step reads, and what it began with
+-- the code, the inputs of a step, and its initial frame
 pub record Task : Type 0 where
   pub parts : CodeParts
   pub held : List ℤ
@@ -51,7 +51,7 @@ pub record IsTask (t : Task) : Type 0 where
   pub held' : length t.held ≡ t.parts.ins
   pub inputs' : length t.inputs ≡ t.parts.ins
 
--- a run stands somewhere, and what is left of it is the whole
+-- a run is at a place, and the rest of it leads to the same result as the whole
 pub record IsUnderWay (t : Task) (size place : ℕ) (stack slots : List ℤ) (outs : List PortValue)
     (stack_size : ℕ) : Type 0 where
   pub stands : Stands t.parts.instrs t.parts.entries (t.parts.vars + t.parts.loops) t.parts.outs place stack slots outs

@@ -1,4 +1,5 @@
--- A step of code that has not halted leaves what its run from the state's entry leaves: for the machine's step.
+-- The result of a step of code that has not halted is the result of its run from the state's entry: for the machine's
+-- step.
 use Rattle.std.proofs.Common.{◌≡◌, ◌∙◌, ℕ, List, Some, None, sym, ap}
 use Rattle.std.specs.Prelude.{slice_get}
 use Rattle.pals_base.specs.declared.frames.Frame.{Frame}

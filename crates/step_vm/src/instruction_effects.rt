@@ -11,7 +11,7 @@ use crate::stack::Stack;
 use pals_base::{Op, PortValue, Trap};
 use step_code::Instr;
 
-/// Where an instruction leads: to a place, to the end of the step in a state, or to a trap.
+/// The successor of an instruction: a place, the end of the step in a state, or a trap.
 #[derive(Clone, Copy)]
 pub enum Continuation {
     Goes(usize),
@@ -26,7 +26,7 @@ pub struct CodeInputs<'a> {
     pub present: &'a [PortValue],
 }
 
-// Whether an input came to the port in this step.
+// Whether the port received an input in this step.
 #[inline(always)]
 fn is_fresh(present: &[PortValue], port: usize) -> bool
     requires { port < length present.now }

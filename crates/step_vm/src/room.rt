@@ -8,8 +8,8 @@ use std::alloc::Global;
 use std::marker::Model;
 use step_code::Code;
 
-/// The cells of a stack and the slots of variables and loops, which contracts see as their numbers.
-/// What a room holds before a step is of no use to it.
+/// The cells of a stack and the slots of variables and loops. The model has their numbers.
+/// The contents of a room before a step do not matter.
 #[derive(Drop)]
 pub struct Room {
     pub(crate) stack: Stack,

@@ -15,14 +15,14 @@ use crate::stack::Stack;
 use pals_base::{Frame, ItemList, PortValue, Trap};
 use step_code::{Code, CodeParts};
 
-/// How a run comes to its end: in a state, or by a trap.
+/// How a run ends: in a state, or by a trap.
 enum RunResult {
     In(u32),
     Trapped(Trap),
 }
 
-/// One step of the code at these inputs: the frame and the outputs become those that it leaves, and
-/// the frame fits the code again. It takes no memory and refuses nothing.
+/// One step of the code at these inputs: overwrites the frame and the outputs with the results, and
+/// the frame fits the code again. Does not allocate, and never fails.
 pub fn run(
     code: &Code,
     room: &mut Room,
@@ -41,8 +41,8 @@ pub fn run(
     take_step(code.parts(), room, frame, inputs, outs);
 }
 
-// One step of the code of these parts at these inputs: the frame and the outputs become those that
-// it leaves.
+// One step of the code of these parts at these inputs: overwrites the frame and the outputs with the
+// results.
 fn take_step(
     parts: &CodeParts,
     room: &mut Room,
@@ -96,7 +96,7 @@ fn react(
     leave(ended, frame, slots, outs);
 }
 
-// What a run leaves: the state and the variables where it ended, or a trap and no outputs.
+// The result of a run: the state and the variables at its end, or a trap and no outputs.
 fn leave(ended: RunResult, frame: &mut Frame, slots: &[i64], outs: &mut [PortValue])
     requires { length frame.old.vars ≤ length slots.now }
     ensures { LeavesBehind ended slots.now frame.old frame.new outs.old outs.new }

@@ -18,7 +18,7 @@ use pals_model::{Component, Part};
 use std::alloc::Global;
 use std::mem::swap;
 
-/// The room in which one component makes its steps: the allocator of its loops, its transitions by
+/// The room in which one component runs its steps: the allocator of its loops, its transitions by
 /// state, the inputs and outputs of a step, the frame before it, the outputs of each step of the
 /// round, and the number of steps that are sent.
 pub struct Stage {

@@ -1,5 +1,5 @@
--- What is looked at of names that are declared twice among the ports of a type and beside them: enough for the first
--- fault to be in it.
+-- The comparisons of names that are declared twice among the ports of a type and other declarations: enough to find the
+-- first fault.
 use Rattle.std.specs.Prelude.{◌||◌, nat_lt, ℕ, List, [], ◌∷◌, ◌++◌, flat_map, Option, Some, None, slice_get}
 use Rattle.std.specs.Prelude.{if◌then◌else◌}
 use Rattle.std.specs.List.{filter_map}
@@ -21,11 +21,11 @@ abbrev pub entry_again : Option SpelledName → List PackageFault
 entry_again None = []
 entry_again (Some x) = Twice x.name x.at ∷ []
 
--- at a declaration by the earliest port of its name, and the earliest of its name beside the ports
+-- at a declaration by the earliest port of its name, and the earliest other declaration of its name
 abbrev pub again_beside : Option NumberedPlace → Option NumberedPlace → SpelledName → List PackageFault
 again_beside port other x = if is_before port x.at || is_before other x.at then Twice x.name x.at ∷ [] else []
 
--- at the earliest port of its name, where that stands behind the declaration
+-- at the earliest port of its name, if that follows the declaration
 abbrev pub port_again : List SpelledName → Option NumberedPlace → SpelledName → List PackageFault
 port_again ports None x = []
 port_again ports (Some port) x = if nat_lt x.at port.at then entry_again (slice_get ports port.number) else []

@@ -6,7 +6,7 @@ use Rattle.aadl_names.specs.declared.fault.PackageFault.TheVariants.{Twice}
 use Rattle.aadl_names.specs.declared.declared_name.SpelledName.{SpelledName}
 use Rattle.aadl_names.specs.declared.numbered_place.NumberedPlace.{NumberedPlace}
 
--- the one that stands before the other; where both stand at one place, the first
+-- the declaration that precedes the other; if both are at one place, the first
 abbrev pub sooner : Option NumberedPlace → Option NumberedPlace → Option NumberedPlace
 sooner None b = b
 sooner (Some a) None = Some a
@@ -26,6 +26,6 @@ abbrev pub is_before : Option NumberedPlace → ℕ → Bool
 is_before None at = false
 is_before (Some spot) at = nat_lt spot.at at
 
--- what is found at a declaration, by the earliest one of its name
+-- the finding at a declaration, by the earliest one of its name
 abbrev pub again_by : Option NumberedPlace → SpelledName → List PackageFault
 again_by spot x = if is_before spot x.at then Twice x.name x.at ∷ [] else []

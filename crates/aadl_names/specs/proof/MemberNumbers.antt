@@ -1,4 +1,4 @@
--- The numbers of what a declaration has: the ports of a type, or the subcomponents of an implementation.
+-- The numbers of the members of a declaration: the ports of a type, or the subcomponents of an implementation.
 use Rattle.std.specs.Prelude.{ℕ, List, Option, Some, None}
 use Rattle.aadl_tree.specs.Declarations.{Declaration, type, implementation}
 use Rattle.aadl_names.specs.NameResolution.{port_named, sub_named}

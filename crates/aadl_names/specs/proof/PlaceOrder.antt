@@ -1,4 +1,4 @@
--- Which places stand before which in the parts of a tree.
+-- Which places precede which in the parts of a tree.
 use Rattle.std.specs.Prelude.{◌≡◌, ℕ, List, [], ◌++◌, flat_map, Contains}
 use Rattle.aadl_tree.specs.SpellingParts.{SpellingPart, token, may}
 
@@ -10,7 +10,7 @@ places_in (may extra) = []
 abbrev pub places_of : List (SpellingPart ℕ) → List ℕ
 places_of parts = flat_map places_in parts
 
--- one place is kept in front of some part, and the other behind
+-- one place is stored before some part, and the other after it
 pub record StandsBefore (parts : List (SpellingPart ℕ)) (p q : ℕ) : Type 0 where
   pub front : List (SpellingPart ℕ)
   pub back : List (SpellingPart ℕ)

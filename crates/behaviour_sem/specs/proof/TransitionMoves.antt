@@ -1,4 +1,5 @@
--- The dispatch transition among those that leave a state, and the move along the first one whose guard is true.
+-- The dispatch transition among the transitions that leave a state, and the move along the first one whose guard is
+-- true.
 use Rattle.std.specs.Prelude.{find, Bool, false, List, Option, None, Some, Result, Ok}
 use Rattle.pals_base.specs.declared.basic_types.Trap.{Trap}
 use Rattle.pals_base.specs.declared.frames.Frame.{Frame}

@@ -19,7 +19,7 @@ copies_of round rounds = option_map_or (λ entry. entry.copies) (find (is_for ro
 abbrev pub AreRising : List RoundCopies → Type 0
 AreRising rounds = AllPairs (λ earlier later. earlier.round < later.round) rounds
 
--- the copies of each round are those of a list in their order
+-- the copies of each round are the copies of a list, in their order
 abbrev pub AreByRound : List RoundCopies → List FlightCopy → Type 0
 AreByRound rounds copies = (round : ℕ) → copies_of round rounds ≡ filter (is_of round) copies
 

@@ -24,11 +24,11 @@ use Rattle.pals_node.specs.declared.refusals.StartEnd.TheVariants as start
 use Rattle.pals_bus.specs.declared.bus_error.BusError.TheVariants as fault
 use Rattle.pals_bus.specs.declared.bus_error.MessageError.TheVariants as message
 
--- no stop stands
+-- the run has no stop
 abbrev pub Going : BusValue → Type 0
 Going b = b.state.stop ≡ None
 
--- the bus does not go on after an event: a stop stood before, or none did and the event is refused for this
+-- the bus stops at an event: it had a stop before, or it had none and the event is refused for this reason
 abbrev pub Faults : {E : Type 0} → BusValue → (E → Type 0) → BusError E → Type 0
 Faults b Causes (fault.Stopped why) = b.state.stop ≡ Some why
 Faults b Causes (fault.Refused cause) = Going b × Causes cause
@@ -41,7 +41,7 @@ pub record StartsRound (old : BusValue) (node : NodeNo) (reading : Option ℕ) (
   pub node_starts : Starts (node_value old node.0) (values_at old.run.env (node_at old.state node.0).count) reading
       (node_value new node.0) job
 
--- the start misses a message, and this stop stands from now on
+-- the start misses a message, and the run has this stop from now on
 pub record MissesMessage (old : BusValue) (node : NodeNo) (reading : Option ℕ) (new : BusValue)
     (why : Stop) : Type 0 where
   pub happens : Happens old (Start node reading) new
@@ -49,12 +49,12 @@ pub record MissesMessage (old : BusValue) (node : NodeNo) (reading : Option ℕ)
   pub misses : StartEnds (node_value old node.0) reading (start.Missed port)
   pub stops : new.state.stop ≡ Some why
 
--- the stop stood before, or the start gives it
+-- the run had the stop before, or the start gives it
 abbrev pub StoppedAtStart : BusValue → NodeNo → Option ℕ → BusValue → Stop → Type 0
 StoppedAtStart old node reading new why =
     ((old.state.stop ≡ Some why) × (new ≡ old)) ⊎ MissesMessage old node reading new why
 
--- nothing has changed, no stop stands, and the node itself refuses; where it misses a message, the run stops instead
+-- nothing has changed, the run has no stop, and the node itself refuses; if it misses a message, the run stops instead
 pub record RefusesStart (old : BusValue) (node : NodeNo) (reading : Option ℕ) (new : BusValue)
     (why : StartEnd) : Type 0 where
   pub same : new ≡ old
@@ -76,7 +76,7 @@ abbrev pub BusStepEnds : BusValue → NodeNo → Option ℕ → BusError StepEnd
 BusStepEnds b node reading = Faults b (StepEnds (node_value b node.0) reading)
 
 -- ---- Finish
--- the step is finished with what was handed in, or by running the job here
+-- the step is finished with the submitted job, or by running the job here
 pub record FinishesStep (old : BusValue) (node : NodeNo) (job : JobValue) (new : BusValue)
     (how : Finished) : Type 0 where
   pub happens : Happens old (Finish node) new

@@ -27,7 +27,7 @@ use Rattle.pals_bus.specs.proof.DueQueues.{AreQueues}
 abbrev pub copies_in : List FlightState → List (List FlightCopy)
 copies_in flights = map (λ flight. flight.copies) flights
 
--- those of a flight, none where it is not there
+-- the copies of a flight, [] if it does not exist
 abbrev pub copies_in_option : Option FlightState → List FlightCopy
 copies_in_option None = []
 copies_in_option (Some flight) = flight.copies
@@ -52,7 +52,7 @@ value_of f = record {
 abbrev pub node_in : BusFields → ℕ → NodeValue
 node_in f node = slice_index_or f.nodes node no_node_value
 
--- a node is the design's, of as many rounds, and its code means what its component does
+-- a node belongs to the design, has as many rounds, and its code means its component's behaviour
 pub record IsNodeOf (design : DesignParts) (rounds node : ℕ) (n : NodeValue) : Type 0 where
   pub plan : n.program.plan ≡ plan_of design node
   pub rounds_are : n.rounds ≡ rounds

@@ -45,7 +45,7 @@ pub data TakesDue (node reading : ℕ) : BusValue → BusValue → Type 0 where
       → IsNextDue b node reading link.0 round → Happens b (Arrive link round (Some reading)) c
       → TakesDue node reading a c
 
--- all have arrived, and no stop stands
+-- all have arrived, and the run has no stop
 pub record TakesAllDue (old : BusValue) (node reading : ℕ) (new : BusValue) : Type 0 where
   pub takes : TakesDue node reading old new
   pub going : new.state.stop ≡ None
@@ -56,7 +56,7 @@ pub record AreLeft (b : BusValue) (node reading : ℕ) (left : List DueEntry) : 
   pub counts : (e : DueEntry) → count_by (is_entry e) left ≡ (if is_due_at reading e then copies_in_flight b node e else 0)
   pub order : AllPairs (λ earlier later. comes_first later earlier ≡ false) left
 
--- the stop stood before, or the last of them that arrived gave it
+-- the run had the stop before, or the last of the arrivals gave it
 abbrev pub DueEnds : BusValue → ℕ → ℕ → BusValue → BusError AllocError → Type 0
 DueEnds old node reading new (fault.Stopped why) =
     ((old.state.stop ≡ Some why) × (new ≡ old))

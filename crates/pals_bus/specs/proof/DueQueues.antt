@@ -74,7 +74,7 @@ without_due entries (Some due) link round = without_entry (record { due = due; l
 abbrev pub is_between : ℕ → ℕ → Link → Bool
 is_between source node link = nat_eq link.source.0 source && nat_eq link.target.0 node
 
--- the messages of the first links from a node are sent: each queue has room for those of its other links too
+-- the messages of the first links from a node are sent: each queue also has room for the messages of its other links
 pub record AreQueuesAmid (source first : ℕ) (links : List Link) (nodes : List NodeValue) (flights : List FlightState)
     (queues : List QueueState) : Type 0 where
   pub count : length queues ≡ length nodes
@@ -83,7 +83,7 @@ pub record AreQueuesAmid (source first : ℕ) (links : List Link) (nodes : List 
   pub room : (node : ℕ) → count_by (is_between source node) (drop first links) + count_by (is_awaited nodes node) links
       ≤ (slice_index_or queues node no_queue).spare
 
--- ---- those that are due, by link and then by round
+-- ---- the due messages, by link and then by round
 abbrev pub comes_first : DueEntry → DueEntry → Bool
 comes_first a b = nat_lt a.link.0 b.link.0 || nat_eq a.link.0 b.link.0 && nat_lt a.round b.round
 

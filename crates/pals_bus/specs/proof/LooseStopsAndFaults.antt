@@ -19,7 +19,7 @@ use Rattle.pals_bus.specs.declared.bus_error.BusError.TheVariants as bus_fault
 use Rattle.pals_bus.specs.declared.bus_error.MessageError.TheVariants as message
 use Rattle.pals_bus.specs.declared.loose_faults.LooseFault.TheVariants as fault
 
--- the stop stood before, or the event gave it
+-- the run had the stop before, or the event gave it
 abbrev pub StopsLoose : BusValue → Event → BusValue → Stop → Type 0
 StopsLoose old e new why =
     ((old.state.stop ≡ Some why) × (new ≡ old)) ⊎ (HappensLoose old e new × (new.state.stop ≡ Some why))
@@ -31,7 +31,7 @@ LooseEnds old e new (fault.NoSuchMessage link round) = IsRefused old e new × (e
 LooseEnds old e new fault.Timed = (new ≡ old) × (old.state.stop ≡ None) × (loose_event e ≡ None)
 LooseEnds old e new fault.Memory = new ≡ old
 
--- ---- why nothing happens, as a loose world says it
+-- ---- why nothing happens, as a loose world reports it
 abbrev pub start_fault : BusError StartEnd → NodeNo → LooseFault
 start_fault (bus_fault.Stopped why) node = fault.Stopped why
 start_fault (bus_fault.Refused (start.NotYet alarm)) node = fault.WrongPhase node

@@ -1,4 +1,4 @@
--- Nodes that meet: each goes on once no other waits for a lesser reading.
+-- Virtual time: each node acts once no other node waits for a smaller reading.
 use Rattle.std.specs.Prelude.{◌≡◌, ◌≢◌, ◌⊎◌, ℕ, ◌<◌, ◌≤◌, true, length, Option, Some, None, option_map}
 use Rattle.bus_machine.specs.Plans.{plan_of}
 use Rattle.bus_machine.specs.BusStates.{node_at}
@@ -7,7 +7,7 @@ use Rattle.pals_bus.specs.declared.meeting.Meet.{Meet}
 use Rattle.pals_bus.specs.BusValues.{BusValue}
 use Rattle.pals_bus.specs.declared.meeting.Meet.TheVariants as meet
 
--- the reading that a node waits for, or works at; none where it is done
+-- the reading that a node waits for, or works at; `None` if it is done
 abbrev pub target_in : BusValue → ℕ → Option ℕ
 target_in b node = let plan = plan_of b.run.design node in
     option_map (target plan) (action_of plan (node_at b.state node))
@@ -17,7 +17,7 @@ abbrev pub IsLeast : BusValue → ℕ → Type 0
 IsLeast b reading =
     (other least : ℕ) → other < length b.run.design.components → target_in b other ≡ Some least → reading ≤ least
 
--- a stop stands, or the run is closed
+-- the run has a stop, or is closed
 abbrev pub HasEnded : BusValue → Type 0
 HasEnded b = (b.state.stop ≢ None) ⊎ (b.closed ≡ true)
 
@@ -30,7 +30,7 @@ pub record IsBefore (b : BusValue) (other node : ℕ) : Type 0 where
   pub least_is : target_in b other ≡ Some least
   pub less : least < own
 
--- it may go on at this reading: no stop stands, the run is not closed, and no other node has a lesser target
+-- it may act at this reading: the run has no stop and is not closed, and no other node has a smaller target
 pub record GoesAt (b : BusValue) (node : ℕ) (reading : Option ℕ) : Type 0 where
   pub going : HasEnded b → ⊥
   pub own : ℕ

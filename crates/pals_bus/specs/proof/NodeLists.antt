@@ -10,7 +10,7 @@ use Rattle.pals_bus.specs.proof.StepCodesOfNodes.{code_at}
 abbrev pub node_of : List NodeValue → ℕ → NodeValue
 node_of nodes node = slice_index_or nodes node no_node_value
 
--- the reading that a node waits for, or works at; none where it is done
+-- the reading that a node waits for, or works at; `None` if it is done
 abbrev pub target_of_node : NodeValue → Option ℕ
 target_of_node n = option_map (target n.program.plan) (action_of n.program.plan n.state)
 

@@ -2,7 +2,7 @@
 use Rattle.pals_bus.specs.declared.bus_error.BusError.{BusError}
 use Rattle.pals_bus.specs.declared.bus_error.BusError.TheVariants.{Stopped, Refused}
 
--- no stop stands, and the event is refused for something of this kind
+-- the run has no stop, and the event is refused for a reason of this kind
 abbrev pub IsRefusedBy : {E : Type 0} → (E → Type 0) → BusError E → Type 0
 IsRefusedBy Causes (Stopped why) = ⊥
 IsRefusedBy Causes (Refused cause) = Causes cause

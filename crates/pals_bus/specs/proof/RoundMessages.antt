@@ -16,7 +16,7 @@ use Rattle.pals_bus.specs.proof.OutOfRangeDefaults.{no_flight}
 abbrev pub is_from : ℕ → Link → Bool
 is_from node link = nat_eq link.source.0 node
 
--- how many links from a node stand before one
+-- the number of links from a node before one
 abbrev pub place_of : ℕ → List Link → ℕ → ℕ
 place_of node links number = length (filter (is_from node) (take number links))
 

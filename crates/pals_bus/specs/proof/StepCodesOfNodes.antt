@@ -12,7 +12,7 @@ no_code = record { instrs = []; entries = []; vars = 0; loops = 0; ins = 0; outs
 abbrev pub code_at : List CodeParts → ℕ → CodeParts
 code_at codes node = slice_index_or codes node no_code
 
--- those of nodes
+-- the codes of nodes
 abbrev pub codes_in : List NodeValue → List CodeParts
 codes_in nodes = map (λ n. n.program.code) nodes
 

@@ -68,12 +68,12 @@ abbrev pub Finishes : NodeValue → NodeValue → ℕ → Type 0
 Finishes old new i =
     (old.state.phase ≡ Running i) × (new ≡ with_state old (finished old.program.plan old.rounds i old.state))
 
--- what is handed in is used exactly where it is of the job that is out
+-- a submitted job is used if and only if it belongs to the outstanding job
 abbrev pub IsUsed : Finished → JobValue → JobValue → Type 0
 IsUsed Used job out = job ≡ out
 IsUsed Redone job out = job ≢ out
 
--- a finish, with what was handed in
+-- a finish, with the submitted job
 pub record FinishesWith (old : NodeValue) (job : JobValue) (new : NodeValue) (how : Finished) : Type 0 where
   pub running : ℕ
   pub finishes : Finishes old new running

@@ -25,7 +25,7 @@ abbrev pub HasMemory : CodeParts → Option Memory → Type 0
 HasMemory code None = Unit {0}
 HasMemory code (Some memory) = IsMemoryFor code memory
 
--- what a step goes on from is in its memory
+-- the frame before a step is in its memory
 pub record IsFilled (code : CodeParts) (frame : Frame) (inputs : List PortValue) (memory : Memory) : Type 0 where
   pub frame_is : memory.frame ≡ frame
   pub inputs_are : memory.inputs ≡ inputs

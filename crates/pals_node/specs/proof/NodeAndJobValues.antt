@@ -10,7 +10,7 @@ use Rattle.bus_machine.specs.declared.plan.Plan.{Plan}
 use Rattle.bus_machine.specs.Plans.{plan_of}
 use Rattle.bus_machine.specs.Nodes.{NodeState, StepWork, job_of, opening_node}
 
--- what a node is told: its plan, and the code of its steps
+-- a node's configuration: its plan, and the code of its steps
 pub record Program : Type 0 where
   pub plan : Plan
   pub code : CodeParts

@@ -124,7 +124,7 @@ value_of f = record { program = arc_value f.plan; rounds = f.rounds; state = sta
 abbrev pub finished_value : NodeFields → ℕ → NodeValue
 finished_value f step = with_state (value_of f) (finished (arc_value f.plan).plan f.rounds step (state_of f))
 
--- a step of a round is made: its frame and its row of outputs stand in the fields
+-- a step of a round is completed: its frame and its row of outputs are in the fields
 pub record IsStepMade (f : NodeFields) (step : ℕ) : Type 0 where
   pub plan : IsPlan (arc_value f.plan).plan
   pub count : f.count ≤ f.rounds
@@ -132,7 +132,7 @@ pub record IsStepMade (f : NodeFields) (step : ℕ) : Type 0 where
   pub frame : HasShape (arc_value f.plan).plan.behaviour f.frame
   pub row : length f.row.items ≡ length (arc_value f.plan).plan.behaviour.outs
 
--- what a node stands at after it
+-- the state of a node after it
 abbrev pub ended_at : Plan → NodeFields → ℕ → NodeState
 ended_at plan f step =
     finished_with plan f.rounds step (state_of f) (record { frame = f.frame; outs = f.row.items })

@@ -1,4 +1,4 @@
--- The start of a round: what it reserves, and what the node then is.
+-- The start of a round: the memory that it reserves, and the node's state after it.
 use Rattle.std.specs.Prelude.{◌≡◌, ℕ, ◌+◌, false, List, [], Option, Some, None, length, map, replicate, slice_index_or}
 use Rattle.pals_base.specs.declared.basic_types.PortValue.{PortValue}
 use Rattle.bus_machine.specs.Nodes.{vectors_of}
@@ -30,7 +30,7 @@ abbrev pub first_job_of : Program → ℕ → Frame → List PortValue → List 
 first_job_of program round frame env slots =
     job_value program round 0 frame (slice_index_or (vectors_of program.plan env slots) 0 [])
 
--- a node that runs the first step of its next round, with what was reserved for it
+-- a node that runs the first step of its next round, with the reserved memory
 abbrev pub begun_with : NodeFields → RoundRoom → NodeFields
 begun_with f room = record f {
   count = f.count + 1;

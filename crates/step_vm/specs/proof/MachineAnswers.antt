@@ -1,4 +1,4 @@
--- What the machine answers and leaves, against what the definitions say.
+-- The results of the machine, compared with the definitions.
 use Rattle.std.specs.Prelude.{◌≡◌, ℕ, ℤ, List, [], ◌∷◌, Some, length, take, replicate, ◌+◌, Result}
 use Rattle.pals_base.specs.declared.frames.Frame.{Frame}
 use Rattle.pals_base.specs.declared.basic_types.PortValue.{PortValue}
@@ -18,7 +18,7 @@ use Rattle.step_vm.specs.declared.instruction_effects.Continuation.TheVariants a
 use Rattle.step_vm.specs.declared.steps.RunResult.TheVariants as ended
 use Rattle.step_code.specs.proof.CodeRuns as outcome
 
--- an answer, and what it leaves, is where an instruction leads
+-- a result and its state are the successor of an instruction
 abbrev pub Met : Continuation → List ℤ → List ℤ → List PortValue → Next → Type 0
 Met (onward.Goes q) stack slots outs next = next ≡ Goes q stack slots outs
 Met (onward.Ends state) stack slots outs next = next ≡ Ends state slots outs
@@ -46,7 +46,7 @@ abbrev pub ran : CodeParts → ℕ → List ℤ → List PortValue → CodeInput
 ran c entry slots outs inputs =
     run c.instrs (step_inputs inputs.held.now inputs.present.now) (weight_of c) entry [] slots outs
 
--- how a run has come to its end, and what it left
+-- how a run has ended, and its result
 abbrev pub HasEnded : RunResult → List ℤ → List PortValue → CodeOutcome → Type 0
 HasEnded (ended.In state) slots outs o = o ≡ outcome.Ended state slots outs
 HasEnded (ended.Trapped trap) slots outs o = o ≡ outcome.Trapped trap

@@ -4,7 +4,7 @@ use Rattle.aadl_names.specs.proof.FirstFaultSoFar.{found}
 use Rattle.aadl_names.specs.DuplicateNames.{again}
 use Rattle.aadl_names.proofs.duplicate_names.look_up_all.Given as goal
 
--- what is left is still to be looked at
+-- the remaining entries are still to be looked up
 abbrev pub invariant-loop-entry : goal.invariant-loop-entry
 invariant-loop-entry l =
     found l.initial.finder (flat_map (again l.entries) l.entries)

@@ -6,7 +6,7 @@ use Rattle.aadl_tree.specs.proof.NameViews.{identifier_view, reference_view}
 use Rattle.aadl_names.specs.QualifiedNameSpellings.{spelled_reference, dotted}
 use Rattle.aadl_names.proofs.name_comparison.is_reference.Given as goal
 
--- the words that are left decide
+-- the remaining words decide
 abbrev pub invariant-loop-word : goal.invariant-loop-word
 invariant-loop-word l =
     same_name (flat_map (λ y. y.spelling ++ codes "::") (map (identifier_view kept_place) (drop l.word-index l.word-items))

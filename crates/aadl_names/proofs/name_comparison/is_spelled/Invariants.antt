@@ -6,7 +6,7 @@ use Rattle.aadl_tree.specs.proof.NameViews.{identifier_view, name_view}
 use Rattle.aadl_names.specs.QualifiedNameSpellings.{spelled_name}
 use Rattle.aadl_names.proofs.name_comparison.is_spelled.Given as goal
 
--- the words that are left decide
+-- the remaining words decide
 abbrev pub invariant-loop-word : goal.invariant-loop-word
 invariant-loop-word l =
     same_name (flat_map (λ y. codes "::" ++ y.spelling)

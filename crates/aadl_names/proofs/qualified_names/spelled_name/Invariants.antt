@@ -5,7 +5,7 @@ use Rattle.aadl_tree.specs.proof.NameViews.{identifier_view, name_view}
 use Rattle.aadl_names.specs.QualifiedNameSpellings as spec
 use Rattle.aadl_names.proofs.qualified_names.spelled_name.Given as goal
 
--- what is left is still to be added
+-- the remaining words are still to be appended
 abbrev pub invariant-loop-word : goal.invariant-loop-word
 invariant-loop-word l =
     spec.spelled_name (name_view kept_place l.name)

@@ -5,7 +5,7 @@ use Rattle.aadl_tree.specs.proof.PlaceMaps.{kept_place}
 use Rattle.aadl_tree.specs.proof.NameViews.{identifier_view}
 use Rattle.aadl_names.proofs.qualified_names.spelled_reference.Given as goal
 
--- what is left is still to be added
+-- the remaining words are still to be appended
 abbrev pub invariant-loop-word : goal.invariant-loop-word
 invariant-loop-word l =
     flat_map (λ (y : Identifier _). y.spelling ++ codes "::") (map (identifier_view kept_place) l.word-items)

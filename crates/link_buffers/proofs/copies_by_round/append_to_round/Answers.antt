@@ -81,7 +81,7 @@ returns-then-is_round_at-clause-more c =
 pub returns-then-is_round_at-clause-capacity : goal.returns-then-is_round_at-clause-capacity
 returns-then-is_round_at-clause-capacity c = ap (λ b. b.capacity) (c.append_at.ensures d)
 
--- ---- where it is not
+-- ---- if it is not
 module _ (c : After-put_at) where
   absent : option_map_or (is_for c.args.round) (slice_get c.args.rounds.now.items c.place_of-place.result) false ≡ false
   absent = sym c.is_round_at.ensures ∙ c.if-is_round_at.false

@@ -6,7 +6,7 @@ use Rattle.bus_machine.specs.declared.plan.Input.{Input}
 use Rattle.bus_machine.specs.NodeEvents.{lacks}
 use Rattle.pals_node.proofs.node.first_empty.Given as goal
 
--- the first place is among those that are left
+-- the first place is among the remaining ones
 abbrev pub invariant-loop-at : goal.invariant-loop-at
 invariant-loop-at l =
     position_from (λ (p : Input × Option (List PortValue)). lacks p.0 p.1) l.at

@@ -3,7 +3,7 @@ use Rattle.std.specs.Prelude.{filter}
 use Rattle.pals_model.specs.declared.design.Link.{Link}
 use Rattle.pals_node.proofs.plan.out_ports.Given as goal
 
--- the ports so far, and those of the links that are left
+-- the ports so far, and the ports of the remaining links
 abbrev pub invariant-loop-link : goal.invariant-loop-link
 invariant-loop-link l =
     l.ports ++ map (λ (link : Link). link.out_port)

@@ -3,7 +3,7 @@ use Rattle.std.specs.Prelude.{filter}
 use Rattle.pals_model.specs.declared.design.Tap.{Tap}
 use Rattle.pals_node.proofs.plan.tap_ports.Given as goal
 
--- the ports so far, and those of the taps that are left
+-- the ports so far, and the ports of the remaining taps
 abbrev pub invariant-loop-tap : goal.invariant-loop-tap
 invariant-loop-tap l =
     l.ports ++ map (λ (tap : Tap). tap.out_port)

@@ -36,7 +36,7 @@ returns-then-not-stands_at-clause-others c =
     (kept xs c.args.entry c.partition_point-place.result c.self.invariant.1
     (parts (goal.at.returns-then-not-stands_at-clause-others c).After-stands_at) other))
 
--- the entry stands at the place
+-- the entry is at the place
 here : (c : After-take_at) → slice_get c.self.inside.entries.items c.partition_point-place.result ≡ Some c.args.entry
 here c = c.stands_at.ensures.0 (cc)
 

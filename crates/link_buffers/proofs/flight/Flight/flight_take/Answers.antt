@@ -23,7 +23,7 @@ returns-in_err-node-clause-others c =
     let none : copies_of c.args.round f.rounds.items ≡ [] = grind (arith, common_steps) in
     rw (← c.self.view_is) (sym (oldest_none f.rounds.items f.order.copies c.self.invariant.1 c.args.round none).1)
 
--- ---- where there is a copy of the round
+-- ---- if there is a copy of the round
 some : (c : After-give_back) → 0 < length (copies_of c.args.round c.self.inside.rounds.items)
 some c = grind (arith, common_steps)
 

@@ -6,7 +6,7 @@ use Rattle.pals_bus.proofs.NextOutgoingLink.{Reaches}
 use Rattle.pals_bus.proofs.SendLoop.{Sending}
 use Rattle.pals_bus.proofs.bus_fields.BusFields.send_messages.Given as goal
 
--- the first links from the node have their messages, and the others are left
+-- the first links from the node have their messages, and the others remain
 abbrev pub invariant-loop-at : goal.invariant-loop-at
 invariant-loop-at l =
     let first = l.fn.self in
