@@ -242,6 +242,17 @@ def plants(number):
     return package(subs=pairs, connections=wires, scenario=f'{{"rounds":1000,"plants":{{{listed}}}}}')
 
 
+def copies(number):
+    """So many copies of one round in flight, as many of the next, and each of these dropped."""
+    wires = " x: port a.o -> b.i {Timing => Delayed;};\n y: port b.o -> a.i {Timing => Delayed;};\n"
+    rounds = [[event, node] for node in ("p.a", "p.b") for event in ("start", "finish", "send")]
+    rounds += [["arrive", "p.a.i", 0], *([event, "p.a"] for event in ("start", "finish", "send"))]
+    link = "p.b.i"
+    events = rounds + number * [["repeat", link, 0]] + number * [["repeat", link, 1]] + number * [["drop", link, 1]]
+    scenario = json.dumps({"rounds": 2, "events": events}, separators=(",", ":"))
+    return package(subs=" b: thread Counter.impl;\n", connections=wires, scenario=scenario)
+
+
 PRODUCTS = {
     "ports x implementations": Product(["check"], MANY, implementations),
     "types x names": Product(["check"], MANY, types),
@@ -262,4 +273,5 @@ PRODUCTS = {
     "formulas x properties": Product(["watch"], 300 * PROPERTIES, formulas),
     "processors x components": Product(["budget"], COMPONENTS - 1, processors),
     "plants x links": Product(["fuse"], COMPONENTS // 2 - 1, plants),
+    "copies x drops": Product(["world --loose"], 10**6 // 3 - 10, copies),
 }
