@@ -8,7 +8,8 @@ Product = namedtuple("Product", ["commands", "most", "write"])
 MANY = 10**9
 COMPONENTS = 256
 PROPERTIES = 64
-# If threads are multiplied by something else, this much of that belongs to each thread.
+ROUNDS = 50_000
+# Where threads are multiplied by something else, so much of that comes with each thread.
 PER_THREAD = 256
 PLACES = 9
 
@@ -108,6 +109,15 @@ def chain(number):
     between = many(number, lambda n: f" s{n % 61} -[x > {n}]-> s{n % 61 + 1};\n")
     last = many(61, lambda n: f" s{n} -[otherwise]-> s{n + 1};\n") + " s61 -[otherwise]-> s;\n"
     return package(put(states, "transitions\n", between + last))
+
+
+def rounds(number):
+    """A chain of states that each round passes, transitions of a state that none reaches, and as many rounds."""
+    states = put(COUNTER, "states\n", many(61, lambda n: f" s{n}: state;\n") + " far: state;\n")
+    passed = many(60, lambda n: f" s{n} -[]-> s{n + 1};\n") + " s60 -[]-> s;\n far -[otherwise]-> s;\n"
+    counter = put(states.replace("dispatch]-> s {", "dispatch]-> s0 {"), "transitions\n", passed)
+    others = many(number, lambda n: f" far -[x > {n}]-> s;\n")
+    return package(put(counter, "transitions\n", others), scenario=f'{{"rounds":{number}}}')
 
 
 def states(number):
@@ -259,6 +269,7 @@ PRODUCTS = {
     "actions x threads": Product(["check", "sync", "watch", "vote", "fuse", "budget"], COMPONENTS - 1, actions),
     "transitions x threads": Product(["check", "sync"], COMPONENTS - 1, transitions),
     "states x transitions": Product(["check"], MANY, chain),
+    "states x transitions x rounds": Product(["sync"], ROUNDS, rounds),
     "states x names": Product(["check"], MANY, states),
     "variables x names": Product(["check"], MANY, variables),
     "names x scopes": Product(["check"], MANY, nested_loops),

@@ -1,5 +1,4 @@
-use Rattle.std.proofs.Common.{◌≡◌, map, take}
-use Rattle.pals_base.specs.ExpressionAndActionTrees.{Edge}
+use Rattle.std.proofs.Common.{◌≡◌, take}
 use Rattle.behaviour_sem.specs.proof.GroupedTransitions.{sources_of}
 use Rattle.behaviour_sem.proofs.group_table.GroupTable.fits.Given as goal
 
