@@ -29,10 +29,10 @@ impl DueEntry {
     }
 }
 
-/// A node's messages that become due. Contracts see the list of them in rising order of due reading,
-/// then link, then round, and the number of further ones that there is room for. Equal entries are
-/// kept as often as they were added. A place is found by halving. Only the entries between it and the
-/// nearer end move: none where the first is taken out, or one is added behind all others.
+/// A node's messages that become due. The model is the list of entries in rising order of due reading,
+/// then link, then round, and the number of further entries for which there is room. An entry that was
+/// added twice is in the list twice. A place is found by binary search. Only the entries between it and
+/// the nearer end move; no entry moves if the first is removed or one is added at the end.
 #[derive(Drop)]
 pub struct DueQueue {
     entries: HeapCircularBuffer<DueEntry>,
@@ -79,7 +79,7 @@ impl DueQueue {
         self.entries.resize(wanted.max(2 * self.entries.capacity()))
     }
 
-    /// Adds an entry at its place in the order. It takes no memory.
+    /// Adds an entry at its place in the order. Does not allocate.
     pub fn add(&mut self, entry: DueEntry)
         requires { 1 ≤ self.old.spare }
         ensures { self.new ≡ queue_of (with_entry entry self.old.entries) (self.old.spare - 1) }
@@ -88,8 +88,8 @@ impl DueQueue {
         put_at(&mut self.entries, place, entry);
     }
 
-    /// Takes out one entry that equals this one. The answer is false exactly where there is none,
-    /// and then nothing changes. It takes no memory, and leaves room for another entry.
+    /// Removes one entry that equals this one, and returns whether there was one. If not, nothing
+    /// changes. Does not allocate, and leaves room for another entry.
     pub fn remove(&mut self, entry: DueEntry) -> bool
         ensures found { IsTrue result ↔ Contains self.old.entries entry }
         ensures others { self.new.entries ≡ without_entry entry self.old.entries }
@@ -112,7 +112,7 @@ impl DueQueue {
         partition_point(&self.entries, |entry| entry.due <= reading)
     }
 
-    /// The entry at a place, in rising order, or none past the end.
+    /// The entry at a place, in rising order. `None` past the end.
     pub fn get(&self, place: usize) -> Option<DueEntry>
         ensures entry { result ≡ slice_get self.now.entries place }
         ensures order { IsRising self.now.entries }
@@ -121,7 +121,7 @@ impl DueQueue {
     }
 }
 
-// Whether an entry stands at a place.
+// Whether an entry is at a place.
 fn stands_at(entries: &HeapCircularBuffer<DueEntry>, place: usize, entry: &DueEntry) -> bool
     ensures { IsTrue result ↔ (slice_get entries.now.items place ≡ Some entry.now) }
 {

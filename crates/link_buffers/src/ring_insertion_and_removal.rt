@@ -1,5 +1,5 @@
-//! An item is removed from a place of a ring, or inserted there. Only those between that place and the nearer end
-//! move, each by one place.
+//! Insertion and removal at any place of a ring. Only the items between that place and the nearer end move, each by
+//! one place.
 ghost use Rattle.std.specs.Prelude.{◌≡◌, ◌-◌, ◌<◌, ◌≤◌, [], ◌∷◌, ◌++◌, Some, length, insert, remove, slice_get, slice_index_or};
 ghost use Rattle.std.specs.Prelude.{slice_set};
 ghost use Rattle.circular_buffer.specs.Buffer.{buffer};
@@ -7,7 +7,7 @@ ghost use Rattle.circular_buffer.specs.Buffer.{buffer};
 use circular_buffer::HeapCircularBuffer;
 use std::mem;
 
-/// What stands at a place.
+/// The item at a place.
 pub fn standing_at<T>(ring: &HeapCircularBuffer<T>, place: usize) -> &T
     requires { place < length ring.now.items }
     ensures { (d : T) → slice_index_or ring.now.items place d ≡ result.now }
@@ -18,9 +18,8 @@ pub fn standing_at<T>(ring: &HeapCircularBuffer<T>, place: usize) -> &T
     }
 }
 
-/// Takes out the item at a place. The others keep their order. Only those between that place and the
-/// nearer end move: none at an end, and at most half of the ring. In the middle of 50,000 copies of
-/// messages a take lasts 0.16 ms, so a list of n events can still take a time that grows with n * n.
+/// Removes the item at a place. The order of the others does not change. Only the items between that
+/// place and the nearer end move: at most half of the ring.
 pub fn take_at<T>(ring: &mut HeapCircularBuffer<T>, place: usize) -> Option<T>
     requires { place < length ring.old.items }
     ensures item { result ≡ slice_get ring.old.items place }
@@ -34,7 +33,7 @@ pub fn take_at<T>(ring: &mut HeapCircularBuffer<T>, place: usize) -> Option<T>
     }
 }
 
-// Takes out the item that stands behind `ahead` others, which move on by one place.
+// Removes the item that follows `ahead` others, which move on by one place.
 fn take_by_front<T>(ring: &mut HeapCircularBuffer<T>, ahead: usize) -> Option<T>
     requires { ahead < length ring.old.items }
     ensures item { result ≡ slice_get ring.old.items ahead }
@@ -49,7 +48,7 @@ fn take_by_front<T>(ring: &mut HeapCircularBuffer<T>, ahead: usize) -> Option<T>
     Some(held)
 }
 
-// Takes out the item that stands ahead of `behind` others, which move up by one place.
+// Removes the item that precedes `behind` others, which move up by one place.
 fn take_by_back<T>(ring: &mut HeapCircularBuffer<T>, behind: usize) -> Option<T>
     requires { behind < length ring.old.items }
     ensures item { let place = length ring.old.items - 1 - behind in result ≡ slice_get ring.old.items place }
@@ -66,8 +65,8 @@ fn take_by_back<T>(ring: &mut HeapCircularBuffer<T>, behind: usize) -> Option<T>
     Some(held)
 }
 
-/// Puts an item in at a place, ahead of what stands there. The others keep their order. Only those
-/// between that place and the nearer end move: none at an end, and at most half of the ring.
+/// Inserts an item at a place. The order of the others does not change. Only the items between that
+/// place and the nearer end move: at most half of the ring.
 pub fn put_at<T>(ring: &mut HeapCircularBuffer<T>, place: usize, item: T)
     requires place { place ≤ length ring.old.items }
     requires room { length ring.old.items < ring.old.capacity }
@@ -80,7 +79,7 @@ pub fn put_at<T>(ring: &mut HeapCircularBuffer<T>, place: usize, item: T)
     }
 }
 
-// Puts an item in behind `ahead` others, which move up by one place.
+// Inserts an item after `ahead` others, which move up by one place.
 fn put_by_front<T>(ring: &mut HeapCircularBuffer<T>, ahead: usize, item: T)
     requires place { ahead ≤ length ring.old.items }
     requires room { length ring.old.items < ring.old.capacity }
@@ -96,7 +95,7 @@ fn put_by_front<T>(ring: &mut HeapCircularBuffer<T>, ahead: usize, item: T)
     }
 }
 
-// Puts an item in at a place. The others from there on move on by one place.
+// Inserts an item at a place. The items from that place on move on by one place.
 fn put_by_back<T>(ring: &mut HeapCircularBuffer<T>, place: usize, item: T)
     requires place { place ≤ length ring.old.items }
     requires room { length ring.old.items < ring.old.capacity }
@@ -112,7 +111,7 @@ fn put_by_back<T>(ring: &mut HeapCircularBuffer<T>, place: usize, item: T)
     }
 }
 
-/// Puts an item in after all others.
+/// Adds an item at the end.
 pub fn put_last<T>(ring: &mut HeapCircularBuffer<T>, item: T)
     requires { length ring.old.items < ring.old.capacity }
     ensures { ring.new ≡ buffer (ring.old.items ++ item ∷ []) ring.old.capacity }

@@ -1,4 +1,4 @@
--- What a binary search asks of its test, and what it finds.
+-- The test of a binary search, and the place that the search finds.
 use Rattle.std.specs.Prelude.{◌≡◌, ℕ, Bool, true, false, List}
 use Rattle.std.specs.Borrow.{Bor}
 use Rattle.std.specs.Fn.{Shared, FnReturnsAt}
