@@ -6,8 +6,8 @@ ghost use Rattle.link_buffers.specs.proof.BinarySearch.{IsTest, IsFirstToFail};
 use crate::ring_insertion_and_removal::standing_at;
 use circular_buffer::HeapCircularBuffer;
 
-/// The number of items that pass a test, if no item passes it after one that fails it: the place of the first that
-/// fails it, or the ring's length. Of 50,000 items it reads 16.
+/// The place of the first item that fails a test, or the ring's length. An item that follows a failing
+/// one must fail too. Of 50,000 items it reads 16.
 pub fn partition_point<T, P: Fn(&T) -> bool>(ring: &HeapCircularBuffer<T>, pred: P) -> usize
     requires { P.IsAlwaysCallable pred }
     ensures bound { result ≤ length ring.now.items }

@@ -28,7 +28,8 @@ pub struct RoundCopies {
 /// The rounds of a flight, in rising order. A round without copies may be among them.
 pub type Rounds = HeapCircularBuffer<RoundCopies>;
 
-/// Makes room for `places` further rounds. If there is not enough room, rounds without copies go first.
+/// Makes room for `places` further rounds. If there is not enough room, it removes the rounds without
+/// copies, and enlarges the ring if they were fewer than half. So a round costs constant time on average.
 pub fn reserve_rounds(rounds: &mut Rounds, places: u32) -> Result<(), NoMemory>
     requires { AreRising rounds.old.items }
     ensures rising { AreRising rounds.new.items }
@@ -73,7 +74,7 @@ fn turn_on(rounds: &mut Rounds)
     put_last(rounds, entry);
 }
 
-/// Appends copies to the copies of a round.
+/// Appends copies to the list of a round, in time that grows with the logarithm of the number of rounds.
 pub fn append_to_round(rounds: &mut Rounds, round: u32, copies: CopyList)
     requires rising { AreRising rounds.old.items }
     requires room { length rounds.old.items < rounds.old.capacity }
@@ -92,7 +93,7 @@ pub fn append_to_round(rounds: &mut Rounds, round: u32, copies: CopyList)
     }
 }
 
-/// Splits off the oldest copy of a round, or gives nothing if there is none.
+/// Splits off the oldest copy of a round. `None` if the round has no copy.
 pub fn split_oldest(rounds: &mut Rounds, round: u32) -> Option<CopyList>
     requires { AreRising rounds.old.items }
     ensures rising { AreRising rounds.new.items }
@@ -123,7 +124,7 @@ pub fn oldest_of_round(rounds: &Rounds, round: u32) -> Option<&FlightCopy>
     standing_at(rounds, place).copies.front()
 }
 
-/// The first round with a copy that is due at a reading, in nanoseconds, or `None`.
+/// The first round with a copy that is due at a reading, in nanoseconds. `None` if no copy is due.
 pub fn first_due(rounds: &Rounds, reading: Nanos) -> Option<u32>
     ensures { result ≡ option_map (λ entry. entry.round) (find (has_due reading) rounds.now.items) }
 {
@@ -133,7 +134,7 @@ pub fn first_due(rounds: &Rounds, reading: Nanos) -> Option<u32>
         .map(|entry| entry.round)
 }
 
-// The place of a round, found by halving: all rounds before it are earlier, and none from it on is.
+// The place of a round, found by binary search: all rounds before it are earlier, and no other round is.
 fn place_of(rounds: &Rounds, round: u32) -> usize
     requires { AreRising rounds.now.items }
     ensures bound { result ≤ length rounds.now.items }
@@ -142,7 +143,7 @@ fn place_of(rounds: &Rounds, round: u32) -> usize
     partition_point(rounds, |entry| entry.round < round)
 }
 
-// Whether the entry at a place is that of a round.
+// Whether the entry at a place belongs to a round.
 fn is_round_at(rounds: &Rounds, place: usize, round: u32) -> bool
     ensures { result ≡ option_map_or (is_for round) (slice_get rounds.now.items place) false }
 {
@@ -152,7 +153,7 @@ fn is_round_at(rounds: &Rounds, place: usize, round: u32) -> bool
     }
 }
 
-// Appends copies to the copies of the round at a place.
+// Appends copies to the list of the round at a place.
 fn append_at(rounds: &mut Rounds, place: usize, copies: CopyList)
     requires place { place < length rounds.old.items }
     requires few { (d : Entry) → length (slice_index_or rounds.old.items place d).copies + length copies < 2 ^ 63 }
@@ -166,7 +167,7 @@ fn append_at(rounds: &mut Rounds, place: usize, copies: CopyList)
     }
 }
 
-// Whether the entry at a place is that of a round, and has copies.
+// Whether the entry at a place belongs to a round, and has copies.
 fn has_copies_at(rounds: &Rounds, place: usize, round: u32) -> bool
     ensures { result ≡ option_map_or (has_copies_for round) (slice_get rounds.now.items place) false }
 {

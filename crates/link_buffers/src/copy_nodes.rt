@@ -1,5 +1,5 @@
-//! Nodes for copies. Each is a list of one copy, so that a copy moves from one list to another without
-//! memory.
+//! Nodes for copies. A node is a list of one copy, so a copy moves from one list to another without
+//! allocation.
 ghost use Rattle.std.specs.Prelude.{◌≡◌, ◌+◌, ◌^◌, ◌<◌, ◌≤◌, [], ◌∷◌, ◌++◌, length, take, drop, OnOk};
 ghost use Rattle.pals_model.specs.declared.flight_copy.FlightCopy.{FlightCopy as Copied};
 
@@ -12,7 +12,7 @@ use std::mem;
 /// Copies in order, one in each node.
 pub type CopyList = LinkedList<FlightCopy>;
 
-/// The nodes without a copy, and how many nodes there are in all.
+/// The free nodes, and the number of all nodes, free or in use.
 #[derive(Drop)]
 pub struct CopyNodes {
     pub free: CopyList,
@@ -53,7 +53,7 @@ impl CopyNodes {
         Ok(())
     }
 
-    /// A free node that now has this copy.
+    /// Takes a free node and stores a copy in it.
     pub fn take(&mut self, copy: FlightCopy) -> CopyList
         requires { 0 < length self.old.free }
         ensures node { result ≡ copy ∷ [] }
@@ -67,7 +67,7 @@ impl CopyNodes {
         node
     }
 
-    /// Frees a node. Its tuple comes back.
+    /// Frees a node and returns its tuple.
     pub fn give_back(&mut self, alloc: Global, mut node: CopyList) -> Tuple
         requires one { length node ≡ 1 }
         requires few { length self.old.free < 2 ^ 32 }

@@ -1,4 +1,4 @@
-//! The common order of a flight's copies, which exists only in proofs.
+//! The order of a flight's copies across rounds, which exists only in proofs.
 ghost use Rattle.std.specs.Prelude.{◌≡◌, List, [], ◌∷◌, ◌++◌};
 ghost use Rattle.std.specs.Borrow.{ftrue};
 ghost use Rattle.pals_model.specs.declared.flight_copy.FlightCopy.{FlightCopy as Copied};
@@ -7,7 +7,7 @@ ghost use Rattle.pals_model.specs.Flights.{without_oldest};
 use pals_model::FlightCopy;
 use std::marker::Model;
 
-/// Copies in order of adding. The type has no size, and its methods do nothing at run time.
+/// Copies in order of adding. The type has size zero, and its methods do nothing at run time.
 #[derive(Drop)]
 pub struct CopyOrder {
     pub ghost copies: { List Copied },
@@ -35,7 +35,7 @@ impl CopyOrder {
         CopyOrder {}
     }
 
-    /// The order without the oldest copy of the round of this one.
+    /// The order without the oldest copy of this copy's round.
     pub fn without_oldest(&self, _copy: &FlightCopy) -> CopyOrder
         ensures { result.copies ≡ without_oldest _copy.now.round self.now.copies }
     {

@@ -29,10 +29,10 @@ impl DueEntry {
     }
 }
 
-/// A node's messages that become due. The model is the list of them in rising order of due reading,
-/// then link, then round, and the number of further ones that there is room for. Equal entries occur as
-/// often as they were added. A place is found by binary search. Only the entries between it and the
-/// nearer end move: none if the first is removed, or one is added after all others.
+/// A node's messages that become due. The model is the list of entries in rising order of due reading,
+/// then link, then round, and the number of further entries for which there is room. An entry that was
+/// added twice is in the list twice. A place is found by binary search. Only the entries between it and
+/// the nearer end move; no entry moves if the first is removed or one is added at the end.
 #[derive(Drop)]
 pub struct DueQueue {
     entries: HeapCircularBuffer<DueEntry>,
@@ -88,8 +88,8 @@ impl DueQueue {
         put_at(&mut self.entries, place, entry);
     }
 
-    /// Removes one entry that equals this one. Returns false if and only if there is none, and then
-    /// nothing changes. Does not allocate, and leaves room for another entry.
+    /// Removes one entry that equals this one, and returns whether there was one. If not, nothing
+    /// changes. Does not allocate, and leaves room for another entry.
     pub fn remove(&mut self, entry: DueEntry) -> bool
         ensures found { IsTrue result ↔ Contains self.old.entries entry }
         ensures others { self.new.entries ≡ without_entry entry self.old.entries }
@@ -112,7 +112,7 @@ impl DueQueue {
         partition_point(&self.entries, |entry| entry.due <= reading)
     }
 
-    /// The entry at a place, in rising order; `None` past the end.
+    /// The entry at a place, in rising order. `None` past the end.
     pub fn get(&self, place: usize) -> Option<DueEntry>
         ensures entry { result ≡ slice_get self.now.entries place }
         ensures order { IsRising self.now.entries }

@@ -1,4 +1,4 @@
-//! The messages that are under way on one link.
+//! The messages in flight on one link.
 ghost use Rattle.std.specs.Prelude.{◌≡◌, ◌+◌, ◌-◌, ◌≤◌, [], ◌∷◌, ◌++◌, max, IfNone, IfOk, OnOk, OnErr, option_copied};
 ghost use Rattle.std.specs.Prelude.{option_map};
 ghost use Rattle.pals_model.specs.Flights.{oldest, without_oldest};
@@ -15,8 +15,9 @@ use pals_model::FlightCopy;
 use std::alloc::Global;
 use std::marker::Model;
 
-/// The copies of messages that are under way on one link. Contracts see the list of them in order of
-/// adding, and the number of further ones for which there is room.
+/// The copies of messages in flight on one link. The model is the list of copies in order of adding, and
+/// the number of further copies for which there is room. The copies of each round form a list of their
+/// own, found by binary search, so a copy may be added or taken in logarithmic time wherever it is.
 #[derive(Drop)]
 pub struct Flight {
     alloc: Global,
@@ -86,8 +87,8 @@ impl Flight {
         self.spare -= 1;
     }
 
-    /// Removes the oldest copy of a round, or nothing if there is none. The others keep their
-    /// order. Does not allocate, and the room does not shrink.
+    /// Removes the oldest copy of a round and returns its tuple, or `None` if the round has no copy. The
+    /// order of the others does not change. Does not allocate, and the room does not shrink.
     pub fn flight_take(&mut self, round: u32) -> Option<Tuple>
         ensures taken { result ≡ option_map (λ copy. copy.tuple) (oldest round self.old.copies) }
         ensures others { self.new.copies ≡ without_oldest round self.old.copies }
@@ -99,14 +100,14 @@ impl Flight {
         Some(self.nodes.give_back(self.alloc, node))
     }
 
-    /// The oldest copy of a round, which stays.
+    /// The oldest copy of a round. `None` if the round has no copy.
     pub fn flight_oldest(&self, round: u32) -> Option<&FlightCopy>
         ensures { option_copied result ≡ oldest round self.now.copies }
     {
         oldest_of_round(&self.rounds, round)
     }
 
-    /// The smallest round with a copy that is due at a reading, in nanoseconds, or `None`.
+    /// The earliest round with a copy that is due at a reading, in nanoseconds. `None` if no copy is due.
     pub fn flight_due(&self, reading: Nanos) -> Option<u32>
         ensures { result ≡ least (due_rounds reading self.now.copies) }
     {

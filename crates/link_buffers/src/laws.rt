@@ -7,8 +7,8 @@ ghost use Rattle.link_buffers.specs.declared.due_queue.DueEntry.{DueEntry};
 ghost use Rattle.link_buffers.specs.proof.FirstAndLeastItems.{IsFirst, least};
 ghost use Rattle.link_buffers.specs.proof.DueQueues.{is_entry, with_entry, without_entry};
 
-/// The oldest copy of a round belongs to that round, and no earlier copy does. The others are the copies
-/// before it and after it. If there is none, no copy belongs to that round, and all remain.
+/// The oldest copy of a round is the first copy in the list with that round. The others are the copies
+/// before it and after it. If there is no oldest copy, no copy has that round, and all remain.
 pub fn oldest_copy_is_first()
     ensures some { (round : ℕ) (copies : List FlightCopy) (copy : FlightCopy)
         → oldest round copies ≡ Some copy → IsFirst (is_of round) copies copy (without_oldest round copies) }
@@ -25,8 +25,8 @@ pub fn least_is_in_the_list()
     ensures none { (numbers : List ℕ) → least numbers ≡ None → numbers ≡ [] }
 {}
 
-/// An entry that is added occurs once more, and each other entry as often as before. An entry that is
-/// removed occurred once more.
+/// Adding an entry raises its count by one and changes no other count. Removing an entry lowers its
+/// count by one.
 pub fn entries_are_counted()
     ensures with { (entry other : DueEntry) (entries : List DueEntry)
         → count_by (is_entry other) (with_entry entry entries) ≡ count_by (is_entry other) (entry ∷ entries) }

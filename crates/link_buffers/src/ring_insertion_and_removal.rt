@@ -1,5 +1,5 @@
-//! An item is removed from a place of a ring, or inserted there. Only those between that place and the nearer end
-//! move, each by one place.
+//! Insertion and removal at any place of a ring. Only the items between that place and the nearer end move, each by
+//! one place.
 ghost use Rattle.std.specs.Prelude.{◌≡◌, ◌-◌, ◌<◌, ◌≤◌, [], ◌∷◌, ◌++◌, Some, length, insert, remove, slice_get, slice_index_or};
 ghost use Rattle.std.specs.Prelude.{slice_set};
 ghost use Rattle.circular_buffer.specs.Buffer.{buffer};
@@ -18,9 +18,8 @@ pub fn standing_at<T>(ring: &HeapCircularBuffer<T>, place: usize) -> &T
     }
 }
 
-/// Takes out the item at a place. The others keep their order. Only those between that place and the
-/// nearer end move: none at an end, and at most half of the ring. In the middle of 50,000 copies of
-/// messages a take lasts 0.16 ms, so a list of n events can still take a time that grows with n * n.
+/// Removes the item at a place. The order of the others does not change. Only the items between that
+/// place and the nearer end move: at most half of the ring.
 pub fn take_at<T>(ring: &mut HeapCircularBuffer<T>, place: usize) -> Option<T>
     requires { place < length ring.old.items }
     ensures item { result ≡ slice_get ring.old.items place }
@@ -66,8 +65,8 @@ fn take_by_back<T>(ring: &mut HeapCircularBuffer<T>, behind: usize) -> Option<T>
     Some(held)
 }
 
-/// Inserts an item at a place, before the item there. The others keep their order. Only the items
-/// between that place and the nearer end move: none at an end, and at most half of the ring.
+/// Inserts an item at a place. The order of the others does not change. Only the items between that
+/// place and the nearer end move: at most half of the ring.
 pub fn put_at<T>(ring: &mut HeapCircularBuffer<T>, place: usize, item: T)
     requires place { place ≤ length ring.old.items }
     requires room { length ring.old.items < ring.old.capacity }
@@ -96,7 +95,7 @@ fn put_by_front<T>(ring: &mut HeapCircularBuffer<T>, ahead: usize, item: T)
     }
 }
 
-// Puts an item in at a place. The others from there on move on by one place.
+// Inserts an item at a place. The items from that place on move on by one place.
 fn put_by_back<T>(ring: &mut HeapCircularBuffer<T>, place: usize, item: T)
     requires place { place ≤ length ring.old.items }
     requires room { length ring.old.items < ring.old.capacity }
@@ -112,7 +111,7 @@ fn put_by_back<T>(ring: &mut HeapCircularBuffer<T>, place: usize, item: T)
     }
 }
 
-/// Puts an item in after all others.
+/// Adds an item at the end.
 pub fn put_last<T>(ring: &mut HeapCircularBuffer<T>, item: T)
     requires { length ring.old.items < ring.old.capacity }
     ensures { ring.new ≡ buffer (ring.old.items ++ item ∷ []) ring.old.capacity }

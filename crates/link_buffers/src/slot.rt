@@ -4,7 +4,7 @@ ghost use Rattle.std.specs.Prelude.{◌≡◌, ◌↔◌, IsTrue, IsSome, is_som
 use pals_base::Tuple;
 use std::marker::Model;
 
-/// The slot of an in port, which holds one message or none. The model is that message.
+/// The slot of an in port, which may hold one message. The model is that message, if any.
 #[derive(Drop)]
 pub struct Slot {
     tuple: Option<Tuple>,
@@ -34,15 +34,15 @@ impl Slot {
         self.tuple.is_some()
     }
 
-    /// The message that the slot holds, which stays there.
+    /// The message in the slot, if any.
     pub fn message(&self) -> Option<&Tuple>
         ensures { option_copied result ≡ self.now }
     {
         self.tuple.as_ref()
     }
 
-    /// Puts a message into the slot. Returns the message if and only if the slot is full, which then keeps
-    /// its message.
+    /// Puts a message into an empty slot. If the slot is full, it does not change, and the message is
+    /// returned.
     pub fn slot_put(&mut self, tuple: Tuple) -> Option<Tuple>
         ensures back { result ≡ (if is_some self.old then Some tuple else None) }
         ensures slot { self.new ≡ (if is_some self.old then self.old else Some tuple) }
@@ -54,7 +54,7 @@ impl Slot {
         None
     }
 
-    /// Takes what the slot holds, which is then empty.
+    /// Empties the slot and returns its message, if any.
     pub fn slot_take(&mut self) -> Option<Tuple>
         ensures taken { result ≡ self.old }
         ensures slot { self.new ≡ None }

@@ -1,4 +1,4 @@
--- The condition on the test of a binary search, and its result.
+-- The test of a binary search, and the place that the search finds.
 use Rattle.std.specs.Prelude.{◌≡◌, ℕ, Bool, true, false, List}
 use Rattle.std.specs.Borrow.{Bor}
 use Rattle.std.specs.Fn.{Shared, FnReturnsAt}

@@ -7,7 +7,7 @@ use Rattle.pals_model.specs.Flights.{is_of}
 use Rattle.link_buffers.specs.declared.copies_by_round.RoundCopies.{RoundCopies}
 use Rattle.link_buffers.specs.proof.Flights.{is_due}
 
--- the copies of this round
+-- the entry of this round
 abbrev pub is_for : ℕ → RoundCopies → Bool
 is_for round entry = nat_eq entry.round round
 
@@ -15,11 +15,11 @@ is_for round entry = nat_eq entry.round round
 abbrev pub copies_of : ℕ → List RoundCopies → List FlightCopy
 copies_of round rounds = option_map_or (λ entry. entry.copies) (find (is_for round) rounds) []
 
--- each round comes before the later ones, and once
+-- the rounds rise strictly
 abbrev pub AreRising : List RoundCopies → Type 0
 AreRising rounds = AllPairs (λ earlier later. earlier.round < later.round) rounds
 
--- the copies of each round are the copies of a list, in their order
+-- the copies of each round are the copies in a list that have this round, in the same order
 abbrev pub AreByRound : List RoundCopies → List FlightCopy → Type 0
 AreByRound rounds copies = (round : ℕ) → copies_of round rounds ≡ filter (is_of round) copies
 
@@ -27,7 +27,7 @@ AreByRound rounds copies = (round : ℕ) → copies_of round rounds ≡ filter (
 abbrev pub HaveSameCopies : List RoundCopies → List RoundCopies → Type 0
 HaveSameCopies old new = (round : ℕ) → copies_of round new ≡ copies_of round old
 
--- two tables have the same copies of each round but one
+-- two tables have the same copies of each round except one
 abbrev pub HaveSameOthers : ℕ → List RoundCopies → List RoundCopies → Type 0
 HaveSameOthers round old new = (other : ℕ) → nat_eq round other ≡ false → copies_of other new ≡ copies_of other old
 
@@ -39,6 +39,6 @@ has_due reading entry = list_any (is_due reading) entry.copies
 abbrev pub has_copies : RoundCopies → Bool
 has_copies entry = not (length entry.copies == 0)
 
--- an entry is that of a round, and has copies
+-- the entry belongs to this round, and has copies
 abbrev pub has_copies_for : ℕ → RoundCopies → Bool
 has_copies_for round entry = is_for round entry && has_copies entry

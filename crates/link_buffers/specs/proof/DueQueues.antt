@@ -18,19 +18,19 @@ comes_before a b =
     nat_lt a.due b.due || nat_eq a.due b.due
     && (nat_lt a.link.0 b.link.0 || nat_eq a.link.0 b.link.0 && nat_lt a.round b.round)
 
--- no entry precedes an earlier one in the order
+-- no entry precedes, in the order of entries, an entry that is earlier in the list
 abbrev pub IsRising : List DueEntry → Type 0
 IsRising entries = AllPairs (λ earlier later. comes_before later earlier ≡ false) entries
 
 abbrev pub is_entry : DueEntry → DueEntry → Bool
 is_entry a b = nat_eq a.due b.due && nat_eq a.link.0 b.link.0 && nat_eq a.round b.round
 
--- the entries with one more, after the entries that it does not precede
+-- the entries with one more, which follows the entries that it does not precede in the order
 abbrev pub with_entry : DueEntry → List DueEntry → List DueEntry
 with_entry entry entries =
     filter (λ other. not (comes_before entry other)) entries ++ entry ∷ filter (comes_before entry) entries
 
--- the entries without the first one that equals this one, or all if there is none
+-- the entries without the first that equals this one, or all entries if none does
 abbrev pub without_entry : DueEntry → List DueEntry → List DueEntry
 without_entry entry entries = before_first (is_entry entry) entries ++ after_first (is_entry entry) entries
 

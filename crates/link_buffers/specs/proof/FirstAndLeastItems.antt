@@ -1,4 +1,4 @@
--- The first element of a list that passes a test, and the smallest of its keys.
+-- The first item of a list that passes a test, and the minimum of a list.
 use Rattle.std.specs.Prelude.{◌≡◌, ℕ, min, Bool, true, false, List, ◌∷◌, ◌++◌, All, Option}
 use Rattle.std.specs.List.{reduce}
 
@@ -11,6 +11,6 @@ pub record IsFirst {X : Type 0} (passes : X → Bool) (list : List X) (first : X
   pub here : passes first ≡ true
   pub none_before : All (λ x. passes x ≡ false) before
 
--- the smallest number of a list, if it has any
+-- the minimum of a list, if the list has an item
 abbrev pub least : List ℕ → Option ℕ
 least numbers = reduce min numbers
