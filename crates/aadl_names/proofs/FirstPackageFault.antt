@@ -13,7 +13,8 @@ use Rattle.aadl_names.specs.DuplicatesByNamespace.{port_entries, variable_entrie
 use Rattle.aadl_names.specs.DuplicatesByNamespace.{type_entry, implementation_entry, twice_in_behaviour, twice_in_first}
 use Rattle.aadl_names.specs.DuplicatesByNamespace.{twice_in, twice_names}
 use Rattle.aadl_names.specs.PackageNameFaults.{wrong_names, package_faults}
-use Rattle.aadl_names.specs.proof.DuplicatesBesidePorts.{beside, beside_in_behaviour, beside_in_first, beside_in, beside_names}
+use Rattle.aadl_names.specs.proof.DuplicatesBesidePorts.{beside, beside_in_behaviour, beside_in_first, beside_in}
+use Rattle.aadl_names.specs.proof.DuplicatesBesidePorts.{beside_names}
 use Rattle.aadl_names.proofs.SameFirstFaults.{Covers, covers_itself, covers_append, covers_all, first_of_more}
 use Rattle.aadl_names.proofs.SameFirstFaults.{found_is_first}
 use Rattle.aadl_names.proofs.DuplicatesBesidePorts.{beside_covers}

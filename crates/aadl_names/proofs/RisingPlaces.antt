@@ -55,7 +55,8 @@ wider : (low from high : ℕ) (places : List ℕ) → low ≤ from → All (IsBe
 wider low from high places less each = λ k d within. let h = each k d within in
     (let a = h.0 in omega (arith, less, a), h.1)
 
-one_token : (low : ℕ) (s : PlacedTerminal) (high : ℕ) (rest : List PlacedTerminal) (places later : List ℕ) → low ≤ s.at → AreAt places s.at
+one_token : (low : ℕ) (s : PlacedTerminal) (high : ℕ) (rest : List PlacedTerminal) (places later : List ℕ) → low ≤ s.at
+    → AreAt places s.at
     → Spans (s.at + 1) high rest later → Spans low high rest (places ++ later)
 one_token low s high rest places later above are spans =
     let up = spans.up in
@@ -68,7 +69,8 @@ one_token low s high rest places later above are spans =
     }
 
 -- spots of given kinds are passed over
-kinds_passed : (low : ℕ) (ks : List PlainTerminal) (ss rest : List PlacedTerminal) → HaveKinds ks ss rest → Rising low ss
+kinds_passed : (low : ℕ) (ks : List PlainTerminal) (ss rest : List PlacedTerminal) → HaveKinds ks ss rest
+    → Rising low ss
     → (high : ℕ) × (low ≤ high) × Rising high rest
 kinds_passed low [] ss rest have rises = (low, omega arith, subst (Rising low) have rises)
 kinds_passed low (k ∷ ks) ss rest have rises =
@@ -88,7 +90,8 @@ widened low from high rest places less spans =
       between = wider low from high places less spans.between;
     }
 
-spanned : (low : ℕ) (parts : List (SpellingPart ℕ)) (ss rest : List PlacedTerminal) → Written parts ss rest → Rising low ss
+spanned : (low : ℕ) (parts : List (SpellingPart ℕ)) (ss rest : List PlacedTerminal) → Written parts ss rest
+    → Rising low ss
     → (high : ℕ) × Spans low high rest (places_of parts)
 spanned low [] ss rest w rises =
     (low, record { up = omega arith; rising = subst (Rising low) w rises; between = All-nil (IsBetween low low) })
@@ -112,7 +115,8 @@ apart low mid high a b p q first second here there =
     let n = y.0 in
     omega (arith, m, n)
 
-before_in : (parts : List (SpellingPart ℕ)) (ss rest : List PlacedTerminal) (p q : ℕ) → Written parts ss rest → Rising 0 ss
+before_in : (parts : List (SpellingPart ℕ)) (ss rest : List PlacedTerminal) (p q : ℕ) → Written parts ss rest
+    → Rising 0 ss
     → StandsBefore parts p q → p < q
 before_in parts ss rest p q w rises stands =
     let two = written_split stands.front stands.back ss rest (subst (λ ps. Written ps ss rest) stands.split w) in

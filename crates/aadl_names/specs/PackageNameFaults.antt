@@ -14,7 +14,8 @@ use Rattle.aadl_tree.specs.Actions.{Block}
 use Rattle.aadl_names.specs.declared.fault.PackageFault.{PackageFault}
 use Rattle.aadl_names.specs.declared.fault.PackageFault.TheVariants.{Unknown, WrongKind}
 use Rattle.aadl_names.specs.DuplicateNames.{wrong_if}
-use Rattle.aadl_names.specs.QualifiedNameSpellings.{spelled_name, spelled_reference, spelled_implementation, spelled_end}
+use Rattle.aadl_names.specs.QualifiedNameSpellings.{spelled_name, spelled_reference, spelled_implementation}
+use Rattle.aadl_names.specs.QualifiedNameSpellings.{spelled_end}
 use Rattle.aadl_names.specs.NameResolution.{type_number, is_system, is_process, is_thread, ports_of, type_of}
 use Rattle.aadl_names.specs.NameResolution.{target_of, implementation_in, end_port, with_direction}
 use Rattle.aadl_names.specs.RecognisedProperties.{list_faults}
@@ -158,11 +159,13 @@ end_faults may end at None = unknown_end end
 end_faults may end at (Some port) = wrong_if (not (may port)) at
 
 -- the port that an end names, and which way it goes
-abbrev pub directed_end_port : PackageTree ℕ → Implementation ℕ → ConnectionEnd ℕ → Option (NumberedPort × Option Direction)
+abbrev pub directed_end_port : PackageTree ℕ → Implementation ℕ → ConnectionEnd ℕ
+    → Option (NumberedPort × Option Direction)
 directed_end_port tree x end = option_map (with_direction tree x) (end_port tree x end)
 
 -- of a connection that joins these ports
-abbrev pub joined_faults : Connection ℕ → Option (NumberedPort × Option Direction) → Option (NumberedPort × Option Direction)
+abbrev pub joined_faults : Connection ℕ → Option (NumberedPort × Option Direction)
+    → Option (NumberedPort × Option Direction)
     → List PackageFault
 joined_faults c source target =
     end_faults may_leave c.source c.name.at source

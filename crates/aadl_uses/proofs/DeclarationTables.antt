@@ -38,7 +38,8 @@ module _ (tree : PackageTree ℕ) where
       let d = listed (wires_in tree) tree.declarations n wires (sym e ∙ is) in
       sym d.2 ∙ sym (ap (λ o. wires_of tree (implementation_in o)) d.1)
 
-  pub wires_none : (n : ℕ) (o : Option (List ConnectionPorts)) → o ≡ slice_get (map (wires_in tree) tree.declarations) n → o ≡ None
+  pub wires_none : (n : ℕ) (o : Option (List ConnectionPorts))
+      → o ≡ slice_get (map (wires_in tree) tree.declarations) n → o ≡ None
       → [] ≡ connection_ports_at tree n
   wires_none n o e is =
       sym (ap (λ o. wires_of tree (implementation_in o)) (unlisted (wires_in tree) tree.declarations n (sym e ∙ is)))

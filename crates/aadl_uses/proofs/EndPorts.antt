@@ -9,7 +9,8 @@ use Rattle.aadl_tree.specs.Declarations.{PackageTree}
 use Rattle.aadl_names.specs.proof.MemberNumbers.{member_of}
 use Rattle.aadl_names.specs.declared.numbered_port.NumberedPort.TheVariants.{Own, Inner}
 use Rattle.aadl_names.specs.NameResolution.{implementation_in, implementation_at, subcomponents_of, referred}
-use Rattle.aadl_names.specs.NameResolution.{target_of, port_named, sub_named, ports_at, inner_end_port, end_port_by, end_port}
+use Rattle.aadl_names.specs.NameResolution.{target_of, port_named, sub_named, ports_at, inner_end_port, end_port_by}
+use Rattle.aadl_names.specs.NameResolution.{end_port}
 use Rattle.aadl_uses.specs.ContainmentAndUse.{below}
 
 member_is : (name : List ℕ) (x : Implementation ℕ) (o : Option (Declaration ℕ)) → implementation_in o ≡ Some x
@@ -22,7 +23,8 @@ member_is name x (Some (implementation y)) e =
 module _ (tree : PackageTree ℕ) (n : ℕ) (x : Implementation ℕ) (end : ConnectionEnd ℕ)
     (is : implementation_at tree n ≡ Some x) where
   -- the ports that an end with one word and an end with two words name
-  one : end.second ≡ None → end_port tree x end ≡ option_map Own (port_named (ports_at tree (Some x)) end.first.spelling)
+  one : end.second ≡ None → end_port tree x end
+      ≡ option_map Own (port_named (ports_at tree (Some x)) end.first.spelling)
   unfolding end_port
   one none = ap (end_port_by tree x end.first) none
 

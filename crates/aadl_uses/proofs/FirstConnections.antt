@@ -37,7 +37,8 @@ pub of_site : (a : NumberedPort) (o : Option NumberedPort) → o ≡ Some a → 
 of_site a o e = ap (is_port a) e ∙ itself a
 
 -- ---- one more number in a table
-pub number-added : (table new : List (NumberedPort × ℕ)) (target : NumberedPort) (n : ℕ) → new ≡ table ++ (target, n) ∷ []
+pub number-added : (table new : List (NumberedPort × ℕ)) (target : NumberedPort) (n : ℕ)
+    → new ≡ table ++ (target, n) ∷ []
     → (other : NumberedPort) → number_of new other
     ≡ option_or (number_of table other) (cond (is_port other (Some target)) (Some n) None)
 number-added table new target n more other =
@@ -65,7 +66,8 @@ left_at : (wires : List ConnectionPorts) (i : ℕ) (other : ConnectionPorts) →
 left_at wires i other within =
     drop-cons wires i other within ∙ ap (λ n. get_or wires i other ∷ drop n wires) (sym (add-one i))
 
-pub next_first : (wires : List ConnectionPorts) (i : ℕ) (other : ConnectionPorts) (old new whole : Option ℕ) (test : ConnectionPorts → Bool)
+pub next_first : (wires : List ConnectionPorts) (i : ℕ) (other : ConnectionPorts) (old new whole : Option ℕ)
+    (test : ConnectionPorts → Bool)
     → i < length wires
     → new ≡ option_or old (cond (test (get_or wires i other)) (Some i) None)
     → option_or old (position_from test i (drop i wires)) ≡ whole
@@ -73,15 +75,18 @@ pub next_first : (wires : List ConnectionPorts) (i : ℕ) (other : ConnectionPor
 next_first wires i other old new whole test within more so_far =
     ap (λ (o : Option ℕ). option_or o (position_from test (i + 1) (drop (i + 1) wires))) more
     ∙ (or_assoc old (test (get_or wires i other)) i (position_from test (i + 1) (drop (i + 1) wires))
-    ∙ (ap (λ (l : List ConnectionPorts). option_or old (position_from test i l)) (sym (left_at wires i other within)) ∙ so_far))
+    ∙ (ap (λ (l : List ConnectionPorts). option_or old (position_from test i l)) (sym (left_at wires i other within))
+    ∙ so_far))
 
 none_left : (wires : List ConnectionPorts) (i : ℕ) → length wires ≤ i → drop i wires ≡ []
 none_left wires i past = grind (arith, common_steps)
 
-pub last_first : (wires : List ConnectionPorts) (i : ℕ) (now whole : Option ℕ) (test : ConnectionPorts → Bool) → length wires ≤ i
+pub last_first : (wires : List ConnectionPorts) (i : ℕ) (now whole : Option ℕ) (test : ConnectionPorts → Bool)
+    → length wires ≤ i
     → option_or now (position_from test i (drop i wires)) ≡ whole → now ≡ whole
 last_first wires i now whole test past so_far = none_more now
-    ∙ (ap (λ (l : List ConnectionPorts). option_or now (position_from test i l)) (sym (none_left wires i past)) ∙ so_far)
+    ∙ (ap (λ (l : List ConnectionPorts). option_or now (position_from test i l)) (sym (none_left wires i past))
+    ∙ so_far)
 
 -- ---- the first element that passes
 -- it passes, and no earlier one does
@@ -90,7 +95,8 @@ pub record FirstAt (wires : List ConnectionPorts) (target : NumberedPort) (k n :
   pub is : n ≡ k + index
   pub passes : target_in wires index ≡ Some target
 
-first_by : (w : ConnectionPorts) (ws : List ConnectionPorts) (target : NumberedPort) (k n : ℕ) (b : Bool) → is_port target w.target ≡ b
+first_by : (w : ConnectionPorts) (ws : List ConnectionPorts) (target : NumberedPort) (k n : ℕ) (b : Bool)
+    → is_port target w.target ≡ b
     → (position_from (λ x. is_port target x.target) (k + 1) ws ≡ Some n → FirstAt ws target (k + 1) n)
     → cond b (Some k) (position_from (λ x. is_port target x.target) (k + 1) ws) ≡ Some n → FirstAt (w ∷ ws) target k n
 first_by w ws target k n true e rest f = let s = same_Some k n f in
@@ -98,14 +104,16 @@ first_by w ws target k n true e rest f = let s = same_Some k n f in
 first_by w ws target k n false e rest f = let r = rest f in let s = r.is in
     record { index = suc r.index; is = omega arith; passes = r.passes }
 
-first_at : (ws : List ConnectionPorts) (target : NumberedPort) (k n : ℕ) → position_from (λ x. is_port target x.target) k ws ≡ Some n
+first_at : (ws : List ConnectionPorts) (target : NumberedPort) (k n : ℕ)
+    → position_from (λ x. is_port target x.target) k ws ≡ Some n
     → FirstAt ws target k n
 first_at [] target k n e = absurd (none-some n e)
 first_at (w ∷ ws) target k n e =
     first_by w ws target k n (is_port target w.target) refl (first_at ws target (k + 1) n) e
 
 -- if an element passes, the first one is at its position or before it
-before_by : (w : ConnectionPorts) (ws : List ConnectionPorts) (target : NumberedPort) (k j : ℕ) (b : Bool) → is_port target w.target ≡ b
+before_by : (w : ConnectionPorts) (ws : List ConnectionPorts) (target : NumberedPort) (k j : ℕ) (b : Bool)
+    → is_port target w.target ≡ b
     → target_in (w ∷ ws) j ≡ Some target
     → ((i : ℕ) → target_in ws i ≡ Some target
     → (n : ℕ) × (position_from (λ x. is_port target x.target) (k + 1) ws ≡ Some n) × (n ≤ k + 1 + i))
@@ -136,7 +144,8 @@ second_to wires number target h (Some n) e t =
     let is = f.is in
     record { first = f.index; target = target; in_order = omega arith; earlier = f.passes; here = h }
 
-pub second_from : (wires : List ConnectionPorts) (number : ℕ) (target : NumberedPort) → target_in wires number ≡ Some target
+pub second_from : (wires : List ConnectionPorts) (number : ℕ) (target : NumberedPort)
+    → target_in wires number ≡ Some target
     → IsDuplicate wires number
     → is_before (first_into wires target) number ≡ true
 second_from wires number target h s =
@@ -154,5 +163,6 @@ is_second-tells wires number target b h is = (
   λ s. is ∙ second_from wires number target h s,
 )
 
-pub no_second : (wires : List ConnectionPorts) (number : ℕ) → target_in wires number ≡ None → IsTrue false ↔ IsDuplicate wires number
+pub no_second : (wires : List ConnectionPorts) (number : ℕ) → target_in wires number ≡ None
+    → IsTrue false ↔ IsDuplicate wires number
 no_second wires number h = (λ t. absurd (true≢false (sym t)), λ s. absurd (none-some s.target (sym h ∙ s.here)))

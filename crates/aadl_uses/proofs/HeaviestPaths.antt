@@ -6,7 +6,8 @@ use Rattle.std.proofs.lemmas.Bool.{cases_order, cases_lt}
 use Rattle.aadl_uses.specs.proof.ContainmentGraphs.{Graph, targets_in, below_in}
 use Rattle.aadl_uses.specs.proof.MarkedPathCounts.{IsMarkedAt}
 use Rattle.aadl_uses.proofs.MarkedPathCounts.{Begun, deeper, shallower, more_begun, fewer_begun, none_begun, all_begun}
-use Rattle.aadl_uses.specs.proof.HeaviestPaths.{weight_of, path_weight, IsGreatest, IsGreatestOf, IsHeaviest, AreWeighed}
+use Rattle.aadl_uses.specs.proof.HeaviestPaths.{weight_of, path_weight, IsGreatest, IsGreatestOf, IsHeaviest}
+use Rattle.aadl_uses.specs.proof.HeaviestPaths.{AreWeighed}
 use Rattle.aadl_uses.specs.proof.HeaviestPaths.{own_weight, found_from, heavier}
 
 -- ---- of the same paths

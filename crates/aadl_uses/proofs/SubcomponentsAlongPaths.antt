@@ -40,7 +40,8 @@ module _ (tree : PackageTree ℕ) (root : ℕ) where
       → number_at_path tree root (reverse (take i path)) ≡ Some here
       → number_at_path tree root (reverse (take (i + 1) path)) ≡ below tree here s
   next_standing path i s here within is stands =
-      ap (number_at_path tree root) (reversed_more path i s within is) ∙ ap (option_and_then (λ n. below tree n s)) stands
+      ap (number_at_path tree root) (reversed_more path i s within is)
+      ∙ ap (option_and_then (λ n. below tree n s)) stands
 
   pub next_some : (path : List ℕ) (i s here next : ℕ) → i < length path → s ≡ get_or path i 0
       → number_at_path tree root (reverse (take i path)) ≡ Some here → Some next ≡ below tree here s
@@ -54,8 +55,10 @@ module _ (tree : PackageTree ℕ) (root : ℕ) where
       none_all path (i + 1) (next_standing path i s here within is stands ∙ sym e)
 
   pub all_standing : (path : List ℕ) (i here : ℕ) → length path ≤ i
-      → number_at_path tree root (reverse (take i path)) ≡ Some here → number_at_path tree root (reverse path) ≡ Some here
-  all_standing path i here past stands = ap (λ p. number_at_path tree root (reverse p)) (sym (take_all i path past)) ∙ stands
+      → number_at_path tree root (reverse (take i path)) ≡ Some here
+      → number_at_path tree root (reverse path) ≡ Some here
+  all_standing path i here past stands = ap (λ p. number_at_path tree root (reverse p)) (sym (take_all i path past))
+      ∙ stands
 
 -- a declaration without this subcomponent leads nowhere
 pub none_below : (tree : PackageTree ℕ) (n s : ℕ) → sub_at tree n s ≡ None → below tree n s ≡ None

@@ -11,7 +11,8 @@ use Rattle.pals_model.specs.ComponentInputs.{values_at}
 use Rattle.pals_model.specs.RoundTexts.{line_end, text_of, round_line, component_line}
 use Rattle.pals_model.proofs.TextLineLaws.{text_of-append}
 use Rattle.pals_runs.specs.declared.replica_faults.VoteFault.{VoteFault}
-use Rattle.triple_vote.specs.VotedComposition.{VotedConfiguration, is_replicated, copies_of, frame_at, voted_composition, voted_tap}
+use Rattle.triple_vote.specs.VotedComposition.{VotedConfiguration, is_replicated, copies_of, frame_at}
+use Rattle.triple_vote.specs.VotedComposition.{voted_composition, voted_tap}
 use Rattle.triple_vote.specs.proof.VotedStates.{VotedState, voted_advanced}
 use Rattle.triple_vote.specs.VotedText.{replica_name, shown_line, voted_row, voted_lines, voted_report}
 use Rattle.analysis_texts.specs.proof.ReplicaNamesAndLines.{all_lines}
@@ -78,7 +79,8 @@ made_from design env replicated faults round old new h =
 
 pub stands_next : (design : DesignParts) (env : Env) (replicated : List Bool) (faults : ℕ → List VoteFault) (round : ℕ)
     (old new : VotedState)
-    → MakesRound design env replicated faults round old new → new.voted ≡ voted_composition design env replicated faults (suc round)
+    → MakesRound design env replicated faults round old new
+    → new.voted ≡ voted_composition design env replicated faults (suc round)
 unfolding voted_composition
 stands_next design env replicated faults round old new h =
     ap (λ (s : VotedState). s.voted) (made_from design env replicated faults round old new h)
@@ -105,7 +107,8 @@ voted_more design env replicated faults round old new text longer h rows row =
     let shown = λ (tap : Tap). voted_tap design env replicated faults tap round in
     let made = made_from design env replicated faults round old new h in
     let line =
-    λ (d : DesignParts) (r : List Bool) (v : VotedConfiguration). text ++ text_of (voted_row d r (frame_at v) shown round) in
+    λ (d : DesignParts) (r : List Bool) (v : VotedConfiguration). text
+    ++ text_of (voted_row d r (frame_at v) shown round) in
     record {
       stands =
           stands_next design env replicated faults round old new h

@@ -48,7 +48,8 @@ along-stops stop.NoMemory e at fresh reached reached' left = tt
 -- the first open transition, of one that there may be and those after it
 first_open-with : (o : Option Edge) (es : List Edge) (frame : Frame) (fresh : List Bool)
     → first_open (with_first o es) frame fresh
-    ≡ on_value (opens_at o (frame_of frame.vars frame.held) fresh) (λ yes. if yes then Ok o else first_open es frame fresh)
+    ≡ on_value (opens_at o (frame_of frame.vars frame.held) fresh)
+    (λ yes. if yes then Ok o else first_open es frame fresh)
 first_open-with None es frame fresh = refl
 first_open-with (Some e) es frame fresh =
     ap (λ r. on_value r (λ yes. if yes then Ok (Some e) else first_open es frame fresh))

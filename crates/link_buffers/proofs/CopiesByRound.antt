@@ -29,7 +29,8 @@ items_there (c ∷ copies) some = omega arith
 pub rising_rest : (x : RoundCopies) (xs : List RoundCopies) → AreRising (x ∷ xs) → AreRising xs
 rising_rest x xs rising i j d lt within = rising (suc i) (suc j) d (omega arith) (omega arith)
 
-pub rising_head : (x : RoundCopies) (xs : List RoundCopies) → AreRising (x ∷ xs) → (k : ℕ) (d : RoundCopies) → k < length xs
+pub rising_head : (x : RoundCopies) (xs : List RoundCopies) → AreRising (x ∷ xs) → (k : ℕ) (d : RoundCopies)
+    → k < length xs
     → x.round < (get_or xs k d).round
 rising_head x xs rising k d within = rising zero (suc k) d (omega arith) (omega arith)
 
@@ -41,7 +42,8 @@ module _ (r : ℕ) where
   abbrev pub AreOthers : List RoundCopies → ℕ → Type 0
   AreOthers xs n = (k : ℕ) (d : RoundCopies) → k < n → is_for r (get_or xs k d) ≡ false
 
-  pub copies-other : (x : RoundCopies) (xs : List RoundCopies) → is_for r x ≡ false → copies_of r (x ∷ xs) ≡ copies_of r xs
+  pub copies-other : (x : RoundCopies) (xs : List RoundCopies) → is_for r x ≡ false
+      → copies_of r (x ∷ xs) ≡ copies_of r xs
   copies-other x xs other =
       ap (λ b. option_map_or (λ (e : RoundCopies). e.copies) (cond b (Some x) (find (is_for r) xs)) []) other
 
@@ -119,7 +121,8 @@ module _ (r : ℕ) where
         | true ↦ λ some. same_head x xs ys rest
         | false ↦ λ none. (elim (is_for r x) as (λ b. is_for r x ≡ b → copies_of r ys ≡ copies_of r (x ∷ xs)) [
           | true ↦ λ here.
-              rest ∙ copies_nowhere xs (λ k d lt. let later = rising_head x xs rising k d lt in grind (arith, nat_tests))
+              rest ∙ copies_nowhere xs (λ k d lt. let later =
+              rising_head x xs rising k d lt in grind (arith, nat_tests))
               ∙ sym (copies-here x xs here ∙ empty x none)
           | false ↦ λ other. rest ∙ sym (copies-other x xs other)
         ]) refl
@@ -178,7 +181,8 @@ module _ (r : ℕ) (xs : List RoundCopies) (n : ℕ) (rising : AreRising xs) (wi
     round_is d = sym (eqb-true s.round r found.2) ∙ ap (λ (e : RoundCopies). e.round) (sym (entry_is d))
 
     pub copies_there : (d : RoundCopies) → copies_of r xs ≡ (get_or xs n d).copies
-    copies_there d = copies_at r xs n s others_ahead found.1 found.2 ∙ ap (λ (e : RoundCopies). e.copies) (sym (entry_is d))
+    copies_there d = copies_at r xs n s others_ahead found.1 found.2
+        ∙ ap (λ (e : RoundCopies). e.copies) (sym (entry_is d))
 
     module _ (d : RoundCopies) (ys : List FlightCopy) where
       abbrev changed : RoundCopies
@@ -190,7 +194,8 @@ module _ (r : ℕ) (xs : List RoundCopies) (n : ℕ) (rising : AreRising xs) (wi
       pub copies_changed : copies_of r (set xs n changed) ≡ ys
       copies_changed = copies_set r xs n changed inside others_ahead (let same = round_is d in grind (arith, nat_tests))
 
-      pub others_changed : (other : ℕ) → nat_eq r other ≡ false → copies_of other (set xs n changed) ≡ copies_of other xs
+      pub others_changed : (other : ℕ) → nat_eq r other ≡ false
+          → copies_of other (set xs n changed) ≡ copies_of other xs
       others_changed other apart =
           other_set other xs n changed (subst (λ m. nat_eq m other ≡ false) (round_is d) apart)
           (λ e. subst (λ m. nat_eq m other ≡ false) (round_is e) apart)
@@ -243,12 +248,15 @@ module _ (r : ℕ) (xs : List RoundCopies) (n : ℕ) (rising : AreRising xs) (wi
     (parts : IsFirstToFail (λ (e : RoundCopies). nat_lt e.round r) xs n) where
   pub no_copies : option_map_or (has_copies_for r) (slice_get xs n) false ≡ false → copies_of r xs ≡ []
   no_copies absent =
-      (elim (slice_get xs n) as (λ o. slice_get xs n ≡ o → option_map_or (has_copies_for r) o false ≡ false → copies_of r xs ≡ []) [
+      (elim (slice_get xs n) as (λ o. slice_get xs n ≡ o → option_map_or (has_copies_for r) o false ≡ false
+      → copies_of r xs ≡ []) [
         | None ↦ λ at _. nowhere r xs n rising within parts (ap (λ o. option_map_or (is_for r) o false) at)
-        | Some s ↦ λ at fails. (elim (is_for r s) as (λ b. is_for r s ≡ b → b && has_copies s ≡ false → copies_of r xs ≡ []) [
-          | true ↦ λ here none. copies_at r xs n s (others_ahead r xs n rising within parts) at here ∙ empty s none
-          | false ↦ λ other _. nowhere r xs n rising within parts (ap (λ o. option_map_or (is_for r) o false) at ∙ other)
-        ]) refl fails
+        | Some s ↦ λ at fails. (elim (is_for r s) as
+            (λ b. is_for r s ≡ b → b && has_copies s ≡ false → copies_of r xs ≡ []) [
+              | true ↦ λ here none. copies_at r xs n s (others_ahead r xs n rising within parts) at here ∙ empty s none
+              | false ↦ λ other _. nowhere r xs n rising within parts
+                  (ap (λ o. option_map_or (is_for r) o false) at ∙ other)
+            ]) refl fails
       ]) refl absent
 
 pub entry_is_for : (r : ℕ) (o : Option RoundCopies) → option_map_or (has_copies_for r) o false ≡ true

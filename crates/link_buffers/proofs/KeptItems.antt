@@ -29,7 +29,8 @@ module _ {X : Type 0} (p : X → Bool) where
       let kept = filter p (take n xs) in
       let y = get_or xs n x in
       rw (drop_front xs kept n within, take_front xs kept n x within)
-      (append_assoc (drop (n + 1) xs) kept (filter p (y ∷ [])) ∙ ap (λ ys. drop (n + 1) xs ++ ys) (sym (filter_more p xs n x within)))
+      (append_assoc (drop (n + 1) xs) kept (filter p (y ∷ []))
+      ∙ ap (λ ys. drop (n + 1) xs ++ ys) (sym (filter_more p xs n x within)))
 
   pub turned_all : (xs : List X) → turned xs (length xs) ≡ filter p xs
   turned_all xs = rw (drop_all (length xs) xs (omega arith), take_all (length xs) xs (omega arith)) refl

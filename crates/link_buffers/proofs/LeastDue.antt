@@ -50,7 +50,8 @@ is_in-due_rounds reading round (c ∷ copies) =
     let rest = is_in-due_rounds reading round copies in
     let dues = filter (is_due reading) copies in
     let ours = filter (is_of round) copies in
-    (elim (is_due reading c) as (λ due. is_due reading c ≡ due → is_in round (map (λ (x : FlightCopy). x.round) (cond due (c ∷ dues) dues))
+    (elim (is_due reading c) as (λ due. is_due reading c ≡ due
+    → is_in round (map (λ (x : FlightCopy). x.round) (cond due (c ∷ dues) dues))
     ≡ list_any (is_due reading) (cond (is_of round c) (c ∷ ours) ours)) [
       | true ↦ λ due. (elim (is_of round c) as (λ of. (of || is_in round (due_rounds reading copies))
           ≡ list_any (is_due reading) (cond of (c ∷ ours) ours)) [
@@ -88,7 +89,8 @@ module _ (reading : ℕ) where
       → find (has_due reading) rounds ≡ Some entry → IsFirstDue rounds entry.round
   first_some [] entry rising found = absurd (cc)
   first_some (x ∷ xs) entry rising found =
-      (elim (has_due reading x) as (λ b. has_due reading x ≡ b → cond b (Some x) (find (has_due reading) xs) ≡ Some entry
+      (elim (has_due reading x) as (λ b. has_due reading x ≡ b
+      → cond b (Some x) (find (has_due reading) xs) ≡ Some entry
       → IsFirstDue (x ∷ xs) entry.round) [
         | true ↦ λ due same. subst (λ (e : RoundCopies). IsFirstDue (x ∷ xs) e.round) (same_Some x entry same) (
           ap (list_any (is_due reading)) (copies-here x.round x xs (grind (arith, nat_tests))) ∙ due,
@@ -107,7 +109,8 @@ module _ (reading : ℕ) where
               ap (list_any (is_due reading)) (copies-other entry.round x xs (grind (arith, nat_tests))) ∙ first.0,
               λ round has. (elim (is_for round x) as (λ b. is_for round x ≡ b → entry.round ≤ round) [
                 | true ↦ λ here.
-                    let nothing : false ≡ true = sym idle ∙ ap (list_any (is_due reading)) (sym (copies-here round x xs here)) ∙ has in
+                    let nothing : false ≡ true = sym idle ∙ ap (list_any (is_due reading))
+                    (sym (copies-here round x xs here)) ∙ has in
                     absurd (cc)
                 | false ↦ λ other.
                     first.1 round (ap (list_any (is_due reading)) (sym (copies-other round x xs other)) ∙ has)
@@ -130,7 +133,8 @@ module _ (reading : ℕ) where
 
   pub first_is_least : (rounds : List RoundCopies) (copies : List FlightCopy) → AreRising rounds
       → AreByRound rounds copies
-      → option_map (λ (entry : RoundCopies). entry.round) (find (has_due reading) rounds) ≡ least (due_rounds reading copies)
+      → option_map (λ (entry : RoundCopies). entry.round) (find (has_due reading) rounds)
+      ≡ least (due_rounds reading copies)
   first_is_least rounds copies rising by_round =
       let same : (round : ℕ) → is_in round (due_rounds reading copies) ≡ due_in round rounds =
       λ round. is_in-due_rounds reading round copies ∙ ap (list_any (is_due reading)) (sym (by_round round)) in

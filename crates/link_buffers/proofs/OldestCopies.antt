@@ -37,7 +37,8 @@ module _ {X : Type 0} (p : X → Bool) where
   filter_without [] = refl
   filter_without (x ∷ xs) =
       ap (filter p) (without_cons x xs)
-      ∙ (elim (p x) as (λ b. p x ≡ b → filter p (cond b xs (x ∷ without xs)) ≡ drop 1 (cond b (x ∷ filter p xs) (filter p xs))) [
+      ∙ (elim (p x) as (λ b. p x ≡ b → filter p (cond b xs (x ∷ without xs))
+      ≡ drop 1 (cond b (x ∷ filter p xs) (filter p xs))) [
         | true ↦ λ here. refl
         | false ↦ λ other. rw other (filter_without xs)
       ]) refl
@@ -64,7 +65,8 @@ module _ {X : Type 0} (p : X → Bool) where
   length_without [] some = absurd (omega arith)
   length_without (x ∷ xs) some =
       ap (λ ys. length ys + 1) (without_cons x xs)
-      ∙ (elim (p x) as (λ b. 0 < length (cond b (x ∷ filter p xs) (filter p xs)) → length (cond b xs (x ∷ without xs)) + 1 ≡ length (x ∷ xs)) [
+      ∙ (elim (p x) as (λ b. 0 < length (cond b (x ∷ filter p xs) (filter p xs))
+      → length (cond b xs (x ∷ without xs)) + 1 ≡ length (x ∷ xs)) [
         | true ↦ λ here. omega arith
         | false ↦ λ here. let rest = length_without xs here in omega (arith, rest)
       ]) some
@@ -103,7 +105,8 @@ module _ (old new : List RoundCopies) (copies : List FlightCopy) (by_round : Are
   pub by_round-added : (copy : FlightCopy) → copies_of copy.round new ≡ copies_of copy.round old ++ copy ∷ []
       → HaveSameOthers copy.round old new → AreByRound new (copies ++ copy ∷ [])
   by_round-added copy added others round =
-      (elim (nat_eq copy.round round) as (λ b. nat_eq copy.round round ≡ b → copies_of round new ≡ filter (is_of round) (copies ++ copy ∷ [])) [
+      (elim (nat_eq copy.round round) as (λ b. nat_eq copy.round round ≡ b
+      → copies_of round new ≡ filter (is_of round) (copies ++ copy ∷ [])) [
         | true ↦ λ here.
             subst (λ r. copies_of r new ≡ filter (is_of r) (copies ++ copy ∷ [])) (eqb-true copy.round round here)
             (added ∙ ap (λ ys. ys ++ copy ∷ []) (by_round copy.round)
@@ -120,7 +123,8 @@ module _ (old new : List RoundCopies) (copies : List FlightCopy) (by_round : Are
   pub by_round-taken : (round : ℕ) → copies_of round new ≡ drop 1 (copies_of round old)
       → HaveSameOthers round old new → AreByRound new (without_oldest round copies)
   by_round-taken round left others other =
-      (elim (nat_eq round other) as (λ b. nat_eq round other ≡ b → copies_of other new ≡ filter (is_of other) (without_oldest round copies)) [
+      (elim (nat_eq round other) as (λ b. nat_eq round other ≡ b
+      → copies_of other new ≡ filter (is_of other) (without_oldest round copies)) [
         | true ↦ λ here.
             subst (λ r. copies_of r new ≡ filter (is_of r) (without_oldest round copies)) (eqb-true round other here)
             (left ∙ ap (drop 1) (by_round round) ∙ sym (filter_without (is_of round) copies))

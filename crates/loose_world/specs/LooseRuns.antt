@@ -7,7 +7,8 @@ use Rattle.pals_runs.specs.declared.events_and_faults.EventFault.{EventFault}
 use Rattle.pals_runs.specs.declared.journal.Stop.{Stop}
 use Rattle.bus_machine.specs.Machine.{BusEvent}
 use Rattle.pals_bus.specs.BusValues.{BusValue}
-use Rattle.pals_bus.specs.LooseEvents.{loose_event, IsNamedIn, event_node, event_message, HappensLoose, GoesOn, IsRefused}
+use Rattle.pals_bus.specs.LooseEvents.{loose_event, IsNamedIn, event_node, event_message, HappensLoose, GoesOn}
+use Rattle.pals_bus.specs.LooseEvents.{IsRefused}
 use Rattle.loose_world.specs.SentLines.{sent_lines}
 use Rattle.loose_world.specs.declared.loose_run.LooseEnd.{LooseEnd}
 use Rattle.pals_runs.specs.declared.events_and_faults.Event.TheVariants as event

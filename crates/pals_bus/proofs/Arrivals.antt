@@ -71,7 +71,8 @@ owed_same n m port round tuple is =
     ap₂ (λ p b. (if is_some (running_step p) then 1 else 0) + (if b then 0 else 1))
     (ap (λ (s : NodeState). s.phase) is ∙ kept.1) (ap (λ (s : NodeState). s.sent) is ∙ kept.0)
 
-pub owed_arrived : (f : BusFields) (node : ℕ) (m : NodeValue) (port round : ℕ) (tuple : List PortValue) → IsBusInvariant f
+pub owed_arrived : (f : BusFields) (node : ℕ) (m : NodeValue) (port round : ℕ) (tuple : List PortValue)
+    → IsBusInvariant f
     → node < length f.nodes
     → m ≡ with_state (node_value (value_of f) node) (received (node_at (state_of f) node) port round tuple)
     → sum_by owed (slice_set f.nodes node m) ≡ sum_by owed f.nodes
@@ -161,7 +162,8 @@ one_stop None = omega arith
 one_stop (Some why) = omega arith
 
 pub arrive_keeps_bus : (f t g : BusFields) (link : LinkNo) (round : ℕ) (reading : Option ℕ) (tuple : List PortValue)
-    (m : NodeValue) → IsBusInvariant f → link.0 < length (arc_value f.design).links → Comes f t g link round reading tuple m
+    (m : NodeValue) → IsBusInvariant f → link.0 < length (arc_value f.design).links
+    → Comes f t g link round reading tuple m
     → Happens (value_of f) (Arrive link round reading) (value_of g)
     → length f.journal.items + sum_by owed f.nodes + 2 ≤ vec_capacity g.journal → IsBusInvariant g
 arrive_keeps_bus f t g link round reading tuple m keeps within comes happens room =
@@ -219,7 +221,8 @@ node_after nodes target port round tuple =
     with_state (node_of nodes target) (received (node_of nodes target).state port round tuple)
 
 -- the node that a message comes to is there
-pub reached_within : (f t : BusFields) (link : LinkNo) (round : ℕ) (tuple : Option (List PortValue)) (target : ℕ) → IsBusInvariant f
+pub reached_within : (f t : BusFields) (link : LinkNo) (round : ℕ) (tuple : Option (List PortValue)) (target : ℕ)
+    → IsBusInvariant f
     → link.0 < length (arc_value f.design).links → Takes f t link round tuple
     → target ≡ (slice_index_or (arc_value f.design).links link.0 no_link).target.0 → target < length t.nodes
 reached_within f t link round tuple target keeps within takes target_is =
@@ -229,7 +232,8 @@ reached_within f t link round tuple target keeps within takes target_is =
     omega (arith, nodes, count, there, target_is)
 
 -- the node in its new state
-node_reached : (f t : BusFields) (link : LinkNo) (round : ℕ) (tuple : Option (List PortValue)) (target : ℕ) → IsBusInvariant f
+node_reached : (f t : BusFields) (link : LinkNo) (round : ℕ) (tuple : Option (List PortValue)) (target : ℕ)
+    → IsBusInvariant f
     → link.0 < length (arc_value f.design).links → Takes f t link round tuple
     → target ≡ (slice_index_or (arc_value f.design).links link.0 no_link).target.0
     → node_of t.nodes target
@@ -250,7 +254,9 @@ pub slot_reached : (f t : BusFields) (link : LinkNo) (round : ℕ) (tuple : Opti
     → port < length (node_of t.nodes target).state.slots
 slot_reached f t link round tuple target port keeps within takes target_is port_is =
     let here = node_reached f t link round tuple target keeps within takes target_is in
-    let slots : length (node_of t.nodes target).state.slots ≡ length (node_at (state_of f) (slice_index_or (arc_value f.design).links link.0 no_link).target.0).slots = ap (λ (k : NodeValue). length k.state.slots) here in
+    let slots : length (node_of t.nodes target).state.slots
+    ≡ length (node_at (state_of f) (slice_index_or (arc_value f.design).links link.0 no_link).target.0).slots =
+    ap (λ (k : NodeValue). length k.state.slots) here in
     let room = has_slot f link.0 keeps within in
     omega (arith, slots, room, port_is)
 

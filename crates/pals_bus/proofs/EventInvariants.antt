@@ -17,7 +17,8 @@ use Rattle.pals_bus.specs.declared.bus_fields.BusFields.{BusFields}
 use Rattle.pals_bus.specs.BusValues.{BusValue, Happens}
 use Rattle.pals_bus.specs.proof.StepCodesOfNodes.{codes_in}
 use Rattle.pals_bus.specs.proof.NodeLists.{node_value}
-use Rattle.pals_bus.specs.proof.BusInvariant.{AreNodes, HasRooms, IsBusInvariant, copies_in, owed, run_of, state_of, value_of}
+use Rattle.pals_bus.specs.proof.BusInvariant.{AreNodes, HasRooms, IsBusInvariant, copies_in, owed, run_of, state_of}
+use Rattle.pals_bus.specs.proof.BusInvariant.{value_of}
 use Rattle.pals_bus.specs.proof.RoundMessages.{NoLessRoom}
 use Rattle.pals_bus.specs.proof.DueQueues.{AreQueues}
 use Rattle.pals_bus.proofs.NodeChanges.{states, states-set, codes-set, same_node}
@@ -32,7 +33,8 @@ changed f node m flights stop journal = record (value_of f) {
 }
 
 -- an event that changes one node
-pub node_happens : (f : BusFields) (e : BusEvent) (node : ℕ) (m : NodeValue) (s : NodeState) (flights : List FlightState)
+pub node_happens : (f : BusFields) (e : BusEvent) (node : ℕ) (m : NodeValue) (s : NodeState)
+    (flights : List FlightState)
     (copies : List (List FlightCopy)) (stop : Option Stop) (journal : List JournalEntry)
     → IsBusInvariant f → f.stop ≡ None → node < length f.nodes → m ≡ with_state (node_value (value_of f) node) s
     → copies_in flights ≡ copies → is_allowed (run_of f) (state_of f) e ≡ true

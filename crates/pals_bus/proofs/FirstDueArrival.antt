@@ -184,8 +184,11 @@ pub left_after : (b c : BusValue) (node reading : ℕ) (x : DueEntry) (rest : Li
     → AreLeft c node reading rest
 left_after b c node reading x rest same within left happens = record {
   counts = λ e.
-      let before : cond (is_entry e x) 1 0 + count_by (is_entry e) rest ≡ (if is_due_at reading e then copies_in_flight b node e else 0) = sym (sum_by-cons (λ y. cond (is_entry e y) 1 0) x rest) ∙ left.counts e in
-      left_counts (is_due_at reading e) (copies_in_flight b node e) (cond (is_entry e x) 1 0) (count_by (is_entry e) rest)
+      let before : cond (is_entry e x) 1 0 + count_by (is_entry e) rest
+      ≡ (if is_due_at reading e then copies_in_flight b node e else 0) =
+      sym (sum_by-cons (λ y. cond (is_entry e y) 1 0) x rest) ∙ left.counts e in
+      left_counts (is_due_at reading e) (copies_in_flight b node e) (cond (is_entry e x) 1 0)
+      (count_by (is_entry e) rest)
       (copies_in_flight c node e) before (λ due. one_less b c node reading x rest e same within left happens);
   order = ordered_rest x rest left.order;
 }

@@ -44,7 +44,9 @@ no_less-set flights at flight within more number = elim (cases_eq number at) [
       ap (λ k. (slice_index_or flights k no_flight).spare) e in
       omega (arith, new, old, more)
   | inr other ↦
-      let new : (slice_index_or (slice_set flights at flight) number no_flight).spare ≡ (slice_index_or flights number no_flight).spare = ap (λ (k : FlightState). k.spare) (get_or-set_other flights at number flight no_flight other) in
+      let new : (slice_index_or (slice_set flights at flight) number no_flight).spare
+      ≡ (slice_index_or flights number no_flight).spare =
+      ap (λ (k : FlightState). k.spare) (get_or-set_other flights at number flight no_flight other) in
       omega (arith, new)
 ]
 
@@ -78,7 +80,9 @@ rooms-set links nodes old new node m within rooms less own number link is unsent
       own (sym (ap (λ (n : NodeValue). n.state.sent) here) ∙ unsent) number link
       (slice_get_within links number link is) is from
   | inr other ↦
-      let here : slice_index_or (slice_set nodes node m) link.source.0 no_node_value ≡ slice_index_or nodes link.source.0 no_node_value = get_or-set_other nodes node link.source.0 m no_node_value other in
+      let here : slice_index_or (slice_set nodes node m) link.source.0 no_node_value
+      ≡ slice_index_or nodes link.source.0 no_node_value =
+      get_or-set_other nodes node link.source.0 m no_node_value other in
       let before = rooms number link is (sym (ap (λ (n : NodeValue). n.state.sent) here) ∙ unsent) in
       let more = less number link is other in
       omega (arith, before, more)

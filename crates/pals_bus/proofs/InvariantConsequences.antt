@@ -25,7 +25,8 @@ pub within_nodes : (f : BusFields) (node : ℕ) → IsBusInvariant f → node < 
 within_nodes f node keeps within = let count = keeps.nodes.count in omega (arith, count, within)
 
 -- the state of a node
-pub state_is : (f : BusFields) (node : ℕ) (n : NodeValue) → IsBusInvariant f → node < length (arc_value f.design).components
+pub state_is : (f : BusFields) (node : ℕ) (n : NodeValue) → IsBusInvariant f
+    → node < length (arc_value f.design).components
     → n ≡ slice_index_or f.nodes node n → n.state ≡ node_at (state_of f) node
 state_is f node n keeps within is =
     ap (λ (m : NodeValue). m.state) (node_here f node n keeps (within_nodes f node keeps within) is)
@@ -35,7 +36,8 @@ agrees f keeps =
     replay_agrees (run_of f) f.journal.items (state_of f) (record { design = keeps.design; rounds = keeps.rounds.0 })
     keeps.replays
 
-pub many_states : (f : BusFields) → IsBusInvariant f → length (state_of f).nodes ≡ length (arc_value f.design).components
+pub many_states : (f : BusFields) → IsBusInvariant f
+    → length (state_of f).nodes ≡ length (arc_value f.design).components
 many_states f keeps = length-map f.nodes (λ (n : NodeValue). n.state) ∙ keeps.nodes.count
 
 -- a node has finished no more rounds than it has started

@@ -183,7 +183,8 @@ queue_room_for node links queues room = λ number link is from.
     of_one (λ (l : LinkNo). PORTS
     ≤ (slice_index_or queues (slice_index_or links l.0 no_link).target.0 no_queue).spare) node number links link
     room is from in
-    let same : (slice_index_or queues (slice_index_or links number no_link).target.0 no_queue).spare ≡ (slice_index_or queues link.target.0 no_queue).spare =
+    let same : (slice_index_or queues (slice_index_or links number no_link).target.0 no_queue).spare
+    ≡ (slice_index_or queues link.target.0 no_queue).spare =
     ap (λ (l : Link). (slice_index_or queues l.target.0 no_queue).spare)
     (get_or_from_slice_get links number link no_link is) in
     omega (arith, here, same)

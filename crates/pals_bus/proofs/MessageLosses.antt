@@ -48,7 +48,8 @@ pub drop_happens : (f t g : BusFields) (link : LinkNo) (round : ℕ) (tuple : Li
     → Happens (value_of f) (Drop link round) (value_of g)
 drop_happens f t g link round tuple going takes same told =
     let h : BusFields = record f { flights = t.flights; queues = t.queues; journal = g.journal } in
-    let is : g ≡ h = same ∙ ap (λ (k : BusFields). let u : BusFields = record k { journal = g.journal } in u) takes.others in
+    let is : g ≡ h = same ∙ ap (λ (k : BusFields). let u : BusFields = record k { journal = g.journal } in u)
+    takes.others in
     subst (Happens (value_of f) (Drop link round)) (sym (ap value_of is))
     (flights_happen f (Drop link round) t.flights
     (slice_set (copies_in f.flights) link.0 (without_oldest round (flight_at (state_of f) link.0))) g.journal.items
@@ -61,7 +62,8 @@ pub drop_keeps : (f t g : BusFields) (link : LinkNo) (round : ℕ) (tuple : List
     → length f.journal.items + sum_by owed f.nodes + 1 ≤ vec_capacity g.journal → IsBusInvariant g
 drop_keeps f t g link round tuple keeps takes same told happens room =
     let h : BusFields = record f { flights = t.flights; queues = t.queues; journal = g.journal } in
-    let is : g ≡ h = same ∙ ap (λ (k : BusFields). let u : BusFields = record k { journal = g.journal } in u) takes.others in
+    let is : g ≡ h = same ∙ ap (λ (k : BusFields). let u : BusFields = record k { journal = g.journal } in u)
+    takes.others in
     let step : Happens (value_of f) (Drop link round) (value_of h) =
     subst (λ (k : BusFields). Happens (value_of f) (Drop link round) (value_of k)) is happens in
     let size = longer g.journal.items f.journal.items (entry.Drop link round) told in

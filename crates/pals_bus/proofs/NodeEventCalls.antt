@@ -124,7 +124,8 @@ is_ready v old f h node round shows going within others copies items room round_
     flights =
         subst (λ (k : BusFields). HasRoomFor node.0 (length (arc_value k.design).links) (arc_value k.design).links
         k.flights) (sym read) room.flights;
-    queues = subst (λ (k : BusFields). HasQueueRoomFor node.0 (arc_value k.design).links k.queues) (sym read) room.queues;
+    queues = subst (λ (k : BusFields). HasQueueRoomFor node.0 (arc_value k.design).links k.queues) (sym read)
+        room.queues;
   };
 }
 
@@ -165,7 +166,8 @@ misses v h t g node reading round port why ready says unchanged is same told cap
     is ∙ ap (λ (k : BusFields).
     missed_stop (run_of k) (state_of k) node reading (link_into (arc_value k.design) node.0 port)) unchanged in
     let same_h =
-    same ∙ ap (λ (k : BusFields). let u : BusFields = record k { stop = Some why; journal = g.journal } in u) unchanged in
+    same ∙ ap (λ (k : BusFields). let u : BusFields = record k { stop = Some why; journal = g.journal } in u) unchanged
+    in
     let told_h = told ∙ ap (λ (k : BusFields). k.journal.items ++ entry.Stopped why ∷ []) unchanged in
     let says_h = start_misses h g node reading port why stands.keeps stands.going cause is_h same_h told_h in
     record {

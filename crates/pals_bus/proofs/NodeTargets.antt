@@ -14,7 +14,8 @@ use Rattle.pals_bus.proofs.NodeChanges.{node_is}
 use Rattle.pals_bus.specs.proof.Meeting.{target_in, HasEnded}
 
 -- that of a node is the one in the list
-pub target_listed : (f : BusFields) (b : BusValue) (targets : List (Option ℕ)) (node : ℕ) (o : Option ℕ) → IsBusInvariant f
+pub target_listed : (f : BusFields) (b : BusValue) (targets : List (Option ℕ)) (node : ℕ) (o : Option ℕ)
+    → IsBusInvariant f
     → value_of f ≡ b → targets ≡ map target_of_node f.nodes → node < length f.nodes
     → slice_index_or targets node None ≡ o → target_in b node ≡ o
 target_listed f b targets node o keeps shows are within is =
@@ -29,7 +30,8 @@ pub within_list : (f : BusFields) (targets : List (Option ℕ)) (node : ℕ) →
 within_list f targets node are within = let size = ap length are ∙ length-map f.nodes target_of_node in
     omega (arith, size, within)
 
-pub all_listed : (f : BusFields) (b : BusValue) (targets : List (Option ℕ)) (node : ℕ) → IsBusInvariant f → value_of f ≡ b
+pub all_listed : (f : BusFields) (b : BusValue) (targets : List (Option ℕ)) (node : ℕ) → IsBusInvariant f
+    → value_of f ≡ b
     → targets ≡ map target_of_node f.nodes → node < length b.run.design.components → node < length targets
 all_listed f b targets node keeps shows are within =
     let size = ap length are ∙ length-map f.nodes target_of_node in

@@ -124,7 +124,8 @@ none_value f g link round takes =
     ∙ ap (λ (cs : List (List FlightCopy)). record (value_of f) { state = record (state_of f) { flights = cs } })
     (same_copies f g link round takes)
 
-pub none_keeps : (f g : BusFields) (link : LinkNo) (round : ℕ) → IsBusInvariant f → Takes f g link round None → IsBusInvariant g
+pub none_keeps : (f g : BusFields) (link : LinkNo) (round : ℕ) → IsBusInvariant f → Takes f g link round None
+    → IsBusInvariant g
 none_keeps f g link round keeps takes =
     let h : BusFields = record f { flights = g.flights; queues = g.queues } in
     subst IsBusInvariant (sym takes.others)

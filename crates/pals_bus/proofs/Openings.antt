@@ -34,7 +34,8 @@ use Rattle.pals_node.specs.proof.NodeAndJobValues.{NodeValue, Program, program_o
 use Rattle.pals_bus.specs.declared.bus_fields.BusFields.{BusFields}
 use Rattle.pals_bus.specs.proof.StepCodesOfNodes.{AreCodes, codes_in, code_at, no_code}
 use Rattle.pals_bus.specs.proof.OpeningNodes.{opening_bus, AreOpening}
-use Rattle.pals_bus.specs.proof.BusInvariant.{AreNodes, HasRooms, IsBusInvariant, copies_in, owed, run_of, state_of, value_of}
+use Rattle.pals_bus.specs.proof.BusInvariant.{AreNodes, HasRooms, IsBusInvariant, copies_in, owed, run_of, state_of}
+use Rattle.pals_bus.specs.proof.BusInvariant.{value_of}
 use Rattle.pals_bus.specs.proof.LinksFromNodes.{AreOutgoing}
 use Rattle.pals_bus.specs.proof.DueQueues.{AreQueues}
 use Rattle.pals_bus.specs.proof.OutOfRangeDefaults.{no_flight, no_queue, no_node_value}

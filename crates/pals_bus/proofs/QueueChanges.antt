@@ -347,7 +347,9 @@ queue_more queues at k queue within more = elim (cases_eq k at) [
       ap (λ j. (slice_index_or queues j no_queue).spare) e in
       omega (arith, new, old, more)
   | inr other ↦
-      let new : (slice_index_or (slice_set queues at queue) k no_queue).spare ≡ (slice_index_or queues k no_queue).spare = ap (λ (q : QueueState). q.spare) (get_or-set_other queues at k queue no_queue other) in
+      let new : (slice_index_or (slice_set queues at queue) k no_queue).spare
+      ≡ (slice_index_or queues k no_queue).spare =
+      ap (λ (q : QueueState). q.spare) (get_or-set_other queues at k queue no_queue other) in
       omega (arith, new)
 ]
 

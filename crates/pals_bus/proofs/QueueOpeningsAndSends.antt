@@ -50,14 +50,17 @@ amid_one source links nodes flights queues link copy flight queue are within fli
                 ≡ 1 = ap (λ b. cond {A = ℕ} b 1 0)
                 (and_from (nat_eq here.source.0 source) (nat_eq here.target.0 node) (eq-eqb here.source.0 source from)
                 (eq-eqb here.target.0 node (sym at))) in
-                let new : (slice_index_or (slice_set queues t queue) node no_queue).spare ≡ (with_due (slice_index_or queues t no_queue) copy.due link copy.round).spare =
+                let new : (slice_index_or (slice_set queues t queue) node no_queue).spare
+                ≡ (with_due (slice_index_or queues t no_queue) copy.due link copy.round).spare =
                 ap (λ (q : QueueState). q.spare) (get_or-set_at queues t node queue no_queue at target ∙ queue_is) in
                 let old : (slice_index_or queues node no_queue).spare ≡ (slice_index_or queues t no_queue).spare =
                 ap (λ k. (slice_index_or queues k no_queue).spare) at in
                 let less = with_due_spare (slice_index_or queues t no_queue) copy.due link copy.round in
                 omega (arith, room, more, one, new, old, less)
             | inr away ↦
-                let same : (slice_index_or (slice_set queues t queue) node no_queue).spare ≡ (slice_index_or queues node no_queue).spare = ap (λ (q : QueueState). q.spare) (get_or-set_other queues t node queue no_queue away) in
+                let same : (slice_index_or (slice_set queues t queue) node no_queue).spare
+                ≡ (slice_index_or queues node no_queue).spare =
+                ap (λ (q : QueueState). q.spare) (get_or-set_other queues t node queue no_queue away) in
                 omega (arith, room, more, same)
           ];
     }

@@ -41,13 +41,15 @@ rooms_repeated : (links : List Link) (nodes : List NodeValue) (flights : List Fl
     → HasRooms links nodes (slice_set flights at (with_copy (slice_index_or flights at no_flight) copy))
 rooms_repeated links nodes flights at copy rooms within two number link is unsent = elim (cases_eq number at) [
   | inl here ↦
-      let new : (slice_index_or (slice_set flights at (with_copy (slice_index_or flights at no_flight) copy)) number no_flight).spare ≡ (slice_index_or flights at no_flight).spare - 1 =
+      let new : (slice_index_or (slice_set flights at (with_copy (slice_index_or flights at no_flight) copy)) number
+      no_flight).spare ≡ (slice_index_or flights at no_flight).spare - 1 =
       ap (λ (k : FlightState). k.spare)
       (get_or-set_at flights at number (with_copy (slice_index_or flights at no_flight) copy) no_flight
       here within) in
       omega (arith, new, two)
   | inr other ↦
-      let new : (slice_index_or (slice_set flights at (with_copy (slice_index_or flights at no_flight) copy)) number no_flight).spare ≡ (slice_index_or flights number no_flight).spare =
+      let new : (slice_index_or (slice_set flights at (with_copy (slice_index_or flights at no_flight) copy)) number
+      no_flight).spare ≡ (slice_index_or flights number no_flight).spare =
       ap (λ (k : FlightState). k.spare)
       (get_or-set_other flights at number (with_copy (slice_index_or flights at no_flight) copy) no_flight other) in
       let before = rooms number link is unsent in
@@ -81,7 +83,9 @@ queues_repeated links nodes flights queues link copy are few within target spare
             let one = with_due_spare (slice_index_or queues t no_queue) copy.due link copy.round in
             omega (arith, all, less, new, one, spare)
         | inr away ↦
-            let same : (slice_index_or (slice_set queues t queue) node no_queue).spare ≡ (slice_index_or queues node no_queue).spare = ap (λ (q : QueueState). q.spare) (get_or-set_other queues t node queue no_queue away) in
+            let same : (slice_index_or (slice_set queues t queue) node no_queue).spare
+            ≡ (slice_index_or queues node no_queue).spare =
+            ap (λ (q : QueueState). q.spare) (get_or-set_other queues t node queue no_queue away) in
             let room = are.room node in
             omega (arith, same, room)
       ];
@@ -134,7 +138,8 @@ repeat_keeps_bus f g link round copy keeps within repeats happens two wide room 
     repeats.others
     ∙ ap (λ (fs : List FlightState). let u : BusFields =
     record f { flights = fs; queues = g.queues; journal = g.journal } in u) repeats.flights
-    ∙ ap (λ (qs : List QueueState). let u : BusFields = record f { flights = flights; queues = qs; journal = g.journal } in
+    ∙ ap (λ (qs : List QueueState). let u : BusFields =
+    record f { flights = flights; queues = qs; journal = g.journal } in
     u) repeats.queues in
     let step : Happens (value_of f) (Repeat link round) (value_of h) =
     subst (λ (k : BusFields). Happens (value_of f) (Repeat link round) (value_of k)) is happens in

@@ -61,7 +61,8 @@ reserved_one k numbers old new link flight are is within same more some = record
         let now : j ≡ k = omega (arith, lt, at) in
         let here : (slice_index_or numbers j no_link_no).0 ≡ link.0 =
         ap (λ (n : ℕ). (slice_index_or numbers n no_link_no).0) now ∙ ap (λ (l : LinkNo). l.0) (sym is) in
-        let spare : (slice_index_or (slice_set new link.0 flight) (slice_index_or numbers j no_link_no).0 no_flight).spare ≡ flight.spare =
+        let spare : (slice_index_or (slice_set new link.0 flight) (slice_index_or numbers j no_link_no).0
+        no_flight).spare ≡ flight.spare =
         ap (λ (f : FlightState). f.spare)
         (get_or-set_at new link.0 (slice_index_or numbers j no_link_no).0 flight no_flight here within) in
         omega (arith, spare, some)

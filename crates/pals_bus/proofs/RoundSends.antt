@@ -35,7 +35,8 @@ use Rattle.pals_bus.proofs.EventInvariants.{node_happens}
 use Rattle.pals_bus.proofs.StartsStepsAndFinishes.{longer}
 
 -- the round was not sent before
-unsent_node : (f : BusFields) (node : ℕ) (reading : Option ℕ) (m : NodeValue) (messages : List (List PortValue)) → IsBusInvariant f
+unsent_node : (f : BusFields) (node : ℕ) (reading : Option ℕ) (m : NodeValue) (messages : List (List PortValue))
+    → IsBusInvariant f
     → node < length f.nodes → Sends (node_value (value_of f) node) reading m messages
     → (slice_index_or f.nodes node no_node_value).state.sent ≡ false
 unsent_node f node reading m messages keeps within sends =

@@ -43,7 +43,8 @@ pub record CanSend (f : BusFields) (node : ℕ) (messages : List (List PortValue
   pub count : length messages ≡ length (filter (is_from node) (arc_value f.design).links)
 
 -- the next link is not the node's
-pub sending_other : (first now : BusFields) (node round : ℕ) (reading : Option ℕ) (messages left : List (List PortValue))
+pub sending_other : (first now : BusFields) (node round : ℕ) (reading : Option ℕ)
+    (messages left : List (List PortValue))
     (number : ℕ) → Sending first now node round reading messages left number
     → number < length (arc_value first.design).links
     → is_from node (slice_index_or (arc_value first.design).links number no_link) ≡ false
@@ -168,7 +169,9 @@ sending_room first now node round reading messages left number so_far room withi
     let here =
     room number link within (slice_get-get_or (arc_value first.design).links number no_link within)
     (eqb-true link.source.0 node from) in
-    let same : (slice_index_or now.flights number no_flight).spare ≡ (slice_index_or first.flights number no_flight).spare = ap (λ (f : FlightState). f.spare) (so_far.sent.others number (omega arith)) in
+    let same : (slice_index_or now.flights number no_flight).spare
+    ≡ (slice_index_or first.flights number no_flight).spare =
+    ap (λ (f : FlightState). f.spare) (so_far.sent.others number (omega arith)) in
     omega (arith, here, same)
 
 pub sending_queue_room : (first now : BusFields) (node round : ℕ) (reading : Option ℕ)
@@ -217,7 +220,8 @@ own_links first now node round reading messages left at ns all so_far all_are lt
     (subst (λ (k : List LinkNo). at < length k) all_are lt))
 
 -- it has a delay of at most an hour
-pub sending_delay : (first now : BusFields) (node round : ℕ) (reading : Option ℕ) (messages left : List (List PortValue))
+pub sending_delay : (first now : BusFields) (node round : ℕ) (reading : Option ℕ)
+    (messages left : List (List PortValue))
     (number : ℕ) → Sending first now node round reading messages left number
     → AreDelays (length (arc_value first.design).links) first.delays → number < length (arc_value first.design).links
     → (number < length now.delays.lists) × (delay_of now.delays number round ≤ HOUR)
@@ -232,7 +236,8 @@ sending_delay first now node round reading messages left number so_far are withi
     (inside, is.within (min round (length list - 1)) 0 (omega (arith, some))))
 
 -- its flight, itself and the queue of its target are there
-pub sending_places : (first now : BusFields) (node round : ℕ) (reading : Option ℕ) (messages left : List (List PortValue))
+pub sending_places : (first now : BusFields) (node round : ℕ) (reading : Option ℕ)
+    (messages left : List (List PortValue))
     (number : ℕ) → CanSend first node messages → Sending first now node round reading messages left number
     → number < length (arc_value first.design).links
     → (number < length now.flights)

@@ -39,7 +39,8 @@ use Rattle.pals_bus.proofs.EventEffects.{step_allowed, step_after, finish_allowe
 use Rattle.pals_bus.proofs.ChangedNodeValues.{turn_shown}
 
 -- ---- any of them
-node_event : (f g : BusFields) (e : BusEvent) (node : ℕ) (m : NodeValue) (s : NodeState) → IsBusInvariant f → f.stop ≡ None
+node_event : (f g : BusFields) (e : BusEvent) (node : ℕ) (m : NodeValue) (s : NodeState) → IsBusInvariant f
+    → f.stop ≡ None
     → node < length f.nodes → m ≡ with_state (node_value (value_of f) node) s
     → g ≡ record f { nodes = slice_set f.nodes node m; journal = g.journal }
     → is_allowed (run_of f) (state_of f) e ≡ true → after (run_of f) (state_of f) e ≡ with_node (state_of f) node s
@@ -49,7 +50,8 @@ node_event f g e node m s keeps going within is same allowed after_is told =
     (node_happens f e node m s f.flights (copies_in f.flights) f.stop g.journal.items keeps going within is refl
     allowed after_is told)
 
-node_keeps : (f g : BusFields) (e : BusEvent) (node : ℕ) (m : NodeValue) (s : NodeState) → IsBusInvariant f → node < length f.nodes
+node_keeps : (f g : BusFields) (e : BusEvent) (node : ℕ) (m : NodeValue) (s : NodeState) → IsBusInvariant f
+    → node < length f.nodes
     → m ≡ with_state (node_value (value_of f) node) s
     → g ≡ record f { nodes = slice_set f.nodes node m; journal = g.journal }
     → HasRooms (arc_value f.design).links (slice_set f.nodes node m) f.flights
@@ -115,7 +117,8 @@ start_happens f g node reading m values round job keeps going within starts roun
 
 pub start_keeps : (f g : BusFields) (node : NodeNo) (reading : Option ℕ) (m : NodeValue)
     (values : List PortValue) (round : ℕ)
-    (job : JobValue) → IsBusInvariant f → node.0 < length f.nodes → Starts (node_value (value_of f) node.0) values reading m job
+    (job : JobValue) → IsBusInvariant f → node.0 < length f.nodes
+    → Starts (node_value (value_of f) node.0) values reading m job
     → g ≡ record f { nodes = slice_set f.nodes node.0 m; journal = g.journal }
     → g.journal.items ≡ f.journal.items ++ entry.Start node round reading ∷ []
     → StartsRound (value_of f) node reading (value_of g) job
@@ -136,7 +139,8 @@ start_keeps f g node reading m values round job keeps within starts same told ha
     queue_room) happens.happens (omega (arith, more, size, place, capacity))
 
 -- ---- a start that misses a message
-pub start_misses : (f g : BusFields) (node : NodeNo) (reading : Option ℕ) (port : ℕ) (why : Stop) → IsBusInvariant f → f.stop ≡ None
+pub start_misses : (f g : BusFields) (node : NodeNo) (reading : Option ℕ) (port : ℕ) (why : Stop) → IsBusInvariant f
+    → f.stop ≡ None
     → StartEnds (node_value (value_of f) node.0) reading (start.Missed port)
     → why ≡ missed_stop (run_of f) (state_of f) node reading (link_into (arc_value f.design) node.0 port)
     → g ≡ record f { stop = Some why; journal = g.journal }
@@ -195,7 +199,8 @@ miss_keeps f g node reading why keeps misses same told place capacity =
     subst IsBusInvariant (sym same) all
 
 -- ---- Step
-pub step_happens : (f g : BusFields) (node : NodeNo) (reading : Option ℕ) (m : NodeValue) (job : JobValue) → IsBusInvariant f
+pub step_happens : (f g : BusFields) (node : NodeNo) (reading : Option ℕ) (m : NodeValue) (job : JobValue)
+    → IsBusInvariant f
     → f.stop ≡ None → node.0 < length f.nodes → Steps (node_value (value_of f) node.0) reading m job
     → g ≡ record f { nodes = slice_set f.nodes node.0 m; journal = g.journal }
     → g.journal.items ≡ f.journal.items ++ entry.Step node job.work.round job.work.step reading ∷ []
@@ -246,7 +251,8 @@ same_queues f node m keeps within same =
     queues-set (arc_value f.design).links f.nodes f.flights f.queues node m keeps.queues within
     (unsent_before f node m keeps within same)
 
-pub step_keeps : (f g : BusFields) (node : NodeNo) (reading : Option ℕ) (m : NodeValue) (job : JobValue) → IsBusInvariant f
+pub step_keeps : (f g : BusFields) (node : NodeNo) (reading : Option ℕ) (m : NodeValue) (job : JobValue)
+    → IsBusInvariant f
     → node.0 < length f.nodes → Steps (node_value (value_of f) node.0) reading m job
     → g ≡ record f { nodes = slice_set f.nodes node.0 m; journal = g.journal }
     → g.journal.items ≡ f.journal.items ++ entry.Step node job.work.round job.work.step reading ∷ []
@@ -263,7 +269,8 @@ step_keeps f g node reading m job keeps within steps same told happens place cap
     (omega (arith, more, size, place, capacity))
 
 -- ---- Finish
-pub finish_happens : (f g : BusFields) (node : NodeNo) (m : NodeValue) (step round : ℕ) → IsBusInvariant f → f.stop ≡ None
+pub finish_happens : (f g : BusFields) (node : NodeNo) (m : NodeValue) (step round : ℕ) → IsBusInvariant f
+    → f.stop ≡ None
     → node.0 < length f.nodes → Finishes (node_value (value_of f) node.0) m step
     → round ≡ round_of (node_at (state_of f) node.0)
     → g ≡ record f { nodes = slice_set f.nodes node.0 m; journal = g.journal }

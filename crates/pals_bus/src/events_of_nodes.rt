@@ -80,8 +80,8 @@ impl Bus {
         Ok(job)
     }
 
-    /// A node finishes the step whose job is out: with what was handed in, where it is of that job,
-    /// and else by running that job here. Both leave the same, and neither takes memory.
+    /// A node finishes the step of its outstanding job: with the submitted job, if that is the same one,
+    /// and otherwise by running the job here. Both have the same result, and neither allocates.
     pub fn finish(&mut self, node: NodeNo, done: Done) -> Result<Finished, BusFinishEnd>
         requires { node.0 < length self.old.run.design.components }
         ensures ok { IfOk result (λ how. FinishesStep self.old node done self.new how) }
@@ -102,7 +102,7 @@ impl Bus {
         Ok(how)
     }
 
-    /// As `finish`, with a job of the node's code, so that no code is compared.
+    /// Like `finish`, for a job of the node's own code, so that no code is compared.
     pub fn finish_own(&mut self, node: NodeNo, done: Done) -> Result<Finished, BusFinishEnd>
         requires node { node.0 < length self.old.run.design.components }
         requires own { done.code ≡ code_at self.old.codes node.0 }
@@ -124,7 +124,7 @@ impl Bus {
         Ok(how)
     }
 
-    /// A node finishes the step whose job is out by running it here. It takes no memory.
+    /// A node finishes the step of its outstanding job by running it here. Does not allocate.
     pub fn finish_here(&mut self, node: NodeNo) -> Result<(), BusFinishEnd>
         requires { node.0 < length self.old.run.design.components }
         ensures ok { OnOk result (Happens self.old (Finish node) self.new) }

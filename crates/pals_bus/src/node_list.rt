@@ -108,7 +108,7 @@ impl NodeList {
         answer
     }
 
-    /// A node finishes the step that is out, with what was handed in or by running the job here.
+    /// A node finishes its outstanding step, with the submitted job or by running the job here.
     pub fn finish(&mut self, node: usize, done: Done) -> Result<Finished, FinishEnd>
         requires { node < length self.old }
         ensures ok { IfOk result (λ how. FinishesWith (node_of self.old node) done (node_of self.new node) how) }
@@ -121,7 +121,7 @@ impl NodeList {
         answer
     }
 
-    /// As `finish`, with a job of the node's code.
+    /// Like `finish`, for a job of the node's own code.
     pub fn finish_own(&mut self, node: usize, done: Done) -> Result<Finished, FinishEnd>
         requires node { node < length self.old }
         requires own { done.code ≡ (node_of self.old node).program.code }

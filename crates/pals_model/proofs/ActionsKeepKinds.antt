@@ -19,7 +19,8 @@ use Rattle.pals_base.specs.ForRanges.{numbers}
 use Rattle.pals_base.specs.ExpressionValues.{is_true, eval}
 use Rattle.pals_base.specs.TypingRules.{suits_variable, suits_port, kinds_of, turns, is_short, is_sound, are_sound}
 use Rattle.pals_base.specs.TypingRules.{branches_are_sound}
-use Rattle.pals_base.specs.ExpressionAndActionTrees.{Action, Assign, Emit, If, For, Actions, Nothing, Do, Branches, NoBranch, Where}
+use Rattle.pals_base.specs.ExpressionAndActionTrees.{Action, Assign, Emit, If, For, Actions, Nothing, Do, Branches}
+use Rattle.pals_base.specs.ExpressionAndActionTrees.{NoBranch, Where}
 use Rattle.pals_base.proofs.StepTermination.{then_ok}
 use Rattle.pals_model.specs.proof.ValuesFitKinds.{Fits, PortFits, VarsFit, HeldFit, PortsFit}
 use Rattle.pals_model.proofs.AllElements.{set_keeps, on_ok, if_ok}

@@ -27,7 +27,8 @@ use Rattle.pals_model.specs.declared.design.Tap.{Tap}
 use Rattle.pals_model.specs.declared.part.Part.{Part}
 use Rattle.pals_model.specs.declared.design.DesignParts.{DesignParts}
 use Rattle.pals_model.specs.declared.environment.Env.{Env}
-use Rattle.pals_model.specs.ComponentInputs.{values_at, input_vectors, inputs_of, inputs_in, source_of, from_link, from_feed}
+use Rattle.pals_model.specs.ComponentInputs.{values_at, input_vectors, inputs_of, inputs_in, source_of, from_link}
+use Rattle.pals_model.specs.ComponentInputs.{from_feed}
 use Rattle.pals_model.specs.ComponentInputs.{link_goes_to, feed_goes_to, brought_tuple}
 use Rattle.pals_model.specs.PortKindsAndRates.{rate_of, rate_in}
 use Rattle.pals_model.specs.Composition.{comp, next, state, msg, no_frame, steps_from, steps_of_round, message_of}

@@ -19,7 +19,8 @@ use Rattle.pals_base.specs.Arithmetic.{negation_of, magnitude_of}
 use Rattle.pals_base.specs.ExpressionValues.{on_value, is_true, truth, same_number, applied, combined, eval, eval_rest}
 use Rattle.pals_base.specs.TypingRules.{only, allows, literal_kinds, declared_or, port_kinds, operator_kinds, kinds_of}
 use Rattle.pals_base.specs.TypingRules.{kinds_along}
-use Rattle.pals_base.specs.ExpressionAndActionTrees.{Expression, Literal, Variable, PortRead, Fresh, Neg, Abs, Not, Chain, Operands}
+use Rattle.pals_base.specs.ExpressionAndActionTrees.{Expression, Literal, Variable, PortRead, Fresh, Neg, Abs, Not}
+use Rattle.pals_base.specs.ExpressionAndActionTrees.{Chain, Operands}
 use Rattle.pals_base.specs.ExpressionAndActionTrees.{NoMore, Then}
 use Rattle.pals_base.proofs.StepTermination.{then_ok}
 use Rattle.pals_model.specs.proof.ValuesFitKinds.{Fits, VarsFit, HeldFit}
@@ -96,15 +97,18 @@ combined_may Gt a b left right one two =
 combined_may Ge a b left right one two =
     on_ok (MayBe (operator_kinds Ge a b)) right (λ x. applied Ge left x) (λ x is. truth_fits (int_le x left))
 combined_may And a b left right one two =
-    on_ok (MayBe (operator_kinds And a b)) right (λ x. applied And left x) (λ x is. truth_fits (is_true left && is_true x))
+    on_ok (MayBe (operator_kinds And a b)) right (λ x. applied And left x)
+    (λ x is. truth_fits (is_true left && is_true x))
 combined_may Or a b left right one two =
-    on_ok (MayBe (operator_kinds Or a b)) right (λ x. applied Or left x) (λ x is. truth_fits (is_true left || is_true x))
+    on_ok (MayBe (operator_kinds Or a b)) right (λ x. applied Or left x)
+    (λ x is. truth_fits (is_true left || is_true x))
 combined_may Xor a b left right one two =
     on_ok (MayBe (operator_kinds Xor a b)) right (λ x. applied Xor left x)
     (λ x is. truth_fits (cond (is_true left) (not (is_true x)) (is_true x)))
 combined_may AndThen a b left right one two =
     if_ok (MayBe (operator_kinds AndThen a b)) (is_true left) right (Ok (pos 0))
-    (IfOk-weaker (MayBe b) (MayBe (operator_kinds AndThen a b)) right (λ x may is. may (and_parts a.boolean b.boolean is).1)
+    (IfOk-weaker (MayBe b) (MayBe (operator_kinds AndThen a b)) right
+    (λ x may is. may (and_parts a.boolean b.boolean is).1)
     two) (λ is. inl refl)
 combined_may OrElse a b left right one two =
     if_ok (MayBe (operator_kinds OrElse a b)) (is_true left) (Ok (pos 1)) right (λ is. inr refl)

@@ -22,7 +22,8 @@ use Rattle.pals_base.proofs.SequencesAndHaltedFrames.{frame_after-append, output
 use Rattle.pals_base.proofs.PartialRoundTuples.{so_far-none, so_far-one_more, so_far-all}
 use Rattle.pals_model.specs.ComponentInputs.{input_vectors}
 use Rattle.pals_model.specs.Composition.{comp, state, under_way}
-use Rattle.pals_model.specs.proof.CompositionLaws.PartialRounds.{stepped_on, RoundBegins, RoundGoesOn, RoundEnds, PlacesStay}
+use Rattle.pals_model.specs.proof.CompositionLaws.PartialRounds.{stepped_on, RoundBegins, RoundGoesOn, RoundEnds}
+use Rattle.pals_model.specs.proof.CompositionLaws.PartialRounds.{PlacesStay}
 use Rattle.pals_model.specs.proof.CompositionLaws.PartialRounds.{TrapIsSilent}
 use Rattle.pals_model.proofs.ShapeLaws.{is_behaviour, state_has_shape, feed_has_vectors, length-outputs}
 use Rattle.pals_model.proofs.ShapeLaws.{steps_keep_shape}

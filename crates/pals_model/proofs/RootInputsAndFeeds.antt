@@ -17,7 +17,8 @@ use Rattle.pals_model.specs.declared.design.Feed.{Feed}
 use Rattle.pals_model.specs.ComponentInputs.{new_names, feed_names, root_inputs, place_of}
 use Rattle.pals_model.specs.PortKindsAndRates.{first_kind, feed_kind}
 use Rattle.pals_model.specs.DesignRules.{AgreeInKind}
-use Rattle.pals_model.specs.proof.CompositionLaws.RootInputsAndFeeds.{RootInputsDiffer, RootInputsAreFeeds, RootInputsInOrder}
+use Rattle.pals_model.specs.proof.CompositionLaws.RootInputsAndFeeds.{RootInputsDiffer, RootInputsAreFeeds}
+use Rattle.pals_model.specs.proof.CompositionLaws.RootInputsAndFeeds.{RootInputsInOrder}
 use Rattle.pals_model.specs.proof.CompositionLaws.RootInputsAndFeeds.{FeedHasRoot, FeedsHaveRootKind}
 use Rattle.pals_model.proofs.WordBytes.{same_bytes, other_bytes}
 
@@ -112,7 +113,8 @@ behind : (before names : List (List ℕ)) (name : List ℕ) → is_in name befor
     → AllPairs (λ a b. first_place a (name ∷ names) < first_place b (name ∷ names)) (new_names before names)
 behind before names name old order i j d below within =
     let new = new_names before names in
-    let off : (k : ℕ) → k < length new → first_place (get_or new k d) (name ∷ names) ≡ 1 + first_place (get_or new k d) names
+    let off : (k : ℕ) → k < length new → first_place (get_or new k d) (name ∷ names)
+    ≡ 1 + first_place (get_or new k d) names
     =
     λ k inside. further (get_or new k d) name names
     (differs (get_or new k d) name before (new_names-new before names k d inside) old) in

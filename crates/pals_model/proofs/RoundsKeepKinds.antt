@@ -26,7 +26,8 @@ use Rattle.pals_model.specs.declared.design.Tap.{Tap}
 use Rattle.pals_model.specs.declared.design.DesignParts.{DesignParts}
 use Rattle.pals_model.specs.declared.environment.Env.{Env}
 use Rattle.pals_model.specs.ComponentInputs.{root_of, values_at, link_goes_to, feed_goes_to, from_feed, from_link}
-use Rattle.pals_model.specs.ComponentInputs.{source_of, sources_of, read_feed, read_link, brought_tuple, inputs_of, inputs_in}
+use Rattle.pals_model.specs.ComponentInputs.{source_of, sources_of, read_feed, read_link, brought_tuple, inputs_of}
+use Rattle.pals_model.specs.ComponentInputs.{inputs_in}
 use Rattle.pals_model.specs.ComponentInputs.{input_vectors}
 use Rattle.pals_model.specs.PortKindsAndRates.{rate_of, kind_of, in_kind, out_kind, outs_in, root_kind}
 use Rattle.pals_model.specs.Composition.{comp, state, msg, taps_of}
@@ -71,7 +72,8 @@ source_fits : (design : DesignParts) (env : Env) (round : ℕ) (messages : List 
     → IsDesign design → EnvFits design env → MessagesAreFit design messages
     → slice_get design.components node ≡ Some c → slice_get c.behaviour.ins p ≡ Some port
     → position (link_goes_to node p) design.links ≡ l → position (feed_goes_to node p) design.feeds ≡ f
-    → TupleFits port.kind (brought_tuple design (values_at env round) messages c.rate (from_link l (from_feed design f)))
+    → TupleFits port.kind (brought_tuple design (values_at env round) messages c.rate
+    (from_link l (from_feed design f)))
 source_fits design env round messages node p c port (Some number) f rules given sent is_c is_port to_link to_feed =
     let at = found_at (link_goes_to node p) design.links number to_link in
     let link = at.0 in
@@ -148,7 +150,8 @@ next_frame : (design : DesignParts) (env : Env) (node round : ℕ) (c : Componen
     → RoundFits design env round → slice_get design.components node ≡ Some c
     → FrameFits c.behaviour (own_steps design env node round c).frame
 next_frame design env node round c rules given before is_c =
-    frames_fit c.behaviour (state design env node round) (input_vectors design env (comp design env round).messages node round)
+    frames_fit c.behaviour (state design env node round)
+    (input_vectors design env (comp design env round).messages node round)
     (is_behaviour design node c rules is_c) (state_has_shape design env node round c rules is_c)
     (before.frames node c is_c)
     (feed_fits design env (comp design env round).messages node round c rules given before.messages is_c)

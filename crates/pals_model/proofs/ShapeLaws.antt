@@ -23,12 +23,14 @@ use Rattle.pals_model.specs.declared.design.Link.{Link}
 use Rattle.pals_model.specs.declared.design.Tap.{Tap}
 use Rattle.pals_model.specs.declared.design.DesignParts.{DesignParts}
 use Rattle.pals_model.specs.declared.environment.Env.{Env}
-use Rattle.pals_model.specs.ComponentInputs.{values_at, input_vectors, inputs_of, inputs_in, sources_of, source_of, brought_tuple}
+use Rattle.pals_model.specs.ComponentInputs.{values_at, input_vectors, inputs_of, inputs_in, sources_of, source_of}
+use Rattle.pals_model.specs.ComponentInputs.{brought_tuple}
 use Rattle.pals_model.specs.PortKindsAndRates.{rate_of, rate_in, outs_in}
 use Rattle.pals_model.specs.Composition.{comp, state, msg, taps_of}
 use Rattle.pals_model.specs.DesignRules.{IsDesign, IsComponent, IsLink, IsTap}
 use Rattle.pals_model.specs.proof.CompositionLaws.{own_steps}
-use Rattle.pals_model.specs.proof.CompositionLaws.Shapes.{AreVectors, AreTuples, IsPart, InputsAreVectors, StateHasShape}
+use Rattle.pals_model.specs.proof.CompositionLaws.Shapes.{AreVectors, AreTuples, IsPart, InputsAreVectors}
+use Rattle.pals_model.specs.proof.CompositionLaws.Shapes.{StateHasShape}
 use Rattle.pals_model.specs.proof.CompositionLaws.Shapes.{StepsGiveTuples, MessageHasRate, WaitingMessageHasRate}
 use Rattle.pals_model.specs.proof.CompositionLaws.Shapes.{PartHasShape}
 use Rattle.pals_model.proofs.CompositionLaws.{state_begins, state_goes_on, message_from_source, part_from_steps}

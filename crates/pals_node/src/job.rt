@@ -1,4 +1,4 @@
-//! The job of one step, which may run anywhere, what it leaves, and how the step was finished.
+//! The job of one step, which may run anywhere, its result, and how the step was finished.
 ghost use Rattle.std.specs.Prelude.{◌≡◌, ◌↔◌, length, IsTrue, IfOk};
 ghost use Rattle.std.specs.Arc.{arc_value};
 ghost use Rattle.step_code.specs.proof.CodeRuns.{FitsCode};
@@ -16,8 +16,8 @@ use std::sync::Arc;
 use step_code::{CodeParts, Instr};
 use step_vm::Room;
 
-/// Where a step starts: its round, its number in that, from 0, the frame that it goes on from, and what
-/// the in ports have in it.
+/// The start of a step: its round, its number in the round, from 0, the frame before it, and the values of
+/// the in ports in it.
 #[derive(Clone, Copy)]
 pub(crate) struct StepStart<'a> {
     pub round: u32,
@@ -26,8 +26,8 @@ pub(crate) struct StepStart<'a> {
     pub inputs: &'a Tuple,
 }
 
-/// The job of one step: the inputs, the frame that it goes on from, and all the room that it needs.
-/// Contracts see its step and its code.
+/// The job of one step: the inputs, the frame before it, and all the room that it needs.
+/// The model is its step and its code.
 pub struct Job {
     plan: Arc<NodePlan>,
     round: u32,
@@ -39,7 +39,7 @@ pub struct Job {
     room: Room,
 }
 
-// By hand, so that a job let go is one call, which the crates above cite.
+// By hand, so that dropping a job is one call, which the crates above cite.
 impl Drop for Job {
     fn drop(self) {
         let Job {
@@ -68,7 +68,7 @@ impl Model for Job {
     ghost invariant = { λ j. IsJob (arc_value j.plan).code j.frame j.inputs j.result j.outs.items j.room };
 }
 
-/// A job that is done: what its code left. Contracts see the job.
+/// A finished job, with the results of its code. The model is the job.
 pub struct Done {
     plan: Arc<NodePlan>,
     round: u32,
@@ -109,7 +109,7 @@ impl Model for Done {
         × IsRoomOf (arc_value d.plan).code d.room };
 }
 
-/// How a step was finished: with what was handed in, or by running the job here.
+/// How a step was finished: with the submitted job, or by running the job here.
 #[derive(Clone, Copy, PartialEq, Debug)]
 pub enum Finished {
     Used,
@@ -173,7 +173,7 @@ impl Job {
         self.step
     }
 
-    /// The frame that the step goes on from.
+    /// The frame before the step.
     pub fn frame(&self) -> &Frame
         ensures { result.now ≡ self.now.work.frame }
     {
@@ -187,7 +187,7 @@ impl Job {
         &self.inputs
     }
 
-    /// Runs the step. It takes no memory.
+    /// Runs the step. Does not allocate.
     pub fn run(self) -> Done
         ensures { result ≡ self }
     {
@@ -229,7 +229,7 @@ impl Done {
         self.plan.plan.node
     }
 
-    /// Whether its code is that of a plan. The length is compared first.
+    /// Whether its code is a plan's code. The lengths are compared first.
     pub(crate) fn has_code_of(&self, plan: &NodePlan) -> bool
         ensures { IsTrue result ↔ (self.now.code ≡ plan.now.code) }
     {
@@ -248,8 +248,8 @@ impl Done {
             && self.inputs.same(start.inputs)
     }
 
-    /// The frame and the outputs that it left come in place of those of the step before, which go into
-    /// the memory that it gives back.
+    /// Swaps its resulting frame and outputs with the ones of the step before, which go into the memory
+    /// that it returns.
     pub(crate) fn give_result(self, last: &mut Frame, row: &mut Vec<PortValue>) -> Memory
         ensures result { IsResult self (record { frame = last.new; outs = row.new.items }) }
         ensures memory { IsLeft self last.old row.old.items result }

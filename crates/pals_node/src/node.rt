@@ -1,6 +1,7 @@
 //! A node, event by event.
 ghost use Rattle.std.specs.Prelude.{◌≡◌, ◌↔◌, ◌<◌, ◌≤◌, ◌-◌, ◌&&◌, not, false, nat_eq, nat_le, IfOk, IfErr, OnErr};
-ghost use Rattle.std.specs.Prelude.{OnOk, IsTrue, length, option_copied, option_map, slice_get, slice_index_or, position, zip, None};
+ghost use Rattle.std.specs.Prelude.{OnOk, IsTrue, length, option_copied, option_map, slice_get, slice_index_or};
+ghost use Rattle.std.specs.Prelude.{position, zip, None};
 ghost use Rattle.std.specs.Prelude.{if◌then◌else◌};
 ghost use Rattle.std.specs.Option.{option_map_or};
 ghost use Rattle.std.specs.Arc.{arc_value};
@@ -28,8 +29,8 @@ use std::alloc::Global;
 use std::marker::Model;
 use std::sync::Arc;
 
-/// A node of a run. Contracts see its plan with its code, the number of rounds, and what it stands
-/// at. A refused call leaves it as it was.
+/// A node of a run. The model is its plan with its code, the number of rounds, and its
+/// state. A refused call leaves it unchanged.
 pub struct Node {
     fields: NodeFields,
 }
@@ -84,7 +85,7 @@ impl Node {
         &self.fields.plan.plan
     }
 
-    /// A message of a round comes to an in port. It takes no memory.
+    /// An in port receives a message of a round. Does not allocate.
     pub fn arrive(&mut self, port: u32, round: u32, tuple: Tuple) -> Arrived
         requires { port < length self.old.state.slots }
         ensures answer { result ≡ arrived self.old.state port round }
@@ -144,8 +145,8 @@ impl Node {
         Ok(job)
     }
 
-    /// Finishes the step that is out: with what was handed in, where it is of the job that is out,
-    /// and else by running that job here. Both leave the same, and neither takes memory.
+    /// Finishes the outstanding step: with the submitted job, if that is the outstanding one, and
+    /// otherwise by running that job here. Both have the same result, and neither allocates.
     pub fn finish(&mut self, done: Done) -> Result<Finished, FinishEnd>
         ensures ok { IfOk result (λ how. FinishesWith self.old done self.new how) }
         ensures same { OnErr result (self.new ≡ self.old) }
@@ -158,7 +159,7 @@ impl Node {
         Ok(Finished::Redone)
     }
 
-    /// As `finish`, with a job of this node's code, so that no code is compared.
+    /// Like `finish`, for a job of this node's own code, so that no code is compared.
     pub fn finish_own(&mut self, done: Done) -> Result<Finished, FinishEnd>
         requires own { done.code ≡ self.old.program.code }
         ensures ok { IfOk result (λ how. FinishesWith self.old done self.new how) }
@@ -183,7 +184,7 @@ impl Node {
         Ok(Finished::Redone)
     }
 
-    /// Finishes the step that is out by running its job here. It takes no memory.
+    /// Finishes the outstanding step by running its job here. Does not allocate.
     pub fn finish_here(&mut self) -> Result<(), FinishEnd>
         ensures ok { OnOk result (FinishesHere self.old self.new) }
         ensures same { OnErr result (self.new ≡ self.old) }
@@ -196,8 +197,8 @@ impl Node {
         Ok(())
     }
 
-    /// Sends the round in hand: one message for each link from the node, in order. It takes no
-    /// memory.
+    /// Sends the current round: one message for each link from the node, in order. Does not
+    /// allocate.
     pub fn send(&mut self, reading: Option<Nanos>) -> Result<ItemList<Tuple>, SendEnd>
         ensures ok { IfOk result (λ messages. Sends self.old reading self.new messages) }
         ensures same { OnErr result (self.new ≡ self.old) }
@@ -251,7 +252,7 @@ impl Node {
         }
     }
 
-    /// From which reading on it may do what it does, or what it does next. None where it is done.
+    /// The reading from which on its current or next action may happen; `None` if it is done.
     pub fn target(&self) -> Option<Nanos>
         ensures { result ≡ option_map (target self.now.program.plan) (action_of self.now.program.plan self.now.state) }
     {
@@ -279,14 +280,14 @@ impl Node {
         self.fields.parts.as_slice()
     }
 
-    /// What the last round that it finished left, or none before that.
+    /// The part of the last round that it finished; `None` before the first.
     pub fn part(&self) -> Option<&Part>
         ensures { option_copied result ≡ slice_get self.now.state.parts (length self.now.state.parts - 1) }
     {
         self.fields.parts.last()
     }
 
-    // Whether a job that is done is of this node, with its code. The node is compared first.
+    // Whether a finished job belongs to this node and has its code. The node is compared first.
     fn is_own(&self, done: &Done) -> bool
         ensures { IsTrue result ↔ ((done.now.work.node ≡ self.now.program.plan.node)
             × (done.now.code ≡ self.now.program.code)) }

@@ -104,7 +104,8 @@ module _ (fs : List Formula) (h : List (List Frame)) where
 
   no_violation : (round : ℕ) → AllTrue 0 (formula_values fs h round) → first_false_at fs h round ≡ None
   no_violation round none =
-      ap (option_map (λ k. record { property = k; round = round })) (position-is (formula_values fs h round) ∙ none.none)
+      ap (option_map (λ k. record { property = k; round = round }))
+      (position-is (formula_values fs h round) ∙ none.none)
 
   a_violation : (round : ℕ) (found : OneFalse 0 (formula_values fs h round))
       → first_false_at fs h round ≡ Some (record { property = found.at; round = round })

@@ -56,7 +56,8 @@ seen-here fs (flat.Var of variable op number) row node frame before is read =
     (sym is ∙ ap (frame_in row) (sym (eqb-true of.0 node read)))
 seen-here fs (flat.Halted of) row node frame before is read =
     ap (λ b. if b then next_value None (frame ∷ []) (Halted 0) else before) read
-    ∙ ap (λ (x : Frame). next_value None (x ∷ []) (Halted 0)) (sym is ∙ ap (frame_in row) (sym (eqb-true of.0 node read)))
+    ∙ ap (λ (x : Frame). next_value None (x ∷ []) (Halted 0))
+    (sym is ∙ ap (frame_in row) (sym (eqb-true of.0 node read)))
 seen-here fs (flat.Not f) row node frame before is read = absurd (false≢true read)
 seen-here fs (flat.And f g) row node frame before is read = absurd (false≢true read)
 seen-here fs (flat.Or f g) row node frame before is read = absurd (false≢true read)

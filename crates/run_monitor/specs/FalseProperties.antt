@@ -16,7 +16,8 @@ formula_values fs h round = map (λ f. holds f h round) fs
 
 -- the first that is false at a round
 abbrev pub first_false_at : List Formula → List (List Frame) → ℕ → Option FalseProperty
-first_false_at fs h round = option_map (λ k. record { property = k; round = round }) (position not (formula_values fs h round))
+first_false_at fs h round = option_map (λ k. record { property = k; round = round })
+    (position not (formula_values fs h round))
 
 -- the first of these rounds at which one is false, and the first that is false there
 abbrev pub first_false_in : List Formula → List (List Frame) → List ℕ → Option FalseProperty

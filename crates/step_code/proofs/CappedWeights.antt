@@ -13,7 +13,8 @@ use Rattle.step_code.specs.declared.instr.CodeParts.{CodeParts}
 use Rattle.step_code.specs.declared.loops.LoopSpan.{LoopSpan}
 use Rattle.step_code.specs.Loops.{turns_of, around}
 use Rattle.step_code.specs.proof.InnermostLoops.{first, innermost}
-use Rattle.step_code.specs.SuccessorsAndWeights.{forward_successors, forward_successors_at, product, greatest, weight_at, heaviest, entry_weight, weight}
+use Rattle.step_code.specs.SuccessorsAndWeights.{forward_successors, forward_successors_at, product, greatest}
+use Rattle.step_code.specs.SuccessorsAndWeights.{weight_at, heaviest, entry_weight, weight}
 use Rattle.step_code.specs.proof.StackHeights.{Member}
 use Rattle.step_code.specs.proof.VerifierRules.{IsVerified}
 use Rattle.step_code.specs.CappedWeights.{capped, AreBest}
@@ -34,7 +35,8 @@ pub record LeadsForward (code : List Instr) : Type 0 where
   pub there : (p : ℕ) (t : ℕ) → Member (forward_successors_at code p) t → t < length code
   pub later : (p : ℕ) (t : ℕ) → Member (forward_successors_at code p) t → p < t
 
-lead_by : (c : CodeParts) (p t : ℕ) (o : Option Instr) → IsVerified c → slice_get c.instrs p ≡ o → Member (forward_successors p o) t
+lead_by : (c : CodeParts) (p t : ℕ) (o : Option Instr) → IsVerified c → slice_get c.instrs p ≡ o
+    → Member (forward_successors p o) t
     → (t < length c.instrs) × (p < t)
 lead_by c p t None v is among = absurd among
 lead_by c p t (Some i) v is among = let known = verified_known c p i v is in
@@ -131,7 +133,8 @@ greatest_both f xs ys = ap greatest (map-append f xs ys) ∙ greatest-append (ma
 
 pub best_here : (c : CodeParts) (p : ℕ) (i : Instr) (best : List ℕ) (d : ℕ) → IsVerified c
     → slice_get c.instrs p ≡ Some i → p < length c.instrs → AreBest c.instrs (p + 1) best
-    → capped (capped (weight_at c.instrs p) + greatest (map (λ to. slice_index_or best to d) (forward_successors p (Some i))))
+    → capped (capped (weight_at c.instrs p) + greatest
+    (map (λ to. slice_index_or best to d) (forward_successors p (Some i))))
     ≡ capped (heaviest c.instrs (length c.instrs - p) p)
 best_here c p i best d v here within are =
     let on = leads_forward c v in
@@ -141,7 +144,8 @@ best_here c p i best d v here within are =
     let ways : forward_successors_at code p ≡ forward_successors p (Some i) = ap (forward_successors p) here in
     let each : map (λ to. slice_index_or best to d) (forward_successors p (Some i))
     ≡ map (λ to. capped (heaviest code m to)) (forward_successors p (Some i)) =
-    map_same (λ to. slice_index_or best to d) (λ to. capped (heaviest code m to)) (forward_successors p (Some i)) (λ t among.
+    map_same (λ to. slice_index_or best to d) (λ to. capped (heaviest code m to)) (forward_successors p (Some i))
+    (λ t among.
     let among' = subst (λ ts. Member ts t) (sym ways) among in
     let there = on.there p t among' in
     let later = on.later p t among' in
@@ -182,7 +186,8 @@ entry_best c best e d v are among =
       omega arith,
       get_or_from_slice_get best e (capped (heaviest c.instrs (length c.instrs - e) e)) d
           (are.each e (omega arith) there)
-          ∙ ap capped (same_fuel c.instrs (length c.instrs - e) (length c.instrs) e (leads_forward c v) there (omega arith)
+          ∙ ap capped (same_fuel c.instrs (length c.instrs - e) (length c.instrs) e (leads_forward c v) there
+          (omega arith)
           (omega arith)),
     )
 

@@ -32,7 +32,8 @@ next_by : (p t : ℕ) (b : Bool) → Member (option_to_list (if b then Some (p +
 next_by p t true among = ⊎_elim (λ (e : p + 1 ≡ t). omega arith) (λ none. absurd none) among
 next_by p t false among = absurd among
 
-pub known_there : (c : CodeParts) (p : ℕ) (i : Instr) → IsKnown c p i → AreThere (forward_successors p (Some i)) (length c.instrs)
+pub known_there : (c : CodeParts) (p : ℕ) (i : Instr) → IsKnown c p i
+    → AreThere (forward_successors p (Some i)) (length c.instrs)
 known_there c p i known =
     let jumps = known.sound.jumps in
     record {

@@ -45,7 +45,8 @@ pub record Moves (code : List Instr) (s : StepInputs) (n p q : ℕ) (stack slots
   pub same : run code s n q stack' slots' outs' ≡ run code s n p stack slots outs
   pub fewer : count code s n q stack' slots' outs' < count code s n p stack slots outs
 
-pub moves : (code : List Instr) (s : StepInputs) (n p q : ℕ) (stack slots stack' slots' : List ℤ) (outs outs' : List Value)
+pub moves : (code : List Instr) (s : StepInputs) (n p q : ℕ) (stack slots stack' slots' : List ℤ)
+    (outs outs' : List Value)
     → IsOver (run code s n p stack slots outs)
     → step (slice_get code p) s p stack slots outs ≡ Goes q stack' slots' outs'
     → Moves code s n p q stack slots stack' slots' outs outs'

@@ -10,9 +10,11 @@ use Rattle.pals_base.specs.SingleStep.{holding}
 use Rattle.step_code.specs.declared.instr.Instr.{Instr}
 use Rattle.step_code.specs.declared.instr.CodeParts.{CodeParts}
 use Rattle.step_code.specs.Loops.{turns_of}
-use Rattle.step_code.specs.SuccessorsAndWeights.{forward_successors_at, product, greatest, weight_at, heaviest, entry_weight, weight}
+use Rattle.step_code.specs.SuccessorsAndWeights.{forward_successors_at, product, greatest, weight_at, heaviest}
+use Rattle.step_code.specs.SuccessorsAndWeights.{entry_weight, weight}
 use Rattle.step_code.specs.InstructionEffects.{Next, Goes, Ends, Traps, Sticks, StepInputs, step}
-use Rattle.step_code.specs.InstructionsPerStep.{then_count, count, instructions_made_from, unless_halted, instructions_made}
+use Rattle.step_code.specs.InstructionsPerStep.{then_count, count, instructions_made_from, unless_halted}
+use Rattle.step_code.specs.InstructionsPerStep.{instructions_made}
 use Rattle.step_code.specs.proof.StackHeights.{Member}
 use Rattle.step_code.specs.proof.CodePaths.{IsPath, path_weight}
 use Rattle.step_code.specs.proof.VerifierRules.{IsVerified}
@@ -159,5 +161,6 @@ pub made_within : (c : CodeParts) (frame : Frame) (inputs : List Value)
     → instructions_made c frame inputs ≤ weight c.instrs c.entries
 made_within c frame inputs =
     let held : Frame = record frame { held = holding frame.held inputs } in
-    halted_within frame.halt (instructions_made_from c held inputs (slice_get c.entries frame.state)) (weight c.instrs c.entries)
+    halted_within frame.halt (instructions_made_from c held inputs (slice_get c.entries frame.state))
+    (weight c.instrs c.entries)
     (from_within c held inputs (slice_get c.entries frame.state))

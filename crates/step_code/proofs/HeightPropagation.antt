@@ -27,14 +27,16 @@ is_set old o p h is there =
     })
 
 -- ---- every successor of an instruction
-pub there_jump : (p n : ℕ) (i : Instr) → AreThere (forward_successors p (Some i)) n → AreThere (option_to_list (jump_of i)) n
+pub there_jump : (p n : ℕ) (i : Instr) → AreThere (forward_successors p (Some i)) n
+    → AreThere (option_to_list (jump_of i)) n
 there_jump p n i there =
     record {
       each = λ q among.
           there.each q (member_left (option_to_list (jump_of i)) (option_to_list (next_of p i)) q among);
     }
 
-pub there_next : (p n : ℕ) (i : Instr) → AreThere (forward_successors p (Some i)) n → AreThere (option_to_list (next_of p i)) n
+pub there_next : (p n : ℕ) (i : Instr) → AreThere (forward_successors p (Some i)) n
+    → AreThere (option_to_list (next_of p i)) n
 there_next p n i there =
     record {
       each = λ q among.

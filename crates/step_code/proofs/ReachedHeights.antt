@@ -101,7 +101,8 @@ still_held : (old new : List (Option ℕ)) (p h t k : ℕ) (i : Instr) → Passe
 still_held old new p h t k i on held =
     ⊎_elim
     (λ (among : Member (forward_successors p (Some i)) t).
-    let e = agreed old (all_successors p i) t k (after h i) on.same (member_right _ (forward_successors p (Some i)) t among) held in
+    let e = agreed old (all_successors p i) t k (after h i) on.same
+    (member_right _ (forward_successors p (Some i)) t among) held in
     subst (Holds new t) (sym e) (on.sets.given t among))
     (λ (none : Member (forward_successors p (Some i)) t → ⊥). on.sets.kept t none ∙ held)
     (member_or_not (forward_successors p (Some i)) t)
@@ -125,7 +126,8 @@ split_reached code entries old new p h t k (suc n) i are within here holds on sm
     let e : i ≡ r.2 = cc in
     let is : k ≡ after h i = r.8 ∙ ap (λ j. after r.1 j) (sym e) ∙ ap (λ j. after j i) (sym height) in
     let among : Member (forward_successors p (Some i)) t =
-    subst (λ j. Member (forward_successors p (Some j)) t) (sym e) (subst (λ q. Member (forward_successors q (Some r.2)) t) same r.6) in
+    subst (λ j. Member (forward_successors p (Some j)) t) (sym e)
+    (subst (λ q. Member (forward_successors q (Some r.2)) t) same r.6) in
     subst (Holds new t) (sym is) (on.sets.given t among))
     (cases_lt r.0 p)
 

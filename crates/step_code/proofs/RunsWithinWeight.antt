@@ -21,7 +21,8 @@ use Rattle.step_code.specs.InstructionEffects.{Next, Goes, Ends, Traps, Sticks, 
 use Rattle.step_code.specs.InstructionEffects.{on_two, step}
 use Rattle.step_code.specs.declared.loops.LoopSpan.{LoopSpan}
 use Rattle.step_code.specs.Loops.{turns_of, around}
-use Rattle.step_code.specs.SuccessorsAndWeights.{forward_successors, forward_successors_at, product, greatest, weight_at, heaviest}
+use Rattle.step_code.specs.SuccessorsAndWeights.{forward_successors, forward_successors_at, product, greatest}
+use Rattle.step_code.specs.SuccessorsAndWeights.{weight_at, heaviest}
 use Rattle.step_code.specs.proof.CodeRuns.{Continuation, then_run, run, IsOver}
 use Rattle.step_code.specs.proof.LoopNesting.{Free, On, Opens, Closes, Nests, IsNested}
 use Rattle.step_code.proofs.ListMembers.{get_set_other, get_set_same}
@@ -371,7 +372,8 @@ leaves code s n p slot to high slots rest again is within c stands le v found ab
     let rest_is : rest ≡ 0 * best code (l.start + 1) + done * best code (p + 1) + turns_of l * outer =
     stands.6 ∙ ap (λ j. j * best code (l.start + 1) + done * best code l.exit + turns_of l * outer) none
     ∙ ap (λ x. 0 * best code (l.start + 1) + done * best code x + turns_of l * outer) c.exit_is in
-    let le' : best code p + (0 * best code (l.start + 1) + done * best code (p + 1) + turns_of l * outer) ≤ suc n * (turns_of l * weight_at code (p + 1)) =
+    let le' : best code p + (0 * best code (l.start + 1) + done * best code (p + 1) + turns_of l * outer) ≤ suc n *
+    (turns_of l * weight_at code (p + 1)) =
     subst (λ r. best code p + r ≤ suc n * (turns_of l * weight_at code (p + 1))) rest_is
     (subst (λ x. best code p + rest ≤ suc n * x) w le) in
     again (p + 1) stack slots outs outer within stands.7
@@ -426,12 +428,14 @@ within_weight code s nested (suc n) p stack slots outs rest within stands le =
     (λ i is. goes_on code s n p i slots rest (within_weight code s nested n) is (nested.each p i is) stands le)
 
 -- from a place in no loop
-pub ends_within : (code : List Instr) (s : StepInputs) (n p : ℕ) (stack slots : List ℤ) (outs : List Value) → IsNested code
+pub ends_within : (code : List Instr) (s : StepInputs) (n p : ℕ) (stack slots : List ℤ) (outs : List Value)
+    → IsNested code
     → p < length code → around code p ≡ [] → heaviest code (length code) p ≤ n
     → IsOver (run code s n p stack slots outs)
 ends_within code s n p stack slots outs nested within outside le =
     let less = heaviest_more code (length code - p) (length code) p (omega arith) in
     let w : weight_at code p ≡ 1 = ap (λ ls. product (map turns_of ls)) outside in
     let sum : best code p + 0 ≤ n * 1 = omega arith in
-    within_weight code s nested n p stack slots outs 0 within (subst (λ ls. TurnsLeft code slots ls 0) (sym outside) refl)
+    within_weight code s nested n p stack slots outs 0 within
+    (subst (λ ls. TurnsLeft code slots ls 0) (sym outside) refl)
     (subst (λ x. best code p + 0 ≤ n * x) (sym w) sum)

@@ -12,7 +12,8 @@ use Rattle.step_code.specs.declared.instr.Instr.{Instr}
 use Rattle.step_code.specs.declared.instr.CodeParts.{CodeParts}
 use Rattle.step_code.specs.Loops.{around}
 use Rattle.step_code.specs.SuccessorsAndWeights.{heaviest, entry_weight, weight}
-use Rattle.step_code.specs.proof.CodeRuns.{CodeOutcome, Ended, Trapped, Stuck, Unfinished, what_is_left, run_from, from_entry}
+use Rattle.step_code.specs.proof.CodeRuns.{CodeOutcome, Ended, Trapped, Stuck, Unfinished, what_is_left, run_from}
+use Rattle.step_code.specs.proof.CodeRuns.{from_entry}
 use Rattle.step_code.specs.proof.CodeRuns.{unless_halted, exec, Leaves, has_entry, FitsCode, HasCodeSizes, IsOver}
 use Rattle.step_code.specs.InstructionsPerStep.{silent, step_inputs, slots_of}
 use Rattle.step_code.specs.proof.StackHeights.{Member}
@@ -63,7 +64,8 @@ pub run_over : (c : CodeParts) (held : Frame) (inputs : List Value) (e : ℕ) �
     → IsOver (run_from c held inputs e)
 run_over c held inputs e v among =
     let well = verified_entry c e v among in
-    ends_within c.instrs (step_inputs held.held inputs) (weight c.instrs c.entries) e [] (slots_of c held.vars) (silent c)
+    ends_within c.instrs (step_inputs held.held inputs) (weight c.instrs c.entries) e [] (slots_of c held.vars)
+    (silent c)
     (verified_nested c v) well.there well.outside (entry_within c.instrs c.entries e among)
 
 pub slots_size : (c : CodeParts) (held : Frame) (inputs : List Value) → HasCodeSizes c held inputs
@@ -73,7 +75,8 @@ slots_size c held inputs z = let n = z.vars in
 
 pub fed_at : (c : CodeParts) (held : Frame) (inputs : List Value) → IsVerified c → HasCodeSizes c held inputs
     → HasSlotsAndPorts c.instrs (c.vars + c.loops) (length held.held) c.outs
-fed_at c held inputs v z = subst (λ n. HasSlotsAndPorts c.instrs (c.vars + c.loops) n c.outs) (sym z.ins) (verified_fed c v)
+fed_at c held inputs v z = subst (λ n. HasSlotsAndPorts c.instrs (c.vars + c.loops) n c.outs) (sym z.ins)
+    (verified_fed c v)
 
 pub fresh_size : (c : CodeParts) (held : Frame) (inputs : List Value) → HasCodeSizes c held inputs
     → length (map is_present inputs) ≡ length held.held
@@ -99,7 +102,8 @@ leaves_by c held (Trapped trap) over on = (_, refl)
 leaves_by c held Stuck over on = absurd on
 leaves_by c held Unfinished over on = absurd over
 
-halted_by : (c : CodeParts) (held : Frame) (halt : Option Trap) (o : CodeOutcome) → (f : Fired) × (what_is_left c held o ≡ Leaves f)
+halted_by : (c : CodeParts) (held : Frame) (halt : Option Trap) (o : CodeOutcome)
+    → (f : Fired) × (what_is_left c held o ≡ Leaves f)
     → (f : Fired) × (unless_halted c held halt o ≡ Leaves f)
 halted_by c held None o leaves = leaves
 halted_by c held (Some trap) o leaves = (_, refl)

@@ -68,7 +68,8 @@ two_fine P o p stack slots outs has h =
     (λ v. let l : length (v ∷ rest) ≡ length stack - 2 + 1 = omega arith in h (v ∷ rest) l)))
 
 step_fine : (P : Holds) (s : StepInputs) (i : Instr) (p : ℕ) (stack slots : List ℤ) (outs : List Value)
-    → takes i ≤ length stack → FindsSlotsAndPorts (length slots) (length s.held) (length outs) i → length s.fresh ≡ length s.held
+    → takes i ≤ length stack → FindsSlotsAndPorts (length slots) (length s.held) (length outs) i
+    → length s.fresh ≡ length s.held
     → Wants P p (length stack) slots outs i → Fine P (step (Some i) s p stack slots outs)
 step_fine P s (Push v) p stack slots outs has fed eq h =
     h (p + 1) (inl refl) (v ∷ stack) slots outs (omega arith) refl refl
@@ -159,7 +160,8 @@ none_within [] p is within = omega arith
 none_within (i ∷ code) zero is within = cc
 none_within (i ∷ code) (suc p) is within = none_within code p is (omega arith)
 
-onward_later : (code : List Instr) (q p : ℕ) (i : Instr) → Nests code q i → Member (forward_successors q (Some i)) p → q < p
+onward_later : (code : List Instr) (q p : ℕ) (i : Instr) → Nests code q i → Member (forward_successors q (Some i)) p
+    → q < p
 onward_later code q p (Jump to) n way = ⊎_elim (λ e. let on = n.later in omega arith) (λ no'. absurd no') way
 onward_later code q p (JumpZero to) n way =
     ⊎_elim (λ e. let on = n.0.later in omega arith) (λ w. ⊎_elim (λ e. omega arith) (λ no'. absurd no') w) way
@@ -224,7 +226,8 @@ module _ (code : List Instr) (entries : List (Option ℕ)) (s : StepInputs) (slo
       let k = open'.0.1 in
       let opens = c.1.opens in
       let back = c.1.back in
-      let there : Member (forward_successors l.start (Some (LoopStart l.slot l.low l.high l.exit))) to = inr (inl (sym back)) in
+      let there : Member (forward_successors l.start (Some (LoopStart l.slot l.low l.high l.exit))) to =
+      inr (inl (sym back)) in
       let level' =
       level.same m open'.0.0 p l.start (length stack) k to (LoopNext slot high to)
       (LoopStart l.slot l.low l.high l.exit) reached is (inl refl) open'.0.2 opens there c.1.before (omega arith) in
@@ -302,7 +305,8 @@ module _ (code : List Instr) (entries : List (Option ℕ)) (s : StepInputs) (slo
       (leads_to P m p i stack slots outs again is (nested.each p i is) ls lo reached begun)
 
   goes_on : (n m p : ℕ) (o : Option Instr) (stack slots : List ℤ) (outs : List Value)
-      → Going (λ q stack slots outs. IsNotStuck (run code s n q stack slots outs)) → slice_get code p ≡ o → p < length code
+      → Going (λ q stack slots outs. IsNotStuck (run code s n q stack slots outs)) → slice_get code p ≡ o
+      → p < length code
       → length slots ≡ slots# → length outs ≡ outs# → Reaches code entries m p (length stack)
       → Begun code entries (around code p)
       → IsNotStuck (then_run (step o s p stack slots outs) (run code s n))

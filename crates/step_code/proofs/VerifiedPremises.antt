@@ -131,7 +131,8 @@ enough_by c n p h i v reached is =
 
 same_by : (c : CodeParts) → IsVerified c → (n m p q h k t : ℕ) (i j : Instr) → Reaches c.instrs c.entries n p h
     → slice_get c.instrs p ≡ Some i → Member (all_successors p i) t
-    → Reaches c.instrs c.entries m q k → slice_get c.instrs q ≡ Some j → Member (forward_successors q (Some j)) t → q < p → q < t
+    → Reaches c.instrs c.entries m q k → slice_get c.instrs q ≡ Some j → Member (forward_successors q (Some j)) t
+    → q < p → q < t
     → after k j ≡ after h i
 same_by c v n m p q h k t i j reached is way reached' is' way' less later =
     ⊎_elim

@@ -1,7 +1,8 @@
 //! How many instructions one step may take.
 ghost use Rattle.std.specs.Prelude.{◌≡◌, ◌+◌, ◌-◌, ◌<◌, map, option_to_list, slice_index_or, length, IfOk, Some};
 ghost use Rattle.step_code.specs.proof.InnermostLoops.{AreInnermost};
-ghost use Rattle.step_code.specs.SuccessorsAndWeights.{forward_successors, greatest, weight_at, heaviest, entry_weight, weight_of};
+ghost use Rattle.step_code.specs.SuccessorsAndWeights.{forward_successors, greatest, weight_at, heaviest, entry_weight};
+ghost use Rattle.step_code.specs.SuccessorsAndWeights.{weight_of};
 ghost use Rattle.step_code.specs.proof.StackHeights.{Member};
 ghost use Rattle.step_code.specs.proof.VerifierRules.{IsVerified};
 ghost use Rattle.step_code.specs.proof.VerifierIntermediateResults.{AreThere};

@@ -20,7 +20,8 @@ use Rattle.step_code.specs.declared.instr.Instr.TheVariants.{Jump, JumpZero, Loo
 use Rattle.step_code.specs.declared.instr.CodeParts.{CodeParts}
 use Rattle.step_code.specs.InstructionEffects.{Next, Goes, Ends, Traps, Sticks, StepInputs, on_top, on_found, on_result}
 use Rattle.step_code.specs.InstructionEffects.{on_two, step}
-use Rattle.step_code.specs.proof.CodeRuns.{CodeOutcome, Ended, Trapped, Stuck, Unfinished, then_run, run, what_is_left, from_entry}
+use Rattle.step_code.specs.proof.CodeRuns.{CodeOutcome, Ended, Trapped, Stuck, Unfinished, then_run, run, what_is_left}
+use Rattle.step_code.specs.proof.CodeRuns.{from_entry}
 use Rattle.step_code.specs.proof.CodeRuns.{unless_halted, exec, Leaves, has_entry, FitsCode}
 use Rattle.step_code.specs.InstructionsPerStep.{silent, step_inputs, slots_of}
 use Rattle.step_code.specs.proof.VerifierRules.{finds, misses_slot, on_some, BadSlot, IsVerified}
@@ -171,7 +172,8 @@ ended_fits c held Stuck f v fits ends is = cc
 ended_fits c held Unfinished f v fits ends is = cc
 
 halted_fits : (c : CodeParts) (held : Frame) (halt : Option Trap) (o : CodeOutcome) (f : Fired) → FitsCode c held
-    → (what_is_left c held o ≡ Leaves f → FitsCode c f.frame) → unless_halted c held halt o ≡ Leaves f → FitsCode c f.frame
+    → (what_is_left c held o ≡ Leaves f → FitsCode c f.frame) → unless_halted c held halt o ≡ Leaves f
+    → FitsCode c f.frame
 halted_fits c held None o f fits going is = going is
 halted_fits c held (Some trap) o f fits going is = let same : held ≡ f.frame = cc in subst (FitsCode c) same fits
 
@@ -189,5 +191,6 @@ frame_fits c frame inputs f v fits is =
     (λ leaves.
     ended_fits c held (from_entry c held inputs (slice_get c.entries frame.state)) f v fits'
     (λ state slots outs ended.
-    ends_at c.instrs (step_inputs held.held inputs) _ (c.vars + c.loops) b.0 state [] (slots_of c held.vars) slots (silent c)
+    ends_at c.instrs (step_inputs held.held inputs) _ (c.vars + c.loops) b.0 state [] (slots_of c held.vars) slots
+    (silent c)
     outs size (ap (from_entry c held inputs) (sym b.1.is) ∙ ended)) leaves) is

@@ -98,7 +98,8 @@ pub record IsReady (t : Task) (i : Instr) (place : ℕ) (stack slots : List ℤ)
   pub low : length stack ≤ place
   pub small : place < INSTRUCTIONS
 
-fed_here : (t : Task) → IsTask t → HasSlotsAndPorts t.parts.instrs (t.parts.vars + t.parts.loops) (length t.held) t.parts.outs
+fed_here : (t : Task) → IsTask t → HasSlotsAndPorts t.parts.instrs (t.parts.vars + t.parts.loops) (length t.held)
+    t.parts.outs
 fed_here t is =
     subst (λ n. HasSlotsAndPorts t.parts.instrs (t.parts.vars + t.parts.loops) n t.parts.outs) (sym is.held')
     (verified_fed t.parts is.verified)

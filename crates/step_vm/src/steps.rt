@@ -1,7 +1,8 @@
 //! The machine: one step of a component's code, from its frame and inputs to the frame and outputs that it leaves.
 ghost use Rattle.std.specs.Prelude.{◌≡◌, ◌≤◌, ◌-◌, ◌++◌, [], length, take, replicate, pos, Some, true, slice_get, ◌+◌};
 ghost use Rattle.pals_base.specs.SingleStep.{holding};
-ghost use Rattle.step_code.specs.proof.CodeRuns.{FitsCode, HasCodeSizes, Leaves, exec, has_entry, what_is_left, run_from};
+ghost use Rattle.step_code.specs.proof.CodeRuns.{FitsCode, HasCodeSizes, Leaves, exec, has_entry, what_is_left};
+ghost use Rattle.step_code.specs.proof.CodeRuns.{run_from};
 ghost use Rattle.step_code.specs.InstructionsPerStep.{silent};
 ghost use Rattle.step_code.specs.proof.StackHeights.{Member};
 ghost use Rattle.step_code.specs.proof.VerifierRules.{IsVerified};

@@ -139,7 +139,8 @@ module _ (to : ℕ → ℕ) (a b : DesignParts) (sound_a : IsDesign a) (sound_b 
         ap (brought_tuple b (values_at env_b round) messages_b rate)
         (nothing_is_source b (to node) port (no_link_there node port within no_link)
         (no_feed_there node port within no_feed))
-        ∙ sym (ap (brought_tuple a (values_at env_a round) messages_a rate) (nothing_is_source a node port no_link no_feed))
+        ∙ sym (ap (brought_tuple a (values_at env_a round) messages_a rate)
+        (nothing_is_source a node port no_link no_feed))
 
     brings_by : (rate node port : ℕ) → node < length a.components
         → Passes (link_goes_to node port) a.links ⊎ All (λ link. link_goes_to node port link ≡ false) a.links

@@ -126,7 +126,8 @@ module _ (run : Run) (w : World) (rules : IsRunOf run) (keeps : KeepsTime run w)
     | inr few ↦ few
   ]
 
-  pub flies_by : (round : ℕ) (fs : List FlightCopy) → flight ≡ fs → 1 ≤ copies round fs → is_in_flight round flight ≡ true
+  pub flies_by : (round : ℕ) (fs : List FlightCopy) → flight ≡ fs → 1 ≤ copies round fs
+      → is_in_flight round flight ≡ true
   flies_by round fs is some = counts_in_flight round flight (subst (λ cs. 1 ≤ copies round cs) (sym is) some)
 
   pub single : (fs : List FlightCopy) → flight ≡ fs → (fs ≡ []) ⊎ ((c : FlightCopy) × (fs ≡ c ∷ []))

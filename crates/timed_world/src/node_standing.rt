@@ -29,8 +29,10 @@ pub struct NodeStanding {
 }
 
 impl NodeStanding {
-    ghost use Rattle.timed_world.specs.proof.NodeStandings.{IsSound, alarm_of_step, release_of, start_fault, step_fault};
-    ghost use Rattle.timed_world.specs.proof.NodeStandings.{finish_fault, send_fault, may_send_round, phase_last, send_last};
+    ghost use Rattle.timed_world.specs.proof.NodeStandings.{IsSound, alarm_of_step, release_of, start_fault};
+    ghost use Rattle.timed_world.specs.proof.NodeStandings.{step_fault};
+    ghost use Rattle.timed_world.specs.proof.NodeStandings.{finish_fault, send_fault, may_send_round, phase_last};
+    ghost use Rattle.timed_world.specs.proof.NodeStandings.{send_last};
     ghost use Rattle.timed_world.specs.proof.NodeStandings.{last_time};
 
     /// Why it may not start its next round, if so.

@@ -129,18 +129,19 @@ module _ (run : Run) (rules : IsRunOf run) (times : EventTimes) (w : World) (tim
         let since = slice_set w.since j w.time in
         let in_bus = on.in_bus run w rules timed.keeps node steps in (
           fine_step,
-          subst (IsTimed run times) (sym (on.step_on_is run w rules timed.keeps node steps step on_time.waits)) (record {
-            keeps = on.step_between run w rules timed.keeps node steps step on_time.waits;
-            nodes = nodes_again run times w bus since w.ready w.sent_at j timed
-                (record {
-                  nodes = λ i other. node_stays w.bus j i next other;
-                  since_stays = λ i other. get_or-set_other w.since j i w.time 0 other;
-                  ready_stays = λ i other. refl;
-                  sent_stays = λ i other. refl;
-                })
-                (timed_put (plan_of run.design j) times j (node_at bus j) next (slice_index_or since j 0) w.time
-                (ready_at w j) (ready_at w j) (sendings w j) (sendings w j) next_timed
-                (node_set w.bus j next in_bus)
-                (get_or-set_at w.since j j w.time 0 refl (long_since on_time.within)) refl refl);
-          }),
+          subst (IsTimed run times) (sym (on.step_on_is run w rules timed.keeps node steps step on_time.waits))
+              (record {
+                keeps = on.step_between run w rules timed.keeps node steps step on_time.waits;
+                nodes = nodes_again run times w bus since w.ready w.sent_at j timed
+                    (record {
+                      nodes = λ i other. node_stays w.bus j i next other;
+                      since_stays = λ i other. get_or-set_other w.since j i w.time 0 other;
+                      ready_stays = λ i other. refl;
+                      sent_stays = λ i other. refl;
+                    })
+                    (timed_put (plan_of run.design j) times j (node_at bus j) next (slice_index_or since j 0) w.time
+                    (ready_at w j) (ready_at w j) (sendings w j) (sendings w j) next_timed
+                    (node_set w.bus j next in_bus)
+                    (get_or-set_at w.since j j w.time 0 refl (long_since on_time.within)) refl refl);
+              }),
         )

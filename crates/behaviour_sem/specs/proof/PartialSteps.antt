@@ -26,7 +26,8 @@ fired at inputs =
 -- a part of a step with this answer leads from here to there as is meant
 abbrev pub Leads : Result (Unit {0}) EarlyEnd → (List Bool → Fired → Result Fired Trap) → StepInputs → StateAndOutputs
     → StateAndOutputs → Type 0
-Leads result meant inputs before after = IsStepResult result (fired after inputs) (meant (fresh inputs) (fired before inputs))
+Leads result meant inputs before after =
+    IsStepResult result (fired after inputs) (meant (fresh inputs) (fired before inputs))
 
 -- the whole step from a state: its dispatch transition, and on to a complete state
 abbrev pub reacted : BehaviourParts → ℕ → List Bool → Fired → Result Fired Trap

@@ -1,5 +1,6 @@
 -- The copies of a flight, kept by round.
-use Rattle.std.specs.Prelude.{◌≡◌, ℕ, nat_eq, ◌<◌, ◌==◌, Bool, false, not, ◌&&◌, List, [], length, AllPairs, find, filter}
+use Rattle.std.specs.Prelude.{◌≡◌, ℕ, nat_eq, ◌<◌, ◌==◌, Bool, false, not, ◌&&◌, List, [], length, AllPairs, find}
+use Rattle.std.specs.Prelude.{filter}
 use Rattle.std.specs.List.{list_any}
 use Rattle.std.specs.Option.{option_map_or}
 use Rattle.pals_model.specs.declared.flight_copy.FlightCopy.{FlightCopy}

@@ -53,7 +53,8 @@ pub record TakesAllDue (old : BusValue) (node reading : ℕ) (new : BusValue) : 
 
 -- the entries of all messages that are due to a node at a reading, in link order and then in order of rounds
 pub record AreLeft (b : BusValue) (node reading : ℕ) (left : List DueEntry) : Type 0 where
-  pub counts : (e : DueEntry) → count_by (is_entry e) left ≡ (if is_due_at reading e then copies_in_flight b node e else 0)
+  pub counts : (e : DueEntry) → count_by (is_entry e) left
+      ≡ (if is_due_at reading e then copies_in_flight b node e else 0)
   pub order : AllPairs (λ earlier later. comes_first later earlier ≡ false) left
 
 -- the run had the stop before, or the last of the arrivals gave it

@@ -23,7 +23,8 @@ use Rattle.pals_model.specs.Composition.{comp, state, msg, part, taps_of}
 -- the steps that one component runs in a round, from its own frame and its own feed
 abbrev pub own_steps : DesignParts → Env → ℕ → ℕ → Component → Stepped
 own_steps design env node round c =
-    steps c.behaviour (state design env node round) (input_vectors design env (comp design env round).messages node round)
+    steps c.behaviour (state design env node round)
+    (input_vectors design env (comp design env round).messages node round)
 
 -- there is a frame for each component, and a message for each link
 abbrev pub OneFrameEach : Type 0

@@ -8,7 +8,8 @@ use Rattle.pals_base.specs.declared.behaviour.PortDecl.{PortDecl}
 use Rattle.pals_base.specs.declared.behaviour.VarDecl.{VarDecl}
 use Rattle.pals_base.specs.declared.behaviour.StateDecl.{StateDecl}
 use Rattle.pals_base.specs.declared.behaviour.BehaviourParts.{BehaviourParts}
-use Rattle.pals_base.specs.ExpressionAndActionTrees.{Literal, Variable, PortRead, Chain, NoMore, Then, Assign, Emit, Actions, Nothing}
+use Rattle.pals_base.specs.ExpressionAndActionTrees.{Literal, Variable, PortRead, Chain, NoMore, Then, Assign, Emit}
+use Rattle.pals_base.specs.ExpressionAndActionTrees.{Actions, Nothing}
 use Rattle.pals_base.specs.ExpressionAndActionTrees.{Do, Dispatch, Edge}
 use Rattle.pals_model.specs.declared.design.Component.{Component}
 use Rattle.pals_model.specs.declared.design.Link.{Link}

@@ -1,6 +1,7 @@
 //! Laws of the root in ports.
 ghost use Rattle.pals_model.specs.proof.CompositionLaws.RootInputsAndFeeds.{RootInputsDiffer, RootInputsAreFeeds};
-ghost use Rattle.pals_model.specs.proof.CompositionLaws.RootInputsAndFeeds.{RootInputsInOrder, FeedHasRoot, FeedsHaveRootKind};
+ghost use Rattle.pals_model.specs.proof.CompositionLaws.RootInputsAndFeeds.{RootInputsInOrder, FeedHasRoot};
+ghost use Rattle.pals_model.specs.proof.CompositionLaws.RootInputsAndFeeds.{FeedsHaveRootKind};
 
 /// The root in ports are the names of the feeds, each once, in the order of their first feeds.
 pub fn root_inputs_are_feeds()

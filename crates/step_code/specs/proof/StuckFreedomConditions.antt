@@ -12,7 +12,8 @@ pub record HasAgreeingHeights (code : List Instr) (entries : List (Option ℕ)) 
   pub enough : (n p h : ℕ) (i : Instr) → Reaches code entries n p h → slice_get code p ≡ Some i → takes i ≤ h
   pub same : (n m p q h k t : ℕ) (i j : Instr) → Reaches code entries n p h → slice_get code p ≡ Some i
       → Member (all_successors p i) t
-      → Reaches code entries m q k → slice_get code q ≡ Some j → Member (forward_successors q (Some j)) t → q < p → q < t
+      → Reaches code entries m q k → slice_get code q ≡ Some j → Member (forward_successors q (Some j)) t → q < p
+      → q < t
       → after k j ≡ after h i
 
 pub record HasSlotsAndPorts (code : List Instr) (slots ins outs : ℕ) : Type 0 where

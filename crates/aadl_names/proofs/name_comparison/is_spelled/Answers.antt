@@ -12,5 +12,6 @@ returns-then-is_empty c =
     let none = eqb-true (vec_len rest) 0 (sym c.if-is_empty.ensures) in
     c.is_identifier.ensures
     ∙ ap (λ whole. same_name whole c.args.text.now)
-    (sym (one_word (λ y. codes "::" ++ y.spelling) (identifier_view kept_place) c.args.name.now.first.spelling rest.items
+    (sym (one_word (λ y. codes "::" ++ y.spelling) (identifier_view kept_place) c.args.name.now.first.spelling
+    rest.items
     (omega (arith, none, rest.ok))))

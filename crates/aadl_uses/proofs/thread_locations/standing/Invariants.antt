@@ -4,4 +4,5 @@ use Rattle.aadl_uses.specs.ContainmentAndUse.{number_at_path}
 use Rattle.aadl_uses.proofs.thread_locations.standing.Given as goal
 
 abbrev pub invariant-loop-sub : goal.invariant-loop-sub
-invariant-loop-sub l = number_at_path (placed l.uses.names.tree.now) l.root (reverse (take l.sub-index l.path)) ≡ Some l.here
+invariant-loop-sub l = number_at_path (placed l.uses.names.tree.now) l.root (reverse (take l.sub-index l.path))
+    ≡ Some l.here

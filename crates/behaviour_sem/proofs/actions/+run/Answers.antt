@@ -24,7 +24,8 @@ run-returns-in_err-run_first-in-If-clause-runs t c =
     let answers : c.from_residual-in_err-run_first-in-If.result ≡ Err stop = search rules in
     let before = effect c.args.vars.now.items outs in
     let after = effect c.run_first.new.vars.items c.run_first.new.outs in
-    let meaning : act_first (branches_along c.deref-in-If.result.now) frame fresh outs otherwise ≡ act (action_of c.args.action.now) frame fresh outs =
+    let meaning : act_first (branches_along c.deref-in-If.result.now) frame fresh outs otherwise
+    ≡ act (action_of c.args.action.now) frame fresh outs =
     (ap (λ bs. act_first (branches_along bs) frame fresh outs otherwise) c.deref-in-If.ensures.value
     ∙ sym (act-If c.in-If.branches c.in-If.otherwise frame fresh outs)
     ∙ ap (λ a. act (action_of a) frame fresh outs) (sym c.in-If.is)) in

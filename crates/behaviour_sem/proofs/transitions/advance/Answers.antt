@@ -47,11 +47,13 @@ returns-then-branch-clause-leads c =
     first_open-from at.frame fresh all numbers c.loop-at.at (Ok true) (omega arith)
     (asked ∙ ap Ok c.if-branch.true) in
     let meant = ap (λ r. on_value r (λ e. along e fresh at)) (sym c.loop-at.invariant.rest ∙ found) in
-    let same : along (slice_get all number) fresh (fired (c.loop-at.place, c.loop-at.outs) inputs) ≡ move (numbered all numbers) fresh at =
+    let same : along (slice_get all number) fresh (fired (c.loop-at.place, c.loop-at.outs) inputs)
+    ≡ move (numbered all numbers) fresh at =
     (ap (λ p. along (slice_get all number) fresh (fired (p, c.loop-at.outs) inputs)) c.loop-at.invariant.place
     ∙ ap (λ os. along (slice_get all number) fresh (fired (start, os) inputs)) c.loop-at.invariant.outs
     ∙ sym meant) in
-    subst (λ m. IsStepResult c.follow_number.result (fired (c.follow_number.new.place, c.follow_number.new.outs) inputs) m)
+    subst (λ m. IsStepResult c.follow_number.result
+    (fired (c.follow_number.new.place, c.follow_number.new.outs) inputs) m)
     same c.follow_number.ensures.leads
 
 pub loop-at-preserved : goal.loop-at-preserved

@@ -20,11 +20,13 @@ returns-then-is_dispatch-clause-leads c =
     let found =
     sym (dispatch-from all numbers at true (omega arith)
     (sym c.if-is_dispatch.true ∙ c.is_dispatch.ensures)) ∙ c.loop-at.invariant.rest in
-    let same : along (slice_get all number) (fresh inputs) (fired (c.loop-at.place, c.loop-at.outs) inputs) ≡ along (dispatch_among (numbered all numbers)) (fresh inputs) (fired (start, c.args.outs.now) inputs) =
+    let same : along (slice_get all number) (fresh inputs) (fired (c.loop-at.place, c.loop-at.outs) inputs)
+    ≡ along (dispatch_among (numbered all numbers)) (fresh inputs) (fired (start, c.args.outs.now) inputs) =
     (ap (λ p. along (slice_get all number) (fresh inputs) (fired (p, c.loop-at.outs) inputs)) c.loop-at.invariant.place
     ∙ ap (λ os. along (slice_get all number) (fresh inputs) (fired (start, os) inputs)) c.loop-at.invariant.outs
     ∙ ap (λ o. along o (fresh inputs) (fired (start, c.args.outs.now) inputs)) found) in
-    subst (λ m. IsStepResult c.follow_number.result (fired (c.follow_number.new.place, c.follow_number.new.outs) inputs) m)
+    subst (λ m. IsStepResult c.follow_number.result
+    (fired (c.follow_number.new.place, c.follow_number.new.outs) inputs) m)
     same c.follow_number.ensures.leads
 
 pub loop-at-preserved : goal.loop-at-preserved

@@ -27,7 +27,8 @@ returns-in_err-advance-clause-leads c =
     c.transitions.ensures.value c.leaving-numbers.ensures c.requires in
     let moved =
     subst (λ ts. IsStepResult (Err stop) after (move ts fresh at)) left c.in_err-advance.ensures.leads in
-    let stops = Left-stops stop (move (leaving b c.loop.place.state) fresh at) (λ next. settled rest b fresh next) after after moved in
+    let stops = Left-stops stop (move (leaving b c.loop.place.state) fresh at) (λ next. settled rest b fresh next)
+    after after moved in
     subst (λ r. IsStepResult r after
     (settled (length b.states) b fresh (fired (c.args.place.now, c.args.outs.now) c.args.inputs.now))) (sym answers)
     (subst (λ m. IsStepResult (Err stop) after m)

@@ -1,4 +1,5 @@
-use Rattle.std.proofs.Common.{◌≡◌, ℕ, ◌+◌, ◌^◌, ◌<◌, ◌++◌, true, false, List, [], length, set, insert, get_or, slice_get, sym, ap, ◌∙◌, subst}
+use Rattle.std.proofs.Common.{◌≡◌, ℕ, ◌+◌, ◌^◌, ◌<◌, ◌++◌, true, false, List, [], length, set, insert, get_or}
+use Rattle.std.proofs.Common.{slice_get, sym, ap, ◌∙◌, subst}
 use Rattle.std.proofs.Common.{arith, length-set}
 use Rattle.std.specs.Option.{option_map_or}
 use Rattle.pals_model.specs.declared.flight_copy.FlightCopy.{FlightCopy}

@@ -1,4 +1,5 @@
-use Rattle.std.proofs.Common.{◌≡◌, ◌<◌, true, false, List, [], ◌∷◌, length, Option, Some, None, IsSome, IfSome, option_copied, Bor, get_or, slice_get, refl, sym, ap, ◌∙◌, arith}
+use Rattle.std.proofs.Common.{◌≡◌, ◌<◌, true, false, List, [], ◌∷◌, length, Option, Some, None, IsSome, IfSome}
+use Rattle.std.proofs.Common.{option_copied, Bor, get_or, slice_get, refl, sym, ap, ◌∙◌, arith}
 use Rattle.std.specs.Option.{option_map_or}
 use Rattle.pals_model.specs.declared.flight_copy.FlightCopy.{FlightCopy}
 use Rattle.link_buffers.specs.declared.copies_by_round.RoundCopies.{RoundCopies}
@@ -23,9 +24,11 @@ module _ (c : After-has_copies_at) (some : c.has_copies_at.result ≡ true) wher
       inside c.args.round c.args.rounds.now.items c.place_of-place.result c.requires c.place_of-place.ensures.bound
       c.place_of-place.ensures.parts there
 
-  copies_are : (d : RoundCopies) → copies_of c.args.round c.args.rounds.now.items ≡ (get_or c.args.rounds.now.items c.place_of-place.result d).copies
+  copies_are : (d : RoundCopies) → copies_of c.args.round c.args.rounds.now.items
+      ≡ (get_or c.args.rounds.now.items c.place_of-place.result d).copies
   copies_are =
-      copies_there c.args.round c.args.rounds.now.items c.place_of-place.result c.requires c.place_of-place.ensures.bound
+      copies_there c.args.round c.args.rounds.now.items c.place_of-place.result c.requires
+      c.place_of-place.ensures.bound
       c.place_of-place.ensures.parts there
 
 -- what `front` gives

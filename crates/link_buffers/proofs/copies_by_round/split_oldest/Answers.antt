@@ -26,7 +26,8 @@ returns-then-not-has_copies_at-clause-none c =
 
 pub returns-then-not-has_copies_at-clause-left : goal.returns-then-not-has_copies_at-clause-left
 returns-then-not-has_copies_at-clause-left c =
-    let none = empty (goal.at.returns-then-not-has_copies_at-clause-left c).After-has_copies_at c.if-not-has_copies_at.true in
+    let none = empty (goal.at.returns-then-not-has_copies_at-clause-left c).After-has_copies_at
+    c.if-not-has_copies_at.true in
     none ∙ sym (ap (drop 1) none)
 
 -- ---- some copies

@@ -12,7 +12,8 @@ loop-at-preserved c =
     let from = c.args.from.now in
     let wanted = cut c.args.count from in
     let size : length wanted ≡ length from = length-cut c.args.count from in
-    let item = c.value_if_before.ensures ∙ cut_place c.args.count at from c.value_if_before.result c.loop-at-test.true in
+    let item = c.value_if_before.ensures ∙ cut_place c.args.count at from c.value_if_before.result c.loop-at-test.true
+    in
     record {
       len = grind (arith, common_steps);
       done =

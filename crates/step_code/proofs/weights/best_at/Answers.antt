@@ -37,5 +37,6 @@ returns c =
     (c.requires.weights.each p (omega arith)) in
     c.saturating_add.ensures
     ∙ ap (λ b. capped (slice_index_or c.args.weights.now p 0 + b)) c.best_onward.ensures
-    ∙ ap (λ w. capped (w + greatest (map (λ to. slice_index_or c.args.best.now to 0) (forward_successors p (Some i))))) weight
+    ∙ ap (λ w. capped (w + greatest (map (λ to. slice_index_or c.args.best.now to 0) (forward_successors p (Some i)))))
+    weight
     ∙ best_here parts p i c.args.best.now 0 c.requires.verified here c.requires.within c.requires.best

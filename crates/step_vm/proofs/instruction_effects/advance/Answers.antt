@@ -17,7 +17,8 @@ use Rattle.step_vm.specs.proof.MachineAnswers.{Met}
 use Rattle.step_vm.proofs.instruction_effects.advance.Goals as goal
 
 -- a store, at the slot and the stack that are there
-store_step : (s : StepInputs) (i : Instr) (x p : ℕ) (v w : ℤ) (stack rest slots : List ℤ) (outs : List Value) → i ≡ Store x
+store_step : (s : StepInputs) (i : Instr) (x p : ℕ) (v w : ℤ) (stack rest slots : List ℤ) (outs : List Value)
+    → i ≡ Store x
     → x < length slots → stack ≡ v ∷ rest → w ≡ v
     → step (Some i) s p stack slots outs ≡ Goes (p + 1) rest (slice_set slots x w) outs
 store_step s i x p v w stack rest slots outs is within top same =
@@ -196,7 +197,8 @@ returns-in-Not-clause-met c =
     ap (λ i. step (Some i) s p stack slots outs) c.in-Not.is
     ∙ ap (λ st. on_top st (λ a rest. Goes (p + 1) (truth (not (is_true a)) ∷ rest) slots outs))
     c.pop-value-in-Not.ensures.all in
-    let met : Met c.give-in-Not.result c.give-in-Not.new.stack.numbers slots outs (Goes (p + 1) (number ∷ rest) slots outs) = simp to_z-of_z at (c.give-in-Not.ensures.met slots outs) in
+    let met : Met c.give-in-Not.result c.give-in-Not.new.stack.numbers slots outs
+    (Goes (p + 1) (number ∷ rest) slots outs) = simp to_z-of_z at (c.give-in-Not.ensures.met slots outs) in
     subst (Met c.give-in-Not.result c.give-in-Not.new.stack.numbers slots outs)
     (ap (λ n. Goes (p + 1) (n ∷ rest) slots outs) value ∙ sym is) met
 
@@ -209,9 +211,11 @@ returns-in-Fresh-clause-met c =
     let stack = c.args.stack.now.numbers in
     let number = c.number_of.result in
     let fits : SFits w64 number = search rules in
-    let is : step (Some c.args.instr) s p stack slots outs ≡ Goes (p + 1) (truth c.is_fresh-fresh.result ∷ stack) slots outs =
+    let is : step (Some c.args.instr) s p stack slots outs
+    ≡ Goes (p + 1) (truth c.is_fresh-fresh.result ∷ stack) slots outs =
     ap (λ i. step (Some i) s p stack slots outs) c.in-Fresh.is
     ∙ ap (λ o. on_found o (λ b. Goes (p + 1) (truth b ∷ stack) slots outs)) c.is_fresh-fresh.ensures in
-    let met : Met c.give-in-Fresh.result c.give-in-Fresh.new.stack.numbers slots outs (Goes (p + 1) (number ∷ stack) slots outs) = simp to_z-of_z at (c.give-in-Fresh.ensures.met slots outs) in
+    let met : Met c.give-in-Fresh.result c.give-in-Fresh.new.stack.numbers slots outs
+    (Goes (p + 1) (number ∷ stack) slots outs) = simp to_z-of_z at (c.give-in-Fresh.ensures.met slots outs) in
     subst (Met c.give-in-Fresh.result c.give-in-Fresh.new.stack.numbers slots outs)
     (ap (λ n. Goes (p + 1) (n ∷ stack) slots outs) c.number_of.ensures ∙ sym is) met

@@ -7,5 +7,6 @@ use Rattle.sync_product.proofs.round_inputs.write_inputs.Given as goal
 abbrev pub invariant-loop-at : goal.invariant-loop-at
 invariant-loop-at l = record {
   len : length l.inputs ≡ length l.fn.inputs;
-  done : take l.at l.inputs ≡ take l.at (column l.step (map (brought l.round l.wired.component.now.rate) l.wired.sources.now));
+  done : take l.at l.inputs ≡ take l.at (column l.step
+      (map (brought l.round l.wired.component.now.rate) l.wired.sources.now));
 }

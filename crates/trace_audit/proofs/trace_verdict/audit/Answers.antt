@@ -10,7 +10,8 @@ use Rattle.trace_audit.proofs.JournalVerdicts.{judged_whole}
 use Rattle.trace_audit.proofs.trace_verdict.audit.Goals as goal
 
 pub audit_behind-requires-clause-design : goal.audit_behind-requires-clause-design
-audit_behind-requires-clause-design c = c.deref.ensures ∙ sym (ap (λ (r : Run). r.design) c.in_ok-replay-in-Whole.ensures.run)
+audit_behind-requires-clause-design c = c.deref.ensures
+    ∙ sym (ap (λ (r : Run). r.design) c.in_ok-replay-in-Whole.ensures.run)
 
 pub returns-in-Whole : goal.returns-in-Whole
 returns-in-Whole c =

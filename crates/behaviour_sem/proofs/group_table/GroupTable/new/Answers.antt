@@ -13,8 +13,10 @@ add_number-requires c =
     let at = c.loop-transition.transition-index in
     let items = c.as_slice-transition-items.result.now in
     let item = c.transition-item.result in
-    let same = c.as_slice-transition-items.ensures.value ∙ ap (λ (p : BehaviourParts). p.transitions) c.parts-parts.ensures.value in
-    let below = leaves-state b items at item same c.loop-transition-test.true c.transition-item.is c.parts-parts.ensures.rules in
+    let same = c.as_slice-transition-items.ensures.value
+    ∙ ap (λ (p : BehaviourParts). p.transitions) c.parts-parts.ensures.value in
+    let below = leaves-state b items at item same c.loop-transition-test.true c.transition-item.is
+    c.parts-parts.ensures.rules in
     let is = ap (λ (e : Edge). e.source) c.transition.view_is in
     let len = c.loop-transition.invariant.len in
     omega (arith, below, is, len)
@@ -37,5 +39,6 @@ loop-transition-preserved c =
       len = c.in_ok-add_number.ensures.len ∙ c.loop-transition.invariant.len;
       groups = λ state. grown state c.len-number.result sources c.push.new.self source
           (slice_index_or c.add_number.new.groups state []) (slice_index_or c.loop-transition.groups state [])
-          pushed (c.loop-transition.invariant.groups state) c.len-number.ensures (c.in_ok-add_number.ensures.added state);
+          pushed (c.loop-transition.invariant.groups state) c.len-number.ensures
+          (c.in_ok-add_number.ensures.added state);
     }

@@ -39,5 +39,6 @@ returns c =
     let n = c.partition_point-place.result in
     let within = c.partition_point-place.ensures.bound in
     let long = length-insert xs n c.args.entry within in
-    let room : c.put_at.new.ring.capacity - length c.put_at.new.ring.items ≡ (c.self.inside.entries.capacity - length xs) - 1 = rw (items s, same s) (omega arith) in
+    let room : c.put_at.new.ring.capacity - length c.put_at.new.ring.items
+    ≡ (c.self.inside.entries.capacity - length xs) - 1 = rw (items s, same s) (omega arith) in
     rw (← c.self.view_is) (same_queue _ _ _ _ (items s ∙ inserted xs c.args.entry n within (parts s)) room)

@@ -61,7 +61,8 @@ pub returns-clause-taken : goal.returns-clause-taken
 returns-clause-taken c =
     let f = c.self.inside in
     let copy = c.copy_in.result.now in
-    let is = oldest_some f.rounds.items f.order.copies c.self.invariant.1 c.args.round c.in_ok-node.node copy (some c) (first c)
+    let is = oldest_some f.rounds.items f.order.copies c.self.invariant.1 c.args.round c.in_ok-node.node copy (some c)
+    (first c)
     c.copy_in.ensures in
     rw (← c.self.view_is) (ap Some (c.give_back.ensures.tuple copy c.copy_in.ensures)
     ∙ sym (ap (option_map (λ (copy : FlightCopy). copy.tuple)) is))

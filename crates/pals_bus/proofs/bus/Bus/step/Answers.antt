@@ -30,7 +30,8 @@ invariant_of-self-2 c =
     let going : old.stop ≡ None = grind (arith, common_steps) in
     let stands =
     reserved v old f c.args.node.0 c.self.view_is going c.requires.node room.others room.items room.keeps in
-    let turned : Turned f g c.args.node.0 (entry.Step c.args.node job.work.round job.work.step c.args.reading) = record {
+    let turned : Turned f g c.args.node.0 (entry.Step c.args.node job.work.round job.work.step c.args.reading) =
+    record {
       same = ap (λ (ns : List NodeValue). let u : BusFields = record g { nodes = ns } in u) c.in-Ok.ensures.others;
       told =
           c.push_reserved.ensures.items
@@ -52,7 +53,8 @@ returns-clause-ok c =
     let going : old.stop ≡ None = grind (arith, common_steps) in
     let stands =
     reserved v old f c.args.node.0 c.self.view_is going c.requires.node room.others room.items room.keeps in
-    let turned : Turned f g c.args.node.0 (entry.Step c.args.node job.work.round job.work.step c.args.reading) = record {
+    let turned : Turned f g c.args.node.0 (entry.Step c.args.node job.work.round job.work.step c.args.reading) =
+    record {
       same = ap (λ (ns : List NodeValue). let u : BusFields = record g { nodes = ns } in u) c.in-Ok.ensures.others;
       told =
           c.push_reserved.ensures.items

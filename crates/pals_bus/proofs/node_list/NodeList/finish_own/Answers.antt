@@ -7,4 +7,5 @@ pub invariant_of-self : goal.invariant_of-self
 invariant_of-self c =
     targets_kept c.self.inside.nodes c.self.inside.targets c.keep_target.new.targets c.args.node
     c.finish_own-answer.new.self c.self.invariant
-    (subst (λ (ns : List NodeValue). c.args.node < length ns) (sym c.self.view_is) c.requires.node) c.keep_target.ensures
+    (subst (λ (ns : List NodeValue). c.args.node < length ns) (sym c.self.view_is) c.requires.node)
+    c.keep_target.ensures

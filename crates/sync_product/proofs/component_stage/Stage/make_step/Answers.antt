@@ -12,7 +12,14 @@ returns-clause-stage_size c =
     let step = c.args.step in
     let row = c.copy_from_slice.new.self in
     let size : ℕ → FrameSize → List ℕ → StageSize =
-    λ o b r. record { sources = self.groups; inputs = length self.inputs; outs = o; before = b; rows = r; sent = self.sent } in
+    λ o b r. record {
+      sources = self.groups;
+      inputs = length self.inputs;
+      outs = o;
+      before = b;
+      rows = r;
+      sent = self.sent;
+    } in
     let width : length c.fire_into.new.outs ≡ self.outs.len = omega arith in
     let items = with_items_is self.outs c.fire_into.new.outs width in
     let outs : length (with_items self.outs c.fire_into.new.outs).items ≡ length self.outs.items = ap length items

@@ -17,7 +17,8 @@ invariant_of-result c =
     let design = arc_value c.args.design in
     let sizes = λ (tuples : List (List PortValue)). map (λ (tuple : List PortValue). length tuple) tuples in (
       record {
-        wiring_is = subst (λ (d : DesignParts). IsWiring d c.in_ok-wiring.wiring) c.deref.ensures c.in_ok-wiring.ensures;
+        wiring_is = subst (λ (d : DesignParts). IsWiring d c.in_ok-wiring.wiring) c.deref.ensures
+            c.in_ok-wiring.ensures;
         stages_fit = c.in_ok-stages.ensures ∙ ap stage_sizes c.deref-2.ensures;
       },
       record {
