@@ -74,7 +74,7 @@ all_still from lists notes node reading a c still (takes_next {b = b} link round
     goes_still from lists notes node reading b c link round (all_still from lists notes node reading a b still takes)
     next.is_due happens
 
--- where no message is due, all have arrived
+-- if no message is due, all have arrived
 pub none_is_left : (b : BusValue) (node reading : ℕ) → ((link round : ℕ) → IsDueTo b node reading link round → ⊥)
     → NoneDue b.run b.state node (Some reading)
 none_is_left b node reading none = λ link l is to k d within.

@@ -1,4 +1,4 @@
--- For the calls of `SharedRun` that act on the bus: what each leaves of the course.
+-- For the calls of `SharedRun` that act on the bus: how each leaves the course.
 use Rattle.std.proofs.Common.{◌≡◌, inl, inr, ℕ, ◌<◌, List, length, Option, Some, refl, sym, ◌∙◌, subst}
 use Rattle.std.specs.Prelude.{Result, Ok, Err, IfOk, IfErr, OnOk, OnErr}
 use Rattle.std.specs.declared.alloc.AllocError.{AllocError}

@@ -130,7 +130,7 @@ pick_goes bus lists notes node action course within next noted =
           };
     }
 
--- ---- what is noted
+-- ---- records of nodes
 pub note_goes : (bus : BusValue) (lists : List ClockState) (notes : List NodeNote) (node goal : ℕ)
     → IsCourse (course_of bus lists notes) → IsOpen (course_of bus lists notes) node
     → EndsAt bus (clocks_of bus.meeting lists) node goal

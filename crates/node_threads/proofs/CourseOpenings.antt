@@ -19,7 +19,8 @@ use Rattle.node_threads.specs.proof.SharedCourses.{clocks_of, course_of, note_at
 use Rattle.node_threads.specs.proof.SharedCourses.{fresh_of}
 
 -- ---- the opening
-many_lists : (b : BusValue) (clocks : Clocks) → HaveFreshClocks b.run clocks → AreMany (length b.run.design.components) clocks
+many_lists : (b : BusValue) (clocks : Clocks) → HaveFreshClocks b.run clocks
+    → AreMany (length b.run.design.components) clocks
 many_lists b Meet begin = tt
 many_lists b (Lists lists) begin = begin.count
 
@@ -48,14 +49,15 @@ opens_by b lists design rounds few begin =
     }
 
 pub course_opens : (b : BusValue) (lists : List ClockState) → b ≡ opening_bus b.run b.codes b.meeting
-    → IsDesign b.run.design → (1 ≤ b.run.rounds) × (b.run.rounds ≤ ROUNDS) → HaveFreshClocks b.run (clocks_of b.meeting lists)
+    → IsDesign b.run.design → (1 ≤ b.run.rounds) × (b.run.rounds ≤ ROUNDS)
+    → HaveFreshClocks b.run (clocks_of b.meeting lists)
     → IsCourse (course_of b lists (replicate (length b.run.design.components) note.Open))
 course_opens b lists fresh design rounds begin =
     let count = length b.run.design.components in
     subst (λ (v : BusValue). IsCourse (course_of v lists (replicate count note.Open))) (sym fresh)
     (opens_by b lists design rounds.0 rounds.1 begin)
 
--- ---- the lists that are handed in
+-- ---- the lists at the opening
 -- the first of them are fresh, and none of their readings falls
 abbrev pub AreUnpicked : List ClockState → ℕ → List ClockState → Type 0
 AreUnpicked lists count fresh =
@@ -115,7 +117,7 @@ begins_by b (Lists lists) false is are order = (
   ap Some (same_readings lists),
 )
 
--- the clocks begin, and have the readings of those that are handed in
+-- the clocks begin, with the readings of the given lists
 pub record Begins (b : BusValue) (clocks : Clocks) (lists : List ClockState) : Type 0 where
   pub begin : HaveFreshClocks b.run (clocks_of b.meeting lists)
   pub same : lists_in (clocks_of b.meeting lists) ≡ lists_in clocks

@@ -32,7 +32,7 @@ use Rattle.node_threads.specs.proof.SharedCourses.{IsReady}
 use Rattle.node_threads.proofs.NextTargetsAndStarts.{target_fits}
 use Rattle.node_threads.proofs.ChangesUnderLock.{Goes, pick_goes}
 
--- ---- what is next
+-- ---- the next reading
 pub record Comes (plan : Plan) (n : NodeState) (next : Next) : Type 0 where
   pub action_is : upcoming plan n ≡ Some next.action
   pub target_is : next.target ≡ target plan next.action
@@ -55,7 +55,7 @@ aims : (b : BusValue) (node : ℕ) (a : NodeAction) → upcoming (plan_of b.run.
 aims b node a is = let plan = plan_of b.run.design node in let n = node_at b.state node in
     ap (option_map (target plan)) (next_acts plan n n.phase a is)
 
--- a node that the meeting lets go on is ready
+-- a node that the meeting does not hold back is ready
 pub meets_ready : (c : CourseValue) (node : NodeNo) (next : Next) (reading : ℕ) → c.clocks ≡ Meet → IsCourse c
     → IsOpen c node.0 → IsNext c node.0 next → GoesAt c.bus node.0 (Some reading)
     → IsReady c node next.action reading
@@ -149,7 +149,7 @@ reached_head : (left : List ℕ) (goal at : ℕ) → slice_get (remaining_from l
 reached_head [] goal at is = absurd (none-some at is)
 reached_head (r ∷ later) goal at is = head_by r later goal at (nat_lt r goal) refl (reached_head later goal at) is
 
--- what a pick leaves, and what it shows
+-- the lists after a pick, and the reading it shows
 pub record Picked (old new : CourseValue) (node : NodeNo) (next : Next) {E : Type 0}
     (result : Result ℕ E) : Type 0 where
   pub goes : Goes old new
@@ -157,7 +157,7 @@ pub record Picked (old new : CourseValue) (node : NodeNo) (next : Next) {E : Typ
   pub ok : IfOk result (IsReady new node next.action)
   pub err : OnErr result (EndsAt new.bus new.clocks node.0 next.target)
 
--- what the call of a node's list says
+-- the answer of the call of a node's list
 pub record Waited (old new : ClockState) (goal : ℕ) {E : Type 0} (result : Result ℕ E) : Type 0 where
   pub pick : IfOk result (λ reading. slice_get new.left 0 ≡ Some reading)
   pub range : IfOk result (λ reading. reading ≤ READING)
@@ -224,7 +224,8 @@ lists_picked bus lists notes node next new (Err e) apart course is_open is waite
     let clock = clock_at lists node.0 in
     let come = comes (course_of bus lists notes) node.0 next is in
     let below = waited.ended.0 refl in
-    let none : remaining_from clock.left (target plan next.action) ≡ [] = ap (remaining_from clock.left) (sym come.target_is)
+    let none : remaining_from clock.left (target plan next.action) ≡ [] =
+    ap (remaining_from clock.left) (sym come.target_is)
     ∙ reached_none clock.left next.target below in
     let same : slice_set lists node.0 new ≡ lists = ap (λ (k : ClockState). slice_set lists node.0 k) waited.same
     ∙ set-get_or lists node.0 no_clock in
@@ -252,7 +253,7 @@ pick_keeps bus lists notes v node next new result is course own is_open next_is 
     (lists_picked bus lists notes node next new result apart course (subst (λ w. IsOpen w node.0) (sym is) is_open)
     (subst (λ w. IsNext w node.0 next) (sym is) next_is) waited)
 
--- a node's list stands at its place
+-- the list of a node is at its index
 pub within_lists : (bus : BusValue) (lists : List ClockState) (notes : List NodeNote) (v : CourseValue) (node : ℕ)
     → course_of bus lists notes ≡ v → IsCourse (course_of bus lists notes)
     → ((clocks : List ClockState) × (v.clocks ≡ Lists clocks)) → IsOpen v node → node < length lists
@@ -264,7 +265,7 @@ within_lists bus lists notes v node is course own is_open =
     let most = (subst (λ w. IsOpen w node) (sym is) is_open).within in
     omega (arith, here.lists)
 
--- with what the index gives
+-- with the list that the index gives
 pub pick_by : (bus : BusValue) (lists : List ClockState) (notes : List NodeNote) (v : CourseValue) (node : NodeNo)
     (next : Next) (item new : ClockState) {E : Type 0} (result : Result ℕ E) → course_of bus lists notes ≡ v
     → IsCourse (course_of bus lists notes)

@@ -76,7 +76,7 @@ ends_fit c ends course many each = record {
 }
 
 -- ---- the ends so far
--- they are those that the course shows
+-- they are the ends in the course
 abbrev pub AreEnds : CourseValue → List NodeEnd → ℕ → Type 0
 AreEnds c ends node = (length ends ≡ node) × ((k : ℕ) → k < node → slice_get ends k ≡ end_in c k)
 

@@ -1,4 +1,4 @@
--- For `driven` and `run_threads`: what comes out of a run of a design, and that it opens anew as fresh.
+-- For `driven` and `run_threads`: the outcome of a run of a design, and that it opens anew as fresh.
 use Rattle.std.proofs.Common.{◌≡◌, ◌≢◌, ℕ, ◌≤◌, Bool, true, false, List, length, map, Some, None, slice_get, refl, sym}
 use Rattle.std.proofs.Common.{ap, ◌∙◌, subst, arith}
 use Rattle.std.specs.Prelude.{Result, Ok, Err, IfOk}
@@ -44,7 +44,7 @@ same_stays bus other lists others notes noted v w is there same readings =
     (subst (λ a. Stays a (course_of bus lists notes)) there
     (same_by bus other lists others notes noted same readings))
 
--- ---- what comes out
+-- ---- the outcome
 -- a course whose parts have all ended
 pub outcome_by : (old c : CourseValue) (new : BusValue) (ends : List NodeEnd) → Stays old c → new ≡ c.bus
     → IsRunOf c.bus.run → Runs c.bus.run c.clocks c.bus.journal c.bus.state → EndsFit c.bus c.clocks ends
@@ -65,7 +65,7 @@ pub none_stopped : (b new : BusValue) (clocks : Clocks) (ends : List NodeEnd) �
 none_stopped b new clocks ends is fit node stopped =
     subst (λ (v : BusValue). v.state.stop ≢ None) (sym is) (fit.each node ended.Stopped stopped)
 
--- a course is of the run of a bus and of its lists, and what comes of it is what comes of them
+-- a course belongs to the run of a bus and its lists, and the outcome is the outcome of that run
 outcome_of : (b : BusValue) (clocks : Clocks) (kept c : CourseValue) (new : BusValue) (ends : List NodeEnd)
     → IsOf b clocks kept → Stays kept c → IsOutcome c.bus c.clocks new ends → IsOutcome b clocks new ends
 outcome_of b clocks kept c new ends is stays out = record {
@@ -84,7 +84,7 @@ pub run_outcome : {E : Type 0} (b : BusValue) (clocks : Clocks) (kept c : Course
 run_outcome b clocks kept c (Ok end) is stays out = outcome_of b clocks kept c end.bus end.ends is stays out
 run_outcome b clocks kept c (Err e) is stays out = tt
 
--- ---- the run that is kept
+-- ---- the spare run
 pub fresh_opens : (b f : BusValue) → f ≡ opening_bus b.run b.codes b.meeting → f ≡ opening_bus f.run f.codes f.meeting
 fresh_opens b f is = is ∙ ap (λ (v : BusValue). opening_bus v.run v.codes v.meeting) (sym is)
 
@@ -97,14 +97,14 @@ pub fresh_clocks : (b f : BusValue) (clocks : Clocks) → f ≡ opening_bus b.ru
     → AreClocksOf f clocks
 fresh_clocks b f clocks is are = subst (λ (v : BusValue). AreClocksOf v clocks) (sym is) (opening_clocks b clocks are)
 
--- a course that begins is of the run and of the lists that it begins with
+-- a new course belongs to the run and to the lists that it begins with
 pub opens_of : {E : Type 0} (b : BusValue) (clocks : Clocks) (lists : List ClockState) (result : Result CourseValue E)
     → Begins b clocks lists → IfOk result (λ (c : CourseValue). (c.bus ≡ b) × (c.clocks ≡ clocks_of b.meeting lists))
     → IfOk result (IsOf b clocks)
 opens_of b clocks lists (Ok c) begins ok = (ap (λ (v : BusValue). v.run) ok.0, ap lists_in ok.1 ∙ begins.same)
 opens_of b clocks lists (Err e) begins ok = tt
 
--- the course of the run of a bus before its first event is of that bus
+-- the course of the run of a bus before its first event belongs to that bus
 pub anew_of : {E : Type 0} (b f : BusValue) (clocks : Clocks) (result : Result CourseValue E)
     → f ≡ opening_bus b.run b.codes b.meeting → IfOk result (IsOf f clocks) → IfOk result (IsOf b clocks)
 anew_of b f clocks (Ok c) is ok = (ok.0 ∙ ap (λ (v : BusValue). v.run) is, ok.1)

@@ -27,7 +27,8 @@ use Rattle.pals_base.proofs.behaviour.PortDecl.TheSendSync.{the_field_send as na
 use Rattle.pals_base.proofs.behaviour.VarDecl.TheSendSync.{the_field_send as variable_send}
 use Rattle.pals_base.proofs.behaviour.VarDecl.TheSendSync.{the_field_sync as variable_sync}
 use Rattle.pals_base.proofs.behaviour.StateDecl.TheSendSync.{the_field_send as state_send, the_field_sync as state_sync}
-use Rattle.pals_base.proofs.period_bound_and_releases.Gamma.TheSendSync.{the_field_send as gamma_send, the_field_sync as gamma_sync}
+use Rattle.pals_base.proofs.period_bound_and_releases.Gamma.TheSendSync.{the_field_send as gamma_send}
+use Rattle.pals_base.proofs.period_bound_and_releases.Gamma.TheSendSync.{the_field_sync as gamma_sync}
 use Rattle.pals_base.proofs.frames.Frame.TheSendSync.{the_field_send as frame_send}
 use Rattle.pals_node.proofs.job_memory.Memory.TheSendSync.{the_field_send as memory_send}
 use Rattle.pals_model.proofs.design.Link.TheSendSync.{the_field_send as link_send, the_field_sync as link_sync}
@@ -45,7 +46,8 @@ use Rattle.pals_model.specs.contracts.design.DesignParts.{the_field as design_pa
 use Rattle.pals_model.specs.contracts.design.Design.{the_field as design}
 use Rattle.bus_machine.specs.contracts.plan.Plan.{the_field as plan}
 use Rattle.pals_node.specs.contracts.plan.NodePlan.{the_field as node_plan}
-use Rattle.pals_node.specs.contracts.node_fields_and_events.NodeFields.{the_field as node_fields, the_type as node_fields_type}
+use Rattle.pals_node.specs.contracts.node_fields_and_events.NodeFields.{the_field as node_fields}
+use Rattle.pals_node.specs.contracts.node_fields_and_events.NodeFields.{the_type as node_fields_type}
 use Rattle.pals_node.specs.contracts.node.Node.{the_field as node}
 use Rattle.pals_bus.specs.contracts.node_list.NodeList.{the_field as node_list}
 use Rattle.pals_bus.specs.contracts.node_list.NodeList.TheInside.{the_type as node_list_inside}

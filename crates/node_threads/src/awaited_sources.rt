@@ -23,7 +23,7 @@ impl SharedRun {
     }
 
     /// Whether each source of a node has sent the round before the one that it is to start, or has
-    /// come to its list's end. Where the nodes meet there is no such wait.
+    /// reached the end of its list. Nodes that meet do not wait in this way.
     pub fn is_awaited(&self, node: NodeNo) -> bool
         requires { node.0 < length self.now.bus.run.design.components }
         ensures { IsTrue result → IsAwaitedIn self.now node.0 }
@@ -49,7 +49,7 @@ impl SharedRun {
         link.target.0 != node.0 || self.has_sent(link.source, self.bus.count(node))
     }
 
-    // Whether a node has sent this many rounds, or has come to its list's end.
+    // Whether a node has sent this many rounds, or has reached the end of its list.
     fn has_sent(&self, node: NodeNo, rounds: u32) -> bool
         requires { node.0 < length self.now.bus.run.design.components }
         ensures { IsTrue result → HasSent self.now.bus self.now.clocks node.0 rounds }

@@ -17,7 +17,7 @@ use std::alloc::Global;
 pub enum ClockAnswer {
     /// It shows this reading, in nanoseconds.
     At(Nanos),
-    /// Another node has to go on first.
+    /// Another node has to act first.
     Wait,
     /// It has no reading for the target.
     Ended,
@@ -40,7 +40,7 @@ impl SharedRun {
         }
     }
 
-    // Where the nodes meet.
+    // If the nodes meet.
     fn meet(&self, node: NodeNo, next: Next) -> ClockAnswer
         requires meeting { self.now.bus.meeting ≡ true }
         requires is_open { IsOpen self.now node.0 }
@@ -68,7 +68,7 @@ impl SharedRun {
     }
 }
 
-/// The lists of clocks that are handed in, of which nothing is picked; none where the nodes meet.
+/// The given lists of clocks, of which nothing is picked; `None` if the nodes meet.
 pub fn fresh_lists(alloc: Global, clocks: &Clocks) -> Result<ItemList<ListClock>, NoMemory>
     ensures lists { IfOk result (λ lists. lists ≡ fresh_of clocks.now) }
     ensures order { IfOk result (All (λ clock. IsNonDecreasing clock.readings)) }
@@ -98,7 +98,7 @@ fn unpicked_list(alloc: Global, list: &ListClock) -> Result<ListClock, NoMemory>
     Ok(ListClock::new(readings))
 }
 
-/// Whether two lists of clocks have equal readings, wherever they stand.
+/// Whether two lists of clocks have equal readings, whatever was picked of them.
 pub fn same_lists(left: &[ListClock], right: &[ListClock]) -> bool
     ensures { IsTrue result → map (λ c. c.readings) left.now ≡ map (λ c. c.readings) right.now }
 {

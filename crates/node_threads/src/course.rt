@@ -1,4 +1,4 @@
-//! The course of a run: the bus, the lists of its nodes' clocks, and what is noted of each node.
+//! The course of a run: the bus, the lists of its nodes' clocks, and a record of each node.
 ghost use Rattle.std.specs.Prelude.{◌≡◌, ◌<◌, ◌≤◌, length, false, None, IsTrue, IfOk};
 ghost use Rattle.pals_base.specs.declared.limits.TheConstants.{COMPONENTS};
 ghost use Rattle.bus_machine.specs.proof.AgreementLaws.{IsRunOf};
@@ -19,13 +19,13 @@ use pals_runs::Phase;
 use std::alloc::Global;
 use std::marker::Model;
 
-/// What the nodes share under the lock. Contracts see the bus, the clocks of its nodes and what is noted
-/// of each node. Its journal is always that of a run whose nodes keep to their clocks, so whatever holds
+/// The state that the nodes share under the lock. Contracts see the bus, the clocks of its nodes and the
+/// record of each node. Its journal is always that of a run whose nodes follow their clocks, so each law
 /// of such runs holds whenever the lock is free.
 #[derive(Drop)]
 pub struct SharedRun {
     pub(crate) bus: Bus,
-    // One list for each node, or none where the nodes meet.
+    // One list for each node, or `None` if the nodes meet.
     pub(crate) lists: ItemList<ListClock>,
     pub(crate) notes: ItemList<NodeNote>,
 }
@@ -45,7 +45,7 @@ impl Model for SharedRun {
 }
 
 impl SharedRun {
-    /// A run before its first event, with lists of which nothing is picked, or with none where the
+    /// A run before its first event, with lists of which nothing is picked, or without lists if the
     /// nodes meet.
     pub fn new(alloc: Global, bus: Bus, lists: ItemList<ListClock>) -> Result<SharedRun, NoMemory>
         requires opening { bus ≡ opening_bus bus.run bus.codes bus.meeting }
@@ -61,8 +61,8 @@ impl SharedRun {
         })
     }
 
-    /// What holds of every course: it is a run whose nodes keep to their clocks, and what is noted of
-    /// them is true.
+    /// The invariant of every course: it is a run whose nodes follow their clocks, and the records of
+    /// them are true.
     pub fn agreement(&self)
         ensures { IsCourse self.now }
     {
@@ -77,7 +77,7 @@ impl SharedRun {
         self.bus.design().components().len() as u32
     }
 
-    /// Whether it is of the same run as another one, with the same lists.
+    /// Whether it belongs to the same run as another one, with the same lists.
     pub fn is_same(&self, other: &SharedRun) -> bool
         ensures { IsTrue result → Stays other.now self.now }
     {
@@ -112,7 +112,7 @@ impl SharedRun {
         Ok(ends)
     }
 
-    /// The bus, whose journal and state are those of a run.
+    /// The bus, with the journal and the state of a run.
     pub fn into_bus(self) -> Bus
         ensures bus { result ≡ self.bus }
         ensures rules { IsRunOf self.bus.run }
@@ -121,7 +121,7 @@ impl SharedRun {
         self.bus
     }
 
-    // How the part of a node ended, or none where it has not.
+    // How the part of a node ended, or `None` if it has not.
     fn end_of(&self, node: NodeNo) -> Option<NodeEnd>
         requires { node.0 < length self.now.bus.run.design.components }
         ensures { result ≡ end_in self.now node.0 }
@@ -137,7 +137,7 @@ impl SharedRun {
         }
     }
 
-    /// Whether a node may go on: its part has not ended, no stop stands, and the run is not closed.
+    /// Whether a node may continue: its part has not ended, there is no stop, and the run is not closed.
     pub fn is_open(&self, node: NodeNo) -> bool
         ensures goes { IsTrue result → IsOpen self.now node.0 }
         ensures over { result ≡ false → IsOpen self.now node.0 → IsDone self.now node.0 }
@@ -148,7 +148,7 @@ impl SharedRun {
             && !matches!(&self.bus.phase(node), Phase::Done)
     }
 
-    /// Whether a stop stands, or the run is closed.
+    /// Whether there is a stop, or the run is closed.
     pub fn is_stopped(&self) -> bool
         ensures ended { IsTrue result → HasEnded self.now.bus }
         ensures goes { result ≡ false → (self.now.bus.state.stop ≡ None) × (self.now.bus.closed ≡ false) }
@@ -170,8 +170,8 @@ impl SharedRun {
         self.bus.design()
     }
 
-    /// The reading, in nanoseconds, from which on a node does what it is doing, or what it does next.
-    /// None where it is done.
+    /// The earliest reading, in nanoseconds, of a node's present or next step. `None` if the node is
+    /// done.
     pub fn target(&self, node: NodeNo) -> Option<Nanos>
         ensures { node.0 < length self.now.bus.run.design.components
             → result ≡ target_of self.now.bus.run self.now.bus.state node.0 }
@@ -190,7 +190,7 @@ impl SharedRun {
     }
 }
 
-// Whether what comes next is a send.
+// Whether the next step is a send.
 fn is_send(next: Option<Next>) -> bool
     ensures { result ≡ is_send next }
 {
@@ -205,7 +205,7 @@ fn is_send(next: Option<Next>) -> bool
     }
 }
 
-// How the part of a node ended of which nothing is noted, or none where it has not.
+// How the part of a node without a recorded end ended, or `None` if it has not.
 fn end_by(phase: Phase, stopped: bool, closed: bool) -> Option<NodeEnd>
     ensures { result ≡ phase_end phase stopped closed }
 {
@@ -220,7 +220,7 @@ fn end_by(phase: Phase, stopped: bool, closed: bool) -> Option<NodeEnd>
     }
 }
 
-// How it ended where no stop stands: only where the run is closed.
+// How it ended without a stop: only if the run is closed.
 fn closed_end(closed: bool) -> Option<NodeEnd>
     ensures { result ≡ closed_end closed }
 {

@@ -1,10 +1,10 @@
-//! The gate, which is told when a job begins and when it has ended, outside the lock.
+//! The gate, which sees the start and the end of each job, outside the lock.
 ghost use Rattle.std.specs.Prelude.{◌≡◌};
 
 use pals_base::NodeNo;
 use pals_node::{Done, Job};
 
-/// Is told of each job, which is one step of a round, outside the lock.
+/// Sees each job, which is one step of a round, outside the lock.
 pub trait Gate {
     /// A node's job is about to run.
     fn enter(&self, node: NodeNo, round: u32);
@@ -23,7 +23,7 @@ impl Gate for NoGate {
     fn leave(&self, _node: NodeNo, _round: u32) {}
 }
 
-/// Does a node's job, outside the lock. The gate is told of it.
+/// Does a node's job between the calls of the gate, outside the lock.
 pub fn done_by<G: Gate>(gate: &G, node: NodeNo, job: Job) -> Done
     ensures { result ≡ job }
 {

@@ -1,5 +1,5 @@
-//! What lies under the lock: the course of the run, and who sleeps until it goes on. A thread that takes
-//! the lock knows of it what the type of the course says, and no more.
+//! The state under the lock: the course of the run, and who sleeps until it advances. A thread that takes
+//! the lock knows only the type invariant of the course.
 ghost use Rattle.std.specs.Prelude.{◌≡◌, ℕ, true, IsTrue};
 ghost use Rattle.run_laws.specs.Runs.{IsLeast};
 ghost use Rattle.node_threads.specs.proof.SharedCourses.{Stays, IsOpen, IsDone};
@@ -20,7 +20,7 @@ pub struct Locked {
 }
 
 impl Locked {
-    /// A course, of which the hour is the least target, and who sleeps.
+    /// A course whose hour is the least target, and who sleeps.
     pub fn new(course: SharedRun, mut sleepers: Sleepers) -> Locked
         ensures course { result.course ≡ course }
         ensures hour { IsLeast course.bus.run course.bus.state result.sleepers.hour }
@@ -37,11 +37,11 @@ impl Locked {
         self.course
     }
 
-    /// The next turn of a node: its job that was done comes in, it sends its round where that comes next, and then it
-    /// goes on up to a job, to a wait, or to its end. The second answer is whom to wake once the lock is free: one
-    /// thread at most, which tells of the next one in its own turn, so that they do not all ask for the lock at once.
-    /// Where a job comes in while others are to be woken, it is nobody: a thread that is on its way to its turn will
-    /// tell of the next one.
+    /// The next turn of a node: its finished job comes in, it sends its round if that is next, and then it
+    /// continues to a job, to a wait, or to its end. The second answer is whom to wake once the lock is free: one
+    /// thread at most, which wakes the next one in its own turn, so that they do not all ask for the lock at once.
+    /// If a job comes in while others have to be woken, it is nobody: a thread that is on its way to its turn will
+    /// wake the next one.
     #[tactic(auto, using(crate::proofs::ChangesUnderLock::stays_on))]
     pub fn turn(&mut self, node: NodeNo, done: Option<Done>) -> (NextMove, Option<Sleeper>)
         ensures { Stays self.old.course self.new.course }
@@ -117,7 +117,7 @@ impl Locked {
         some
     }
 
-    /// Whether no node of the calling thread may go on any more.
+    /// Whether no node of the calling thread can continue.
     pub fn caller_is_over(&self) -> bool
         ensures { IsTrue result
             → (node : ℕ) → IsOpen self.now.course node → (slot_at self.now.sleepers.threads node).of_caller ≡ true
@@ -160,9 +160,9 @@ impl Locked {
         }
     }
 
-    // Where the nodes meet: if a node was the last one at the hour, the hour moves. Nodes that send then
-    // do so here, so that no thread is woken for that alone; if none is left at the hour, it moves once
-    // more. The threads of all nodes that need not wait any more are woken.
+    // If the nodes meet: once the last node has left the hour, the hour moves. Nodes that send then
+    // do so here, so that no thread is woken only to send; if no node is at the hour then, it moves once
+    // more. All threads whose nodes need not wait any more are woken.
     fn move_hour(&mut self, node: NodeNo)
         ensures { Stays self.old.course self.new.course }
     {

@@ -18,7 +18,7 @@ use pals_node::{Done, Job, StartEnd, StepEnd};
 pub enum NextMove {
     /// Runs a job, outside the lock.
     Work(Job),
-    /// Sleeps until others have gone on.
+    /// Sleeps until others have advanced.
     Wait,
     /// Goes on at once: the node has sent its round.
     Again,
@@ -27,8 +27,8 @@ pub enum NextMove {
 }
 
 impl SharedRun {
-    /// A node goes on, where its part has not ended: up to a job, to a wait, or to its end. What comes next it
-    /// does at a reading that its clock shows.
+    /// A node continues, if its part has not ended: to a job, to a wait, or to its end. It takes its next
+    /// step at a reading of its clock.
     #[tactic(auto, using(crate::proofs::ChangesUnderLock::stays_on))]
     pub fn begin(&mut self, node: NodeNo) -> NextMove
         ensures { Stays self.old self.new }
@@ -52,7 +52,7 @@ impl SharedRun {
         }
     }
 
-    /// The job of a node, which is done, is handed in.
+    /// Takes in the finished job of a node.
     pub fn hand_in(&mut self, node: NodeNo, done: Done)
         ensures { Stays self.old self.new }
     {
@@ -62,7 +62,7 @@ impl SharedRun {
         let _ = self.bus.finish(node, done);
     }
 
-    // Where a node's thread came back without its job, the job is run here.
+    // If a node's thread returned without its job, the job is run here.
     fn recover(&mut self, node: NodeNo) -> NextMove
         requires { node.0 < length self.old.bus.run.design.components }
         ensures { Stays self.old self.new }
@@ -82,7 +82,7 @@ impl SharedRun {
         NextMove::Over
     }
 
-    // A node takes what is due to it, and starts its next round.
+    // A node takes the messages that are due, and starts its next round.
     #[tactic(auto, using(crate::proofs::ChangesUnderLock::stays_on))]
     fn start(&mut self, node: NodeNo, reading: Nanos) -> NextMove
         requires is_open { IsOpen self.old node.0 }

@@ -6,7 +6,7 @@ use pals_base::Nanos;
 pub enum NodeEnd {
     /// It has done all its rounds.
     Finished,
-    /// A stop stands.
+    /// There is a stop.
     Stopped,
     /// Its clock's list holds no reading for this target, in nanoseconds, which is its next one.
     ClockEnded { target: Nanos },
@@ -16,7 +16,7 @@ pub enum NodeEnd {
     Memory,
 }
 
-/// What is noted of a node beside the bus.
+/// The record of a node, apart from the bus.
 #[derive(Clone, Copy)]
 pub enum NodeNote {
     /// Nothing.

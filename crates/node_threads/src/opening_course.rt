@@ -10,7 +10,7 @@ use pals_bus::Bus;
 use pals_clock::Clocks;
 use std::alloc::Global;
 
-/// The course of a bus before its first event, twice: one for the threads, and one that is kept.
+/// The course of a bus before its first event, twice: one for the threads, and a spare one.
 pub fn open_with_spare(
     alloc: Global,
     bus: Bus,
@@ -24,7 +24,7 @@ pub fn open_with_spare(
     opened_beside(alloc, bus, &clocks, kept)
 }
 
-// The course of a bus before its first event, beside one of the same run that is kept.
+// The course of a bus before its first event, with a spare one of the same run.
 fn opened_beside(
     alloc: Global,
     bus: Bus,

@@ -14,7 +14,7 @@ use std::alloc::Global;
 use std::mem::swap;
 use std::sync::Wait;
 
-/// What comes of the kept run once all threads have ended, with what came out of the lock.
+/// The outcome of the spare run once all threads have ended, with the course from the lock.
 pub fn end_run<R: Wait, G: Gate>(
     rt: &R,
     alloc: Global,
@@ -27,7 +27,7 @@ pub fn end_run<R: Wait, G: Gate>(
     driven(rt, alloc, held_or_kept(out, kept), gate)
 }
 
-// What came out of the lock where it is of the kept run, and else that run at its opening.
+// The course from the lock if it belongs to the spare run, and else that run at its opening.
 fn held_or_kept(mut out: SharedRun, mut kept: SharedRun) -> SharedRun
     ensures { Stays kept result }
 {
@@ -35,7 +35,7 @@ fn held_or_kept(mut out: SharedRun, mut kept: SharedRun) -> SharedRun
     out
 }
 
-// Puts back the kept run where another one came out.
+// Puts back the spare run if the lock held another one.
 fn restore(out: &mut SharedRun, kept: &mut SharedRun)
     ensures { Stays kept.old out.new }
 {
@@ -45,7 +45,7 @@ fn restore(out: &mut SharedRun, kept: &mut SharedRun)
     swap(out, kept);
 }
 
-// What comes of a course once the parts of all its nodes have ended.
+// The outcome of a course once the parts of all its nodes have ended.
 fn driven<R: Wait, G: Gate>(
     rt: &R,
     alloc: Global,

@@ -1,4 +1,4 @@
-//! Who sleeps until the course of a run goes on.
+//! Who sleeps until the course of a run advances.
 ghost use Rattle.std.specs.Prelude.{◌≡◌, ◌<◌, ◌≤◌, ℕ, length, replicate, IsTrue, IfOk, IfSome, Some, true, false};
 ghost use Rattle.run_laws.specs.Runs.{IsLeast};
 ghost use Rattle.node_threads.specs.proof.SharedCourses.{IsOpen, IsDone};
@@ -23,7 +23,7 @@ pub struct ThreadSlot {
 #[derive(Drop)]
 pub struct Sleepers {
     threads: ItemList<ThreadSlot>,
-    // Where the nodes meet, the least target when it was last looked for, in nanoseconds.
+    // If the nodes meet, the least target at the last search, in nanoseconds.
     hour: Nanos,
     wakes: WakeList,
 }
@@ -79,7 +79,7 @@ impl Sleepers {
         sleeps
     }
 
-    /// Whether no node of the calling thread may go on any more.
+    /// Whether no node of the calling thread can continue.
     pub fn caller_is_over(&self, course: &SharedRun) -> bool
         ensures { IsTrue result → (node : ℕ) → IsOpen course.now node → (slot_at self.now.threads node).of_caller ≡ true
             → IsDone course.now node }
@@ -92,7 +92,7 @@ impl Sleepers {
         true
     }
 
-    // Whether a node is not the calling thread's, or may not go on any more.
+    // Whether a node is not the calling thread's, or can't continue.
     fn is_over(&self, course: &SharedRun, node: NodeNo) -> bool
         ensures { IsTrue result → IsOpen course.now node.0 → (slot_at self.now.threads node.0).of_caller ≡ true
             → IsDone course.now node.0 }
@@ -154,7 +154,7 @@ impl Sleepers {
         course.is_open(node) && course.waits_for_source(node)
     }
 
-    /// Where the nodes meet: whether a node that goes on has a target that the hour has not reached.
+    /// If the nodes meet: whether a node that continues has a target that the hour has not reached.
     pub fn is_early(&self, course: &SharedRun, node: NodeNo) -> bool
         ensures { IsTrue result → Waits course.now self.now.hour node.0 }
     {
@@ -180,7 +180,7 @@ impl Sleepers {
         );
     }
 
-    /// The part of a node has ended. At a stop or a close all threads are woken that sleep, and else those
+    /// The part of a node has ended. At a stop or a close all sleeping threads are woken, and else the ones
     /// that waited for this node.
     pub fn wake_behind(&mut self, course: &SharedRun, node: NodeNo)
         ensures { Rouses self.old self.new }
@@ -216,7 +216,7 @@ impl Sleepers {
         }
     }
 
-    /// Where the nodes meet: whether a node has left the hour, and was the last one at it.
+    /// If the nodes meet: whether a node has left the hour, and was the last one at it.
     pub fn is_hour_over(&self, course: &SharedRun, node: NodeNo) -> bool
         ensures { IsTrue result → IsHourOver course.now self.now.hour }
     {

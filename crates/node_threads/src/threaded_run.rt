@@ -24,8 +24,8 @@ use std::alloc::Global;
 use std::sync::{Mutex, Wait};
 use std::thread::Threads;
 
-/// A bus that comes out of a run, and how the part of each node ended, in the order of the nodes. A part was stopped
-/// only where a stop stands.
+/// The bus after a run, and how the part of each node ended, in the order of the nodes. A part was stopped
+/// only if there is a stop.
 #[derive(Drop)]
 pub struct RunEnd {
     pub bus: Bus,
@@ -35,8 +35,8 @@ pub struct RunEnd {
 }
 
 /// Runs a bus from its opening to its end, with a thread for each node that the starter admits and
-/// that can be started; the calling thread has the others, in turns. The clocks are those of a meeting
-/// where the nodes of the bus meet, and else a list for each node; what was picked of a list does not
+/// that can be started; the calling thread has the others, in turns. The clocks are a meeting if the
+/// nodes of the bus meet, and else a list for each node; earlier picks of a list do not
 /// count. It may wait for a lock, and for the threads to end.
 pub fn run_threads<R: Threads + Wait + Sync, W: Starter, G: Gate + Sync>(
     host: Host<'_, R, W, G>,

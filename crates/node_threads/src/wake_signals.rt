@@ -1,5 +1,5 @@
-//! What waiting threads sleep on: one `Condvar` for each node, and one for the calling thread. Who sleeps
-//! and who is woken is seen by other threads alone, so no clause speaks of it.
+//! The bells of sleeping threads: one `Condvar` for each node, and one for the calling thread. Only
+//! other threads see who sleeps and who is woken, so no clause speaks of it.
 ghost use Rattle.std.specs.Prelude.{◌≡◌, IfOk, vec_len};
 
 use crate::locked_state::Locked;

@@ -1,5 +1,5 @@
-//! What threads do to the course under the lock: each has one node, and the calling thread has the nodes
-//! that have no thread. Only the type of a course tells what comes out, so there are no clauses here.
+//! The work of threads on the course under the lock: each has one node, and the calling thread has the nodes
+//! that have no thread. Only the type of a course pins the result, so there are no clauses here.
 use crate::job_gate::{Gate, done_by};
 use crate::locked_state::Locked;
 use crate::moves_under_lock::NextMove;
@@ -40,7 +40,7 @@ pub fn work_all<R: Threads + Wait + Sync, W: Starter, G: Gate + Sync>(
     });
 }
 
-// The part of a node, in a thread of its own: turns under the lock, and jobs outside it. Where a turn waits, the
+// The part of a node, in a thread of its own: turns under the lock, and jobs outside it. If a turn waits, the
 // thread sleeps under the same lock, and takes the next one as soon as it is woken.
 fn work<R: Wait, G: Gate>(
     rt: &R,

@@ -1,4 +1,4 @@
--- How the parts of a run's nodes end, and what comes out of a run.
+-- How the parts of a run's nodes end, and the outcome of a run.
 use Rattle.std.specs.Prelude.{◌≡◌, ◌≢◌, ℕ, ◌<◌, Bool, true, false, is_some, List, length, Option, Some, None, slice_get}
 use Rattle.pals_clock.specs.declared.clock.Clocks.{Clocks}
 use Rattle.pals_runs.specs.declared.phase.Phase.{Phase}
@@ -14,7 +14,7 @@ use Rattle.node_threads.specs.declared.node_end.NodeEnd.TheVariants as end
 use Rattle.node_threads.specs.declared.node_end.NodeNote.TheVariants as note
 
 -- ---- the ends of a run
--- what the end of a node's part says of the bus and of the clocks
+-- what the end of a node's part implies for the bus and the clocks
 abbrev pub EndFits : BusValue → Clocks → ℕ → NodeEnd → Type 0
 EndFits b clocks node end.Finished = (node_at b.state node).phase ≡ Done
 EndFits b clocks node end.Stopped = b.state.stop ≢ None
@@ -22,14 +22,14 @@ EndFits b clocks node (end.ClockEnded goal) = EndsAt b clocks node goal
 EndFits b clocks node end.Closed = b.closed ≡ true
 EndFits b clocks node end.Memory = Unit {0}
 
--- one end for each node, which fits; where one was closed, another found no memory
+-- one end for each node, which fits; if one was closed, another found no memory
 pub record EndsFit (b : BusValue) (clocks : Clocks) (ends : List NodeEnd) : Type 0 where
   pub many : length ends ≡ length b.run.design.components
   pub each : (node : ℕ) (e : NodeEnd) → slice_get ends node ≡ Some e → EndFits b clocks node e
   pub closed : (node : ℕ) → slice_get ends node ≡ Some end.Closed
       → (other : ℕ) × (slice_get ends other ≡ Some end.Memory)
 
--- what comes out of a run: the run is the one that went in; the clocks have come to some place in the same lists; the
+-- the outcome of a run: the run is the given one; the clocks have reached some place in the same lists; the
 -- bus is where the events of a run that keeps to them lead; and the ends fit
 pub record IsOutcome (old : BusValue) (clocks : Clocks) (new : BusValue) (ends : List NodeEnd) : Type 0 where
   pub run : new.run ≡ old.run

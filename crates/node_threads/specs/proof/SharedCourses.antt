@@ -1,5 +1,5 @@
--- What the nodes share under the lock: a bus with the clocks of its nodes, which are a run, and what is noted of each
--- node.
+-- The state that the nodes share under the lock: a bus with the clocks of its nodes, which are a run, and a record of
+-- each node.
 use Rattle.std.specs.Prelude.{◌≡◌, ◌⊎◌, ℕ, ◌<◌, ◌≤◌, Bool, true, false, List, [], length, map, Option, Some, None}
 use Rattle.std.specs.Prelude.{slice_index_or}
 use Rattle.pals_base.specs.declared.limits.TheConstants.{READING, ROUNDS}
@@ -39,7 +39,7 @@ clocks_of false lists = Lists lists
 abbrev pub course_of : BusValue → List ClockState → List NodeNote → CourseValue
 course_of bus lists notes = record { bus = bus; clocks = clocks_of bus.meeting lists; notes = notes }
 
--- what is noted of a node
+-- the record of a node
 abbrev pub note_at : List NodeNote → ℕ → NodeNote
 note_at notes node = slice_index_or notes node note.Open
 
@@ -49,8 +49,8 @@ EndsAt b Meet node goal = ⊥
 EndsAt b (Lists lists) node goal =
     (ended : HasEnded b.run lists b.state node) × (target (plan_of b.run.design node) ended.0 ≡ goal)
 
--- ---- what holds whenever the lock is free
--- one list for each node, where they don't meet
+-- ---- the invariant of the lock
+-- one list for each node, if they don't meet
 abbrev pub AreMany : ℕ → Clocks → Type 0
 AreMany count Meet = Unit {0}
 AreMany count (Lists lists) = length lists ≡ count
@@ -61,7 +61,7 @@ pub record IsCourse (c : CourseValue) : Type 0 where
   pub runs : Runs c.bus.run c.clocks c.bus.journal c.bus.state
   pub lists : AreMany (length c.bus.run.design.components) c.clocks
   pub notes : length c.notes ≡ length c.bus.run.design.components
-  -- it is noted of a node that its list has ended only where it has
+  -- the record of a node says that its list has ended only if it has
   pub ended : (node goal : ℕ) → note_at c.notes node ≡ note.ClockEnded goal → EndsAt c.bus c.clocks node goal
   -- a run is closed only where some node found no memory
   pub closed : c.bus.closed ≡ true → (node : ℕ) × (note_at c.notes node ≡ note.Memory)
@@ -76,7 +76,7 @@ pub record Stays (old new : CourseValue) : Type 0 where
   pub run : new.bus.run ≡ old.bus.run
   pub lists : lists_in new.clocks ≡ lists_in old.clocks
 
--- a node whose part goes on
+-- a node whose part continues
 pub record IsOpen (c : CourseValue) (node : ℕ) : Type 0 where
   pub within : node < length c.bus.run.design.components
   pub noted : note_at c.notes node ≡ note.Open
@@ -87,7 +87,7 @@ pub record IsOpen (c : CourseValue) (node : ℕ) : Type 0 where
 abbrev pub IsDone : CourseValue → ℕ → Type 0
 IsDone c node = (node_at c.bus.state node).phase ≡ Done
 
--- what a node does next, and from when on; none where its job is out, or it is done
+-- the next step of a node, and its earliest reading; nothing if its job is out, or if it is done
 abbrev pub next_in : CourseValue → ℕ → Option Next
 next_in c node = next_of (plan_of c.bus.run.design node) (node_at c.bus.state node)
 
@@ -100,7 +100,7 @@ sends (action.Start round) = false
 sends (action.Step round step) = false
 sends (action.Send round) = true
 
--- whether what comes next is a send
+-- whether the next step is a send
 abbrev pub is_send : Option Next → Bool
 is_send None = false
 is_send (Some next) = sends next.action
@@ -130,7 +130,7 @@ IsToStartIn c node reading = IsToStart c.bus.run c.clocks c.bus.state node readi
 abbrev pub IsAwaitedIn : CourseValue → ℕ → Type 0
 IsAwaitedIn c node = IsAwaited c.bus.run c.clocks c.bus.state node
 
--- an event that keeps to the clocks
+-- an event that follows the clocks
 abbrev pub Allows : CourseValue → BusEvent → Type 0
 Allows c e = KeepsTo c.bus.run c.clocks c.bus.state e
 
@@ -145,8 +145,8 @@ HasSent b (Lists lists) node rounds = (rounds ≤ sent_rounds (node_at b.state n
 abbrev pub IsSentOn : CourseValue → ℕ → Link → Type 0
 IsSentOn c node link = link.target.0 ≡ node → HasSent c.bus c.clocks link.source.0 (node_at c.bus.state node).count
 
--- ---- what is handed in
--- the clocks of a bus: a meeting where its nodes meet, and else a list for each node
+-- ---- the clocks at the opening
+-- the clocks of a bus: a meeting if its nodes meet, and else a list for each node
 abbrev pub AreClocksOf : BusValue → Clocks → Type 0
 AreClocksOf b Meet = b.meeting ≡ true
 AreClocksOf b (Lists lists) = (b.meeting ≡ false) × (length lists ≡ length b.run.design.components)

@@ -1,4 +1,4 @@
--- Who sleeps until the course of a run goes on, and who is to be woken once the lock is free.
+-- Who sleeps until the course of a run advances, and who has to be woken once the lock is free.
 use Rattle.std.specs.Prelude.{◌≡◌, ◌⊎◌, ℕ, ◌<◌, ◌&&◌, Bool, true, false, List, length, replicate, Option, Some, None}
 use Rattle.std.specs.Prelude.{slice_index_or, slice_set}
 use Rattle.pals_base.specs.declared.limits.TheConstants.{COMPONENTS}
@@ -36,8 +36,8 @@ IsAbove run s hour node = (least : ℕ) → target_of run s node ≡ Some least 
 abbrev pub IsHourOver : CourseValue → ℕ → Type 0
 IsHourOver c hour = (node : ℕ) → node < length c.bus.run.design.components → IsAbove c.bus.run c.bus.state hour node
 
--- a node that goes on waits: where nodes meet for the hour of its target, and else for its sources, before it starts
--- a round
+-- a node that can continue waits: if nodes meet, for the hour of its target, and else for its sources, before it
+-- starts a round
 pub record Waits (c : CourseValue) (hour node : ℕ) : Type 0 where
   pub is_open : IsOpen c node
   pub meets : c.bus.meeting ≡ true → IsAbove c.bus.run c.bus.state hour node
@@ -59,7 +59,7 @@ abbrev pub is_to_ring : WakeList → Sleeper → Bool
 is_to_ring w (bell.Node node) = is_rung w node false
 is_to_ring w bell.Caller = is_rung w 0 true
 
--- a bell need not be rung; where there is none, nobody is to be woken
+-- a bell need not be rung; if there is none, nobody has to be woken
 abbrev pub without_bell : WakeList → Option Sleeper → WakeList
 without_bell w None = record w { any = false }
 without_bell w (Some (bell.Node node)) = record w { nodes = slice_set w.nodes node false }
