@@ -5,7 +5,7 @@ import re
 # The sections of docs/crates.md in four groups, each of which has a colour in the picture.
 GROUPS = {
     "programs, analyses and output": ("Programs", "Analyses", "Output"),
-    "nodes and time": ("Threads and traces", "Worlds", "Nodes and the bus", "Step code"),
+    "nodes and time": ("Threads and traces", "Worlds", "Laws of runs", "Nodes and the bus", "Step code"),
     "language and checks": ("From an instance to a design", "From a package to its instance", "Names of a package",
                             "The language"),
     "composition, scenarios and foundations": ("Scenarios", "The composition and its times", "Foundations"),
