@@ -12,13 +12,15 @@ from collections import namedtuple
 from .answers import WATCHED
 from .bundles import DIVIDER, Refused
 from .program import ask_program
+from .proving.copies import check_rows
 from .rows import rounds_in
 
 # What a campaign is of: the program, the root, the design, the scenario without inputs, the ports with their values,
 # the rounds, the seed, and how a scenario is judged: by `watch`, or by the rows of another design, of a command, or of
-# a file, by their rounds. Then the paths of its components, and whether a scenario is false if one of them halts.
-Plan = namedtuple("Plan", "program root design scenario ports rounds seed against expected rows paths strict",
-                  defaults=((), False))
+# a file, by their rounds. Then the paths of its components, whether a scenario is false if one of them halts, and the
+# design of which its design is a copy, or None.
+Plan = namedtuple("Plan", "program root design scenario ports rounds seed against expected rows paths strict original",
+                  defaults=((), False, None))
 # A scenario with a false property: the property, and its first false round.
 Falsified = namedtuple("Falsified", "name round")
 # What is false of a scenario, or None, and the first round in which a component halts, or None.
@@ -96,6 +98,8 @@ def watch(plan, scenario):
     last = WATCHED.fullmatch(text.rstrip("\n").rpartition("\n")[2])
     if status not in (0, 1) or not last:
         raise Refused(f"pals watch {plan.root} ended with {status}: {text[:120].strip()}")
+    if plan.original is not None:
+        check_original(plan, scenario)
     if not status:
         return Judged(None, None)
     halted = re.search(rf"(?m)^{name} false$", text)
@@ -104,6 +108,12 @@ def watch(plan, scenario):
         other = re.search(rf"(?m)^(?!{name} )(\w+) false$", text)
         false = Falsified(other[1], round_before(text, other.start())) if other else None
     return Judged(false, round_before(text, halted.start()) if halted else None)
+
+
+def check_original(plan, scenario):
+    """Shows that the copy of the design has the rows of the design in a scenario."""
+    plain = json.dumps({name: value for name, value in scenario.items() if name != "properties"}).encode()
+    check_rows(*(sync_text(plan.program, ["sync", plan.root], joined(it, plain)) for it in (plan.original, plan.design)))
 
 
 def none_halted(paths):
@@ -142,10 +152,15 @@ def compare(plan, scenario):
 
 def rows_by(program, words, bundle):
     """The lines of each round of a program's output for a bundle."""
+    return rounds_in(sync_text(program, words, bundle))
+
+
+def sync_text(program, words, bundle):
+    """A program's output for a bundle, which it has to accept."""
     status, text = ask_program(program, words, bundle)
     if status:
         raise Refused(f"{' '.join([program, *words])} ended with {status}: {text[:120].strip()}")
-    return rounds_in(text)
+    return text
 
 
 def first_false(differ):

@@ -63,6 +63,11 @@ class Cursor:
         """The place of the token here."""
         return self.tokens[self.at].offset
 
+    def end(self):
+        """The end of the last token that was taken."""
+        token = self.tokens[self.at - 1]
+        return token.offset + len(token.text)
+
     def since(self, start):
         """The tokens from one on, as one word."""
         found = self.tokens[start : self.at]

@@ -8,7 +8,7 @@ import subprocess
 
 from .bundles import Refused
 from .c_step import c_name, step_header, step_source
-from .campaign import joined
+from .campaign import check_original, joined
 from .fast_c import Program, inputs_of
 from .page import TOP
 from .program import ask_program
@@ -103,6 +103,8 @@ class Fast:
             raise Refused(f"pals sync ended with {status}: {text[:120].strip()}")
         if text != rows:
             raise Wrong(f"scenario {number} has other rows by pals sync than by the compiled code")
+        if self.plan.original is not None:
+            check_original(self.plan, scenario)
 
 
 def sample(first, end, count):

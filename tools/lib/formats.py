@@ -62,8 +62,19 @@ def result_of(remark, rules):
     """A remark as a result of SARIF."""
     place = {"artifactLocation": {"uri": quote(remark.path)},
              "region": {"startLine": remark.line, "startColumn": remark.letter}}
-    return {"ruleId": remark.rule, "ruleIndex": rules.index(remark.rule), "level": remark.level,
-            "message": {"text": "\n".join([remark.what, *remark.more])}, "locations": [{"physicalLocation": place}]}
+    result = {"ruleId": remark.rule, "ruleIndex": rules.index(remark.rule), "level": remark.level,
+              "message": {"text": "\n".join([remark.what, *remark.more])}, "locations": [{"physicalLocation": place}]}
+    return {**result, "fixes": [fix_of(remark)]} if remark.fix else result
+
+
+def fix_of(remark):
+    """The fix of a remark. A replacement whose region is empty is an insertion."""
+    title, replacements = remark.fix
+    changes = [{"deletedRegion": {"startLine": it.line, "startColumn": it.letter, "endLine": it.line,
+                                  "endColumn": it.end},
+                "insertedContent": {"text": it.text}} for it in replacements]
+    return {"description": {"text": title},
+            "artifactChanges": [{"artifactLocation": {"uri": quote(remark.path)}, "replacements": changes}]}
 
 
 def case_of(name, owner, failure="", more=""):

@@ -150,6 +150,7 @@ class Grammar(Declarations):
         """An expression with its logical operators."""
         offset, reads, chains, words = self.offset(), [], [], []
         root = self.relation(reads, chains)
+        ends = [self.end()]
         while self.sees(*LOGICAL):
             at, word = self.offset(), word_of(self.next()).lower()
             second = {"and": "then", "or": "else"}.get(word)
@@ -157,7 +158,8 @@ class Grammar(Declarations):
                 word = f"{word} {second}"
             words.append(word)
             root = tree.Binary(word, at, root, self.relation(reads, chains))
-        return tree.Expr(reads, [tree.Chain(words, offset)] + chains if words else chains, offset, root)
+            ends.append(self.end())
+        return tree.Expr(reads, [tree.Chain(words, offset, ends)] + chains if words else chains, offset, root)
 
     def relation(self, reads, chains):
         """A comparison, or only a sum."""

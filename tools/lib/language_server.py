@@ -5,11 +5,12 @@ import subprocess
 
 from .bundles import Bundle, Refused
 from .edited import SYMBOLS, Edited
+from .found import Edit, Fix
 from .lint import lint
 from .name_faults import name_faults
 from .names import choice
 from .program import program_at
-from .properties import PLACES, likely
+from .properties import PLACES
 from .show import visible
 from .text_faults import tell
 from .tokens import word_of
@@ -139,9 +140,9 @@ class Server:
     def on_codeaction(self, params):
         """The fixes of the diagnostics in a range."""
         uri = params["textDocument"]["uri"]
-        found = [it for it in params.get("context", {}).get("diagnostics", []) if (it.get("data") or {}).get("text")]
-        return [{"title": f"replace by {it['data']['text']}", "kind": "quickfix", "diagnostics": [it],
-                 "edit": {"changes": {uri: [{"range": it["range"], "newText": it["data"]["text"]}]}}} for it in found]
+        found = [it for it in params.get("context", {}).get("diagnostics", []) if (it.get("data") or {}).get("edits")]
+        return [{"title": it["data"]["title"], "kind": "quickfix", "diagnostics": [it],
+                 "edit": {"changes": {uri: it["data"]["edits"]}}} for it in found]
 
     def on_formatting(self, params):
         """The canonical text, by the program; a text with comments is not changed, since they would be lost."""
@@ -158,11 +159,14 @@ def named(edited, name):
     return edited.range(name.offset, len(name.text.encode()))
 
 
-def diagnostic(edited, place, severity, code, words, fix=""):
+def diagnostic(edited, place, severity, code, words, fix=None):
     """One diagnostic: its place is a byte and a number of bytes."""
     found = {"range": edited.range(*place), "severity": severity, "source": "pals", "code": code,
              "message": visible_lines(words)}
-    return {**found, "data": {"text": fix}} if fix else found
+    if fix is None or any(not edited.data.startswith(it.old.encode(), it.offset) for it in fix.edits):
+        return found
+    edits = [{"range": edited.range(it.offset, len(it.old.encode())), "newText": it.new} for it in fix.edits]
+    return {**found, "data": {"title": fix.title, "edits": edits}}
 
 
 def visible_lines(words):
@@ -176,16 +180,16 @@ def diagnostics(edited):
     for at, (token, wanted) in enumerate(edited.faults):
         words = syntax_words(edited, at, token, wanted)
         found.append(diagnostic(edited, (token.offset, len(token.text)), ERROR, "Syntax", words))
-    for name, words, fix in name_faults(edited):
-        more = f"{fix} is likely meant" if fix else ""
+    for name, words, likely in name_faults(edited):
+        more = f"{likely} is likely meant" if likely else ""
+        fix = Fix(f"replace {name.text} by {likely}", [Edit(name.offset, name.text, likely)]) if likely else None
         found.append(diagnostic(edited, (name.offset, len(name.text.encode())), ERROR, "name", [words, more], fix))
     if found or len(edited.data) > MOST_LINTED:
         return found
     model = edited.model()
     for it in lint(model) if model else []:
-        fix = likely(it.about) or "" if it.rule == "misspelt-property" else ""
-        length = len(it.about.encode()) if fix else 1
-        found.append(diagnostic(edited, (it.offset, length), WARNING, it.rule, [it.what, *it.more], fix))
+        length = len(it.about.encode()) if it.rule == "misspelt-property" else 1
+        found.append(diagnostic(edited, (it.offset, length), WARNING, it.rule, [it.what, *it.more], it.fix))
     return found
 
 

@@ -3,7 +3,7 @@
 import json
 
 from . import lint_behaviours, lint_outputs, lint_timing, lint_values
-from .found import Found
+from .found import Edit, Fix, Found
 from .properties import ignored
 
 # Each rule, and its finding.
@@ -44,7 +44,8 @@ def properties(model):
     roots = [level for level in (model.root, model.declared.type_of(model.root)) if level]
     for prop in ignored(model.declared.package, roots):
         rule = "misspelt-property" if prop.misspelt else "ignored-property"
-        yield Found(rule, prop.name, prop.offset, prop.why, "see docs/language.md, Properties")
+        fix = Fix(f"replace {prop.name} by {prop.fix}", [Edit(prop.offset, prop.name, prop.fix)]) if prop.fix else None
+        yield Found(rule, prop.name, prop.offset, prop.why, "see docs/language.md, Properties", fix=fix)
 
 
 def watched(scenario):

@@ -1,7 +1,7 @@
 """Likely mistakes in behaviours: names never read or set, states never reached, transitions never taken, and mixed
 operators without brackets."""
 
-from .found import Found
+from .found import Edit, Fix, Found
 from .model import ports_of
 from .tree import Assign, For, Send, acts_in, behaviour_of, exprs_in
 
@@ -121,7 +121,18 @@ def operators(behaviour):
                     yield Found("mixed-operators", chain.words[0], chain.offset,
                                 f"`{plain}` is read from the left, as `{read}`: all logical operators have one "
                                 f"precedence",
-                                "add parentheses")
+                                "add parentheses", fix=parentheses(chain))
+
+
+def parentheses(chain):
+    """The parentheses that state how a chain is read: a pair before each operator of another kind. None if they would
+    be too many to read."""
+    kinds = [FAMILIES[word] for word in chain.words]
+    closed = [end for end, kind, following in zip(chain.ends[1:], kinds, kinds[1:]) if kind != following]
+    if len(closed) > MOST_SHOWN:
+        return None
+    opening = Edit(chain.offset, "", "(" * len(closed))
+    return Fix("add the parentheses that keep the meaning", [opening, *(Edit(end, "", ")") for end in closed)])
 
 
 def patterns(words):

@@ -17,8 +17,9 @@ PLACES = {
     "Data_Model::Initial_Value": "variables of a behaviour",
 }
 BOUNDS = {f"pals_profile::{name}" for name in ("skew", "execution", "network")}
-# A property that means nothing: its name, its place, why, and whether another name was likely meant.
-Ignored = namedtuple("Ignored", "name offset why misspelt")
+# A property that means nothing: its name, its place, why, whether another name was likely meant, and that name if the
+# property means something and is the only one with it.
+Ignored = namedtuple("Ignored", "name offset why misspelt fix")
 
 
 def lists_of(package, roots=()):
@@ -55,10 +56,18 @@ def ignored(package, roots):
     for props, known in lists_of(package, roots):
         for prop in props:
             if prop.applies or prop.name.text.lower() not in known:
-                meant = likely(prop.name.text) is not None
-                found.append(Ignored(prop.name.text, prop.name.offset, why_ignored(prop.name.text, prop.applies),
-                                     meant))
+                name = prop.name.text
+                found.append(Ignored(name, prop.name.offset, why_ignored(name, prop.applies), likely(name) is not None,
+                                     fix_of(prop, props, known)))
     return sorted(found, key=lambda it: (not it.misspelt, it.offset))
+
+
+def fix_of(prop, props, known):
+    """The likely intended name of a property in its list, or None: it must have a meaning there, and be new."""
+    intended = likely(prop.name.text)
+    others = [likely(it.name.text) or it.name.text for it in props if it is not prop]
+    fits = intended and not prop.applies and intended.lower() in known
+    return intended if fits and intended.lower() not in [it.lower() for it in others] else None
 
 
 def associations(design):

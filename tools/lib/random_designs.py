@@ -66,16 +66,20 @@ class DesignMaker:
         ins, outs = self.ports("i", 3), self.ports("o", 2)
         return Component(f"t{number}", self.random.choice(self.rates), BehaviourMaker(self.random, ins, outs).made())
 
+    def adaptor(self, source, target, kind):
+        """An adaptor between two rates, or None."""
+        return adaptor_of(self.random, source, target, kind)
+
     def connect(self, components, component, port, kind, links, inputs):
         """Lets something come into an in port."""
         sources = [(it, out) for it in components for out, of in it.behaviour.outs if of == kind]
         chance = self.random.random()
         if sources and chance < 0.8:
             source, out = self.random.choice(sources)
-            adaptor = adaptor_of(self.random, source.rate, component.rate, kind)
+            adaptor = self.adaptor(source.rate, component.rate, kind)
             links.append((source.name, out, component.name, port, adaptor))
         elif chance < 0.95:
-            adaptor = adaptor_of(self.random, 1, component.rate, kind)
+            adaptor = self.adaptor(1, component.rate, kind)
             inputs.append((f"in{len(inputs)}", kind, component.name, port, adaptor))
 
 

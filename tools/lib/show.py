@@ -4,8 +4,11 @@ import contextlib
 import re
 from collections import namedtuple
 
-# One remark: its file, line and column from 1, the column also in letters, its rule and level, and its sentences.
-Remark = namedtuple("Remark", "path line column letter rule level what more")
+# One remark: its file, line and column from 1, the column also in letters, its rule and level, its sentences, and the
+# title and the replacements of its fix, if it has one.
+Remark = namedtuple("Remark", "path line column letter rule level what more fix")
+# A replacement within a line: the line, the first letter and the letter after the last one, both from 1, and the text.
+Replacement = namedtuple("Replacement", "line letter end text")
 # The list that collects remarks instead of writing them, or None.
 COLLECTED = []
 
@@ -31,14 +34,13 @@ def collecting():
         COLLECTED.pop()
 
 
-def show(bundle, place, what, *more, rule="", level="error"):
+def show(bundle, place, what, *more, rule="", level="error", fix=None):
     """Writes one remark."""
     line, column = place
     path, number = bundle.file_and_line(line)
     if COLLECTED:
-        letter = len(bundle.line(line)[: column - 1].decode("utf-8", "replace")) + 1
-        told = [it for it in more if it]
-        COLLECTED[-1].append(Remark(path, number, column, letter, rule, level, what, told))
+        letter, told = letter_at(bundle, line, column), [it for it in more if it]
+        COLLECTED[-1].append(Remark(path, number, column, letter, rule, level, what, told, fix))
         return
     print(visible(f"{path}:{number}:{column}: {what}"))
     text = bundle.line(line)
@@ -52,8 +54,26 @@ def show(bundle, place, what, *more, rule="", level="error"):
             print(visible(f"    {it}"))
 
 
+def letter_at(bundle, line, column):
+    """The number of a column of bytes in letters, both from 1."""
+    return len(bundle.line(line)[: column - 1].decode("utf-8", "replace")) + 1
+
+
+def fix_in(bundle, fix):
+    """The title of a fix and its replacements in the file; None if the text there is written in another way."""
+    found = []
+    for offset, old, new in fix.edits if fix else ():
+        line, column = bundle.place(offset)
+        length = len(old.encode())
+        if bundle.data[offset : offset + length] != old.encode():
+            return None
+        letters = letter_at(bundle, line, column), letter_at(bundle, line, column + length)
+        found.append(Replacement(bundle.file_and_line(line)[1], *letters, new))
+    return (fix.title, found) if found else None
+
+
 def show_found(bundle, found):
     """Writes a finding on an accepted design."""
     what = found.what if COLLECTED else f"{found.what} ({found.rule})"
     show(bundle, bundle.place(found.offset), what, *found.more, rule=found.rule,
-         level="error" if found.rule == "trap" else "warning")
+         level="error" if found.rule == "trap" else "warning", fix=fix_in(bundle, found.fix))

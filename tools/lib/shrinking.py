@@ -1,6 +1,7 @@
 """Reduces a false scenario: fewer rounds and simpler values, while the same property stays false."""
 
 from .campaign import judge
+from .proving.copies import OtherRows
 from .ranges import same
 
 
@@ -40,7 +41,10 @@ class Shrink:
             raise Enough
         self.tries += 1
         cut = {name: values[:rounds] for name, values in inputs.items()}
-        found = judge(self.plan, cut, rounds).false if rounds else None
+        try:
+            found = judge(self.plan, cut, rounds).false if rounds else None
+        except OtherRows:
+            found = None
         taken = found is not None and found.name == self.name
         if taken:
             self.rounds = found.round + 1

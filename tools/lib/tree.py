@@ -34,8 +34,8 @@ Literal = namedtuple("Literal", "value offset")
 # An operator: its word in lower case, its place, and its operands.
 Unary = namedtuple("Unary", "word offset inner")
 Binary = namedtuple("Binary", "word offset left right")
-# The operators of one chain, in order.
-Chain = namedtuple("Chain", "words offset")
+# The operators of one chain, in order, the place of its first operand, and the end of each operand.
+Chain = namedtuple("Chain", "words offset ends")
 
 
 def acts_in(acts):

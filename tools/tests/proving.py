@@ -7,7 +7,8 @@ from lib.listing import read_listing
 from lib.proving.circuit import Circuit, Facts, Query
 from lib.proving.evaluate import Run
 from lib.proving.machine import Machine
-from lib.random_designs import DesignMaker, design_text, scenario
+from lib.random_behaviours import INTEGER, Behaviour, Transition
+from lib.random_designs import RATES, Component, DesignMaker, design_text, scenario
 from lib.rows import Report
 from tests.common import Skipped, Wrong
 from tests.nodes import listing_of, pals
@@ -29,10 +30,34 @@ class Maker(DesignMaker):
             self.rates = (1, 64)
 
 
-def made(seed, rounds):
+class Averager(DesignMaker):
+    """Makes designs of several rates whose links to lower rates take averages of values that some steps send."""
+
+    def __init__(self, chance):
+        super().__init__(chance)
+        self.rates = chance.choice([it for it in RATES if len(it) > 1])
+
+    def component(self, number):
+        """A component that adds numbers up, in states that it enters in turn; it sends the sum in some of them."""
+        turns, sum_of = self.random.randint(2, 5), [("name", "i"), ("number", self.random.randint(1, 9))]
+        transitions = []
+        for at in range(turns):
+            acts = [("set", "v", ("-" if at % 2 else "+", ("name", "v"), self.random.choice(sum_of)))]
+            acts += [("send", "o", ("name", "v"))] if self.random.random() < 0.6 else []
+            transitions.append(Transition(f"s{at}", "dispatch", f"s{(at + 1) % turns}", acts))
+        states = [(it.source, True) for it in transitions]
+        behaviour = Behaviour([("i", INTEGER)], [("o", INTEGER)], [("v", INTEGER, 0)], states, transitions)
+        return Component(f"t{number}", self.random.choice(self.rates), behaviour)
+
+    def adaptor(self, source, target, kind):
+        """An adaptor between two rates, or None."""
+        return "average" if source > target and kind == INTEGER else super().adaptor(source, target, kind)
+
+
+def made(seed, rounds, maker=Maker):
     """The text of a design made at random, and inputs for it."""
     chance = random.Random(f"prove {seed}")
-    design = Maker(chance).made()
+    design = maker(chance).made()
     inputs = scenario(chance, {name: kind for name, kind, *_ in design.inputs}, rounds)["inputs"]
     return design_text(design), inputs
 

@@ -3,6 +3,7 @@
 import json
 import os
 import random
+import re
 import tempfile
 
 from lib import fast_c
@@ -15,7 +16,7 @@ from lib.ranges import values_of
 from tests.common import EXAMPLES, built, expect, tool
 from tests.nodes import MORE, compilers, listing_of
 from tests.proving import made
-from tests.test_formulas import Texts
+from tests.test_formulas import OTHER, OVERFLOW, Texts
 
 ROUNDS, NUMBERS = 9, 12
 KINDS = {"Integer": ("-5..9,null", "0..3,9223372036854775807,null", "-2..2"),
@@ -109,3 +110,13 @@ def test_parts_of_a_campaign():
             expect(tool("campaign", *wrong, *words)[0], 1, f"{wrong}")
         expect(tool("campaign", "--shard", "1/2", *words[1:])[0], 2, "a part without --fast")
     expect(sample(3, 10, 3), [3, 5, 7], "a sample")
+
+
+def test_compiled_campaigns_compare_copies():
+    """A formula that overflows in the copy of the design ends a compiled campaign."""
+    compilers()
+    words = ["--fast", "--count", "4", "--rounds", "20", "--jobs", "1", "--input", "goal=10", "--property", OVERFLOW]
+    programs = ["--program", built(), "--code", built("pals_code")]
+    files = [os.path.join(EXAMPLES, f"turn_controller.{kind}") for kind in ("aadl", "json")]
+    status, text, said = tool("campaign", *words, *programs, *files)
+    expect((status, text, bool(re.fullmatch("campaign" + OTHER, said))), (1, b"", True), said)

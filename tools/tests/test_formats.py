@@ -30,7 +30,64 @@ def checked(text):
         place = it["locations"][0]["physicalLocation"]
         expect(" " in place["artifactLocation"]["uri"], False, "a URI")
         expect(min(place["region"]["startLine"], place["region"]["startColumn"]) >= 1, True, "a place from 1")
+        for fix in it.get("fixes", []):
+            expect(bool(fix["description"]["text"]) and bool(fix["artifactChanges"]), True, "a fix")
+            for change in fix["artifactChanges"]:
+                expect((change["artifactLocation"], bool(change["replacements"])), (place["artifactLocation"], True),
+                       "a change of the file of the place")
     return results
+
+
+def with_fixes(text, results):
+    """A text of short lines with all fixes of some results, the last place of the text first."""
+    lines, edits = text.split("\n"), []
+    for it in (it for result in results for fix in result.get("fixes", []) for change in fix["artifactChanges"]
+               for it in change["replacements"]):
+        region = it["deletedRegion"]
+        expect(region["startLine"], region["endLine"], "a replacement within a line")
+        edits.append((region["startLine"], region["startColumn"], region["endColumn"], it["insertedContent"]["text"]))
+    for line, start, end, new in sorted(edits, reverse=True):
+        old = lines[line - 1]
+        lines[line - 1] = old[: start - 1] + new + old[end - 1 :]
+    return "\n".join(lines)
+
+
+# A condition, and the same one with the parentheses that state how it is read: from the left.
+MIXED = [("a or b and c", "(a or b) and c"),
+         ("not a and b and then c or else d", "(not a and b and then c) or else d"),
+         ("a xor b or\n c and (a or b and c)", "((a xor b) or\n c) and ((a or b) and c)"),
+         ("a or b or (a and b)", None)]
+
+
+def test_fixes_of_mixed_operators():
+    """The fix of mixed operators inserts the parentheses that keep the meaning; lint is then silent."""
+    for given, wanted in MIXED:
+        text = LAW.replace("variables last", "variables a, b, c, d: Base_Types::Boolean; last", 1).replace(
+            "last := total", f"d := {given}; last := total", 1)
+        results = [it for it in checked(on_bundle("lint", text.encode(), "--format", "sarif")[1])
+                   if it["ruleId"] == "mixed-operators"]
+        expect((given in text, bool(results)), (True, wanted is not None), given)
+        fixed = with_fixes(text, results)
+        expect(fixed, text.replace(given, wanted or given), "the text with its fixes")
+        expect("mixed-operators" in on_bundle("lint", fixed.encode())[1], False, fixed)
+
+
+# Properties of a thread, and the same ones without a misspelling; None if there is no fix: the name is there already,
+# or has no meaning at a thread.
+MISSPELT = [('Label => "\u00e4\u00f6"; Dispatch_Protocl => Periodic',
+             'Label => "\u00e4\u00f6"; Dispatch_Protocol => Periodic'),
+            ("Dispatch_Protocol => Periodic; Period => 9 ms; Perriod => 9 ms", None),
+            ("Dispatch_Protocol => Periodic; Tming => Delayed", None)]
+
+
+def test_fixes_of_misspelt_properties():
+    """The fix of a misspelt property is its likely name. Columns count letters."""
+    for given, wanted in MISSPELT:
+        text = LAW.replace("Dispatch_Protocol => Periodic", given, 1)
+        results = [it for it in checked(on_bundle("lint", text.encode(), "--format", "sarif")[1])
+                   if it["ruleId"] == "misspelt-property"]
+        expect(([it.get("fixes", []) != [] for it in results], with_fixes(text, results)),
+               ([wanted is not None], text.replace(given, wanted or given)), given)
 
 
 def test_each_refusal_as_sarif_and_json():

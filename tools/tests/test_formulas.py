@@ -6,7 +6,8 @@ import tempfile
 
 from lib.bundles import Refused
 from lib.listing import read_listing
-from lib.proving.confirm import check_copy, component_rows, reads_ports, truth
+from lib.proving.confirm import check_copy, reads_ports, sync_text, truth
+from lib.proving.copies import component_rows
 from lib.proving.evaluate import Run
 from lib.proving.formula_forms import atoms_in
 from lib.proving.formula_text import read_properties, read_property
@@ -123,7 +124,7 @@ def test_formulas_mean_what_watch_finds():
         expect(status in (0, 1), True, answer)
         found = verdicts_by_terms(opened, properties, inputs, rounds)
         expect(found, Report(answer).verdicts, f"seed {seed}: {properties}\n{text}")
-        rows = component_rows(opened, given)
+        rows = component_rows(sync_text(opened, given))
         for name, form in properties.items():
             if not reads_ports(form):
                 wanted = [row[name] == "true" for row in found]
@@ -147,3 +148,27 @@ def test_watch_takes_texts():
         status, _, said = tool("watch", *words, "--properties", file.name, *files)
         expect((status, "without a delay" in said), (1, True), said)
     expect(paths_in(["compare", "=", ["in", "a.b", "x"], ["number", 2]]), {"a.b"}, "paths")
+
+
+# A formula whose product leaves the 64 bits when a wing reaches 2 degrees, and what the tools then report.
+OVERFLOW = "q: p.l.a * 9223372036854775807 != 3"
+OTHER = r": a formula overflows in the copy of the design: p\.[lrt] has other rows there\n"
+
+
+def test_a_copy_with_other_rows_is_rejected():
+    """If a formula overflows in the copy, tools/watch and tools/campaign report that and print no rows and no scenario;
+    without an overflow they have an answer."""
+    files = [f"{EXAMPLES}/turn_controller.aadl", f"{EXAMPLES}/turn_controller.json"]
+    words = ["--program", built(), "--code", built("pals_code"), "--property", OVERFLOW]
+    many = ["--count", "2", "--rounds", "20", "--jobs", "1", "--input"]
+    for name, more in (("watch", []), ("campaign", [*many, "goal=10"])):
+        status, text, said = tool(name, *words, *more, *files)
+        expect((status, text, bool(re.fullmatch(name + OTHER, said))), (1, b"", True), said)
+    status, text, said = tool("campaign", *words, *many, "goal=0..1", *files)
+    expect((status, text, "none is false" in said), (0, b"", True), said)
+    with tempfile.TemporaryDirectory() as folder:
+        path = f"{folder}/short.json"
+        with open(path, "w", encoding="ascii") as file:
+            file.write('{"rounds": 2, "inputs": {"goal": [1, 1]}}')
+        status, text, said = tool("watch", *words, files[0], path)
+    expect((status, text.decode().splitlines()[-1]), (0, "watch rounds 2 first none"), said)

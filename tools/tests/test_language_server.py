@@ -131,6 +131,10 @@ def test_all_errors_in_one_run():
     expect(found, wanted, "lines of the errors")
     design = LAW.partition("%%%\n")[0]
     expect([(it["code"], it["severity"]) for it in diagnostics(Edited(design))], [("zero-divisor", 2)], "a warning")
+    mixed = design.replace("last := total / count", "last := 1; if (a or b and a) last := 2 end if").replace(
+        "variables last", "variables a, b: Base_Types::Boolean; last")
+    edits = next(it["data"]["edits"] for it in diagnostics(Edited(mixed)) if it["code"] == "mixed-operators")
+    expect([it["newText"] for it in edits], ["(", ")"], "edits of a warning")
     characters = Edited('-- \U0001f600 x\n').position(len('-- \U0001f600'.encode()))
     expect(characters, {"line": 0, "character": 5}, "characters of UTF-16")
 

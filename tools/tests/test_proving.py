@@ -3,13 +3,14 @@
 import random
 
 from lib.listing import read_listing
+from lib.proving.evaluate import Run
 from lib.proving.machine import Machine
-from lib.proving.steps import COMPARISONS
+from lib.proving.steps import COMPARISONS, Step
 from lib.proving.vectors import Graph
 from lib.step_code import BINARY, UNARY
 from tests.common import Wrong, expect, page
 from tests.nodes import MORE, listing_of
-from tests.proving import (first_difference, graph_difference, machine_of, made, run_rows, sync_rows)
+from tests.proving import Averager, first_difference, graph_difference, machine_of, made, run_rows, sync_rows
 from tests.test_code import EDGES
 
 DESIGNS, ROUNDS = (150, 12) if MORE else (30, 8)
@@ -41,6 +42,30 @@ def test_graphs_agree_with_terms():
         expect(graph_difference(machine, inputs, 4), None, f"seed {seed}\n{text}")
         ops |= {node[1] for node in machine.terms.nodes}
     expect({"quot", "mod", "rem", "mul", "overflow_mul"} <= ops, True, f"the operators of the designs: {sorted(ops)}")
+
+
+def partial_averages(machine, inputs, rounds):
+    """How many averages of a run have both a place with a value and a place without one."""
+    averages = [it for it, node in enumerate(machine.terms.nodes) if node[1] == "average"]
+    run, count = Run(machine, inputs, averages), 0
+    for _ in range(rounds):
+        values = run.step()
+        count += sum({bool(values[it]) for it in machine.terms.nodes[term][2::2]} == {True, False} for term in averages)
+    return count
+
+
+def test_averages_with_absent_values_agree_with_sync():
+    """Terms, graphs and `sync` have the same averages, on designs made at random in which some places have no value."""
+    partial = 0
+    for seed in range(60 if MORE else 12):
+        text, inputs = made(seed, ROUNDS, Averager)
+        if '"average"' in text:
+            machine = machine_of(text)
+            wanted = sync_rows(text, inputs, ROUNDS)
+            expect(first_difference(wanted, run_rows(machine, inputs, ROUNDS)), None, f"seed {seed}\n{text}")
+            expect(graph_difference(machine, inputs, 4), None, f"the graph of seed {seed}\n{text}")
+            partial += partial_averages(machine, inputs, ROUNDS)
+    expect(partial > 0, True, f"{partial} averages with an absent value")
 
 
 def operator_inputs():
@@ -92,6 +117,56 @@ class Planted:
 
     def __exit__(self, *_):
         setattr(self.owner, self.name, self.right)
+
+
+# Of each operator an expression with it, and the types of the inputs a and b and of its value.
+INT, BOOL = "Integer", "Boolean"
+EXPRESSIONS = {
+    "Add": ("a + b", INT, INT), "Sub": ("a - b", INT, INT), "Mul": ("a * b", INT, INT), "Quot": ("a / b", INT, INT),
+    "Mod": ("a mod b", INT, INT), "Rem": ("a rem b", INT, INT), "Eq": ("a = b", INT, BOOL), "Ne": ("a != b", INT, BOOL),
+    "Lt": ("a < b", INT, BOOL), "Le": ("a <= b", INT, BOOL), "Gt": ("a > b", INT, BOOL), "Ge": ("a >= b", INT, BOOL),
+    "And": ("a and b", BOOL, BOOL), "Or": ("a or b", BOOL, BOOL), "Xor": ("a xor b", BOOL, BOOL),
+    "Neg": ("-a", INT, INT), "Abs": ("abs a", INT, INT), "Not": ("not a", BOOL, BOOL)}
+
+
+def design_of(expression, given, kind):
+    """The text of a design with one thread, which sends the value of one expression."""
+    ports = (f"features a: in data port Base_Types::{given}; b: in data port Base_Types::{given}; "
+             f"o: out data port Base_Types::{kind};")
+    return "\n".join([
+        "package One public", "with Base_Types, PALS_Profile;", f"thread K {ports}",
+        "properties Dispatch_Protocol => Periodic;", "end K;", "thread implementation K.impl",
+        "annex behavior_specification {**", "states s: initial complete state;",
+        f"transitions s -[on dispatch]-> s {{o!({expression})}};", "**};", "end K.impl;", f"process P {ports} end P;",
+        "process implementation P.impl", "subcomponents t: thread K.impl;",
+        "connections c1: port a -> t.a; c2: port b -> t.b; c3: port t.o -> o;", "end P.impl;",
+        f"system Top {ports} end Top;", "system implementation Top.impl", "subcomponents p: process P.impl;",
+        "connections c1: port a -> p.a; c2: port b -> p.b; c3: port p.o -> o;", "properties Period => 9 ms;",
+        "PALS_Profile::Skew => 1 ms; PALS_Profile::Execution => 0 ms .. 3 ms;",
+        "PALS_Profile::Network => 1 ms .. 4 ms;", "end Top.impl;", "end One;", ""])
+
+
+def one_expression_inputs(kind):
+    """Inputs for one expression."""
+    if kind == INT:
+        return operator_inputs()
+    pairs = [(False, False), (False, True), (True, False), (True, True)]
+    return {"a": [a for a, _ in pairs], "b": [b for _, b in pairs]}, len(pairs)
+
+
+def test_a_wrong_translation_of_an_operator_is_found():
+    """For each operator of a design with one expression, the translation of another operator gives other rows than
+    `sync`, and the right one gives the same."""
+    expect(set(EXPRESSIONS), {*BINARY, *UNARY}, "the operators")
+    for name, (expression, given, kind) in EXPRESSIONS.items():
+        text, (inputs, rounds) = design_of(expression, given, kind), one_expression_inputs(given)
+        wanted, listing = sync_rows(text, inputs, rounds), read_listing(listing_of(text))
+        expect(first_difference(wanted, run_rows(Machine(listing), inputs, rounds)), None, expression)
+        method = "unary" if name in UNARY else "binary"
+        right = vars(Step)[method]
+        with Planted(Step, method, lambda self, place, path, op: right(self, place, path, OTHERS[op])):
+            if first_difference(wanted, run_rows(Machine(listing), inputs, rounds)) is None:
+                raise Wrong(f"the translation of {name} as {OTHERS[name]} is not found")
 
 
 def test_a_wrong_gate_is_found():

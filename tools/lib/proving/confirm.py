@@ -1,7 +1,7 @@
 """Confirms by the proved program that a property is false at the inputs that an engine found."""
 
 from ..bundles import Refused
-from ..rows import Report
+from .copies import check_rows, component_rows
 from .evaluate import expression_value
 from .formula_forms import OPERATORS, atoms_in
 from .observers import observed
@@ -35,7 +35,7 @@ def confirm(opened, name, form, result):
         return by_watch(opened, name, {**given, "properties": forms}, copy, COPY)
     if reads_ports(form):
         return Confirmed(result.rounds, None, given)
-    number = first_false(form, component_rows(opened, given), result.rounds)
+    number = first_false(form, component_rows(sync_text(opened, given)), result.rounds)
     return Confirmed(number, ROWS, given)
 
 
@@ -47,21 +47,18 @@ def by_watch(opened, name, scenario, copy, by):
     return Confirmed(found[1], by, scenario, copy)
 
 
-def component_rows(opened, given, design=None):
-    """For each round the rows of the components: state and values by path."""
+def sync_text(opened, given, design=None):
+    """The output of `sync` for a scenario without properties."""
+    given = {name: value for name, value in given.items() if name != "properties"}
     status, text = opened.ask("sync", given, design)
     if status:
         raise Refused(f"pals sync {opened.root} ended with {status}: {text[:120].strip()}")
-    return [{it.path: (it.state, it.values) for it in row.components} for row in Report(text).rows]
+    return text
 
 
 def check_copy(opened, copy, given):
     """Shows that a copy has the rows of the design, further variables aside."""
-    for one, two in zip(component_rows(opened, given), component_rows(opened, given, copy)):
-        for path, (state, values) in one.items():
-            others = {name: value for name, value in two[path][1].items() if name in values}
-            if (state, values) != (two[path][0], others):
-                raise Refused(f"a formula overflows in the copy of the design: {path} has other rows there")
+    check_rows(sync_text(opened, given), sync_text(opened, given, copy))
 
 
 def reads_ports(form):

@@ -1,9 +1,29 @@
 """Copies of a design with further variables and actions in its behaviours."""
 
+from ..bundles import Refused
+from ..rows import Report
 from ..tokens import tokens_of, word_of
 from ..tree import Assign, Send, acts_in
 
 ENDS = (";", "}", "end", "else", "elsif")
+
+
+class OtherRows(Refused):
+    """A copy that has other rows than the design."""
+
+
+def component_rows(text):
+    """For each round of an output of `sync` the rows of the components: state and values by path."""
+    return [{it.path: (it.state, it.values) for it in row.components} for row in Report(text).rows]
+
+
+def check_rows(text, copied):
+    """Shows that the output of `sync` for a copy has the rows of the design's own, further variables aside."""
+    for one, two in zip(component_rows(text), component_rows(copied)):
+        for path, (state, values) in one.items():
+            others = {name: value for name, value in two[path][1].items() if name in values}
+            if (state, values) != (two[path][0], others):
+                raise OtherRows(f"a formula overflows in the copy of the design: {path} has other rows there")
 
 
 class Copy:
