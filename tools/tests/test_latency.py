@@ -93,9 +93,24 @@ def measured(model, times, shown):
     return ages, reactions
 
 
-def clock(offset, skew):
-    """A clock that is always as far off."""
-    return Clock(offset, 0, skew)
+class TurningClock:
+    """A clock that is ahead by one offset until a time, and by another one after that, as soon as it can be without
+    going back."""
+
+    def __init__(self, before, after, turn):
+        self.before, self.after, self.turn = before, after, turn
+
+    def reading(self, at):
+        """What it reads at a time."""
+        if at <= self.turn:
+            return max(at + self.before, 0)
+        return max(at + self.after, self.turn + self.before, 0)
+
+    def first(self, target):
+        """The first time at which it reads a target or more."""
+        if target <= self.turn + self.before:
+            return target - self.before
+        return max(self.turn + 1, target - self.after)
 
 
 def random_times(chance, model):
@@ -109,17 +124,35 @@ def random_times(chance, model):
 
 
 def end_times(model, sign):
-    """Times that make the age of a chain as large (1) or as small (-1) as it can be."""
-    bounds = model.bounds
+    """Several times that together make age and reaction of a chain as large (1) or as small (-1) as they can be: the
+    first node is ahead and the last one behind, or the other way round. If they are one node, its clock turns."""
+    bounds, threads = model.bounds, model.threads
     ahead = sign * (bounds.skew - 1)
-    clocks = {path: clock(ahead if path == model.threads[0] else -ahead, bounds.skew) for path in model.threads}
     took = bounds.longest if sign > 0 else bounds.shortest
-    return Times(clocks.get, lambda *_: took, lambda *_: bounds.fastest)
+    if len(threads) == 1:
+        clocks = [TurningClock(ahead, -ahead, (number + 1) * model.period - ahead) for number in range(ROUNDS)]
+        return [Times(lambda _, it=it: it, lambda *_: took, lambda *_: bounds.fastest) for it in clocks]
+    clocks = {path: TurningClock(offset, offset, 0) for path, offset in [(it, -ahead) for it in threads[1:]]}
+    clocks[threads[0]] = TurningClock(ahead, ahead, 0)
+    return [Times(clocks.get, lambda *_: took, lambda *_: bounds.fastest)]
+
+
+def found_in(model, several, shown):
+    """All ages and all reactions in several worlds."""
+    found = [measured(model, times, shown) for times in several]
+    return [age for ages, _ in found for age in ages], [it for _, reactions in found for it in reactions]
+
+
+def expect_within(times, found, text):
+    """Stops if an age or a reaction is outside of its bounds."""
+    for (least, most), values, what in zip((times.age, times.reaction), found, ("ages", "reactions")):
+        expect(all(least <= it <= most for it in values), True, f"{times}, {what} {values}\n{text}")
 
 
 def test_latencies_hold_and_are_reached():
-    """No age and no reaction of a world lies outside of its bounds; the bounds are reached but for two nanoseconds."""
-    reached = 0
+    """No age and no reaction of a world lies outside of its bounds; each bound is reached but for two nanoseconds. The
+    adaptors min and max may drop the value that is followed, so their lower bounds need not be reached."""
+    reached = {"one node": 0, "several nodes": 0}
     for seed in range(1000 if MORE else 150):
         chance = random.Random(f"latency {seed}")
         text = design_of(chance)
@@ -130,17 +163,16 @@ def test_latencies_hold_and_are_reached():
         if times is None:
             expect(all(it is None for places in shown for it in places), True, f"nothing gets through\n{text}")
             continue
-        worlds = [random_times(chance, model), end_times(model, 1), end_times(model, -1)]
-        found = [measured(model, it, shown) for it in worlds]
-        for ages, reactions in found:
-            expect(all(times.age[0] <= it <= times.age[1] for it in ages), True, f"{times}, ages {ages}\n{text}")
-            expect(all(times.reaction[0] <= it <= times.reaction[1] for it in reactions), True,
-                   f"{times}, reactions {reactions}\n{text}")
-        if len(chain.components) > 1 and found[0][0] and '"min"' not in text and '"max"' not in text:
-            ends = times.age[1] - max(found[1][0]), min(found[2][0]) - times.age[0]
+        worlds = [[random_times(chance, model)], end_times(model, 1), end_times(model, -1)]
+        anyhow, largest, smallest = (found_in(model, it, shown) for it in worlds)
+        for found in (anyhow, largest, smallest):
+            expect_within(times, found, text)
+        if largest[1] and '"min"' not in text and '"max"' not in text:
+            ends = [most - max(it) for (_, most), it in zip((times.age, times.reaction), largest)]
+            ends += [min(it) - least for (least, _), it in zip((times.age, times.reaction), smallest)]
             expect(all(0 <= it <= 2 for it in ends), True, f"the ends of {times} are reached but for {ends}\n{text}")
-            reached += 1
-    expect(reached > 20, True, f"{reached} designs whose ends were reached")
+            reached["one node" if len(chain.components) == 1 else "several nodes"] += 1
+    expect(all(it > 20 for it in reached.values()), True, f"designs whose ends were reached: {reached}")
 
 
 def test_latency_requirements():
