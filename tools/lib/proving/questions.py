@@ -49,6 +49,8 @@ class Questions:
         self.allowed = machine.allowed(values)
         self.inputs = ranges_of_inputs(machine, values)
         self.facts, self.lemmas = Facts(self.inputs), []
+        # Sentences on ranges and strides that were found and could not be shown in time.
+        self.unshown = []
 
     def all_paths(self):
         """The paths of all components."""
@@ -63,18 +65,22 @@ class Questions:
 
     def find_facts(self, seconds, tell=lambda: None):
         """Guesses ranges and strides of the state and shows that no round leaves them; gives how many there are."""
+        limit = max(PART * seconds, 1)
         guess, strides = Intervals(self.machine, self.inputs, PART * seconds).ranges, strides_of(self.machine)
         ranges = {it: found for it, found in guess.items()
                   if it in self.machine.next and found != (WIDEST if self.terms.sort(it) == "I" else EITHER)}
         exact = {it: aligned(found, strides[it]) if it in strides else found for it, found in ranges.items()}
         tries = [Facts({**self.inputs, **exact}, strides)]
         for facts in tries + [Facts({**self.inputs, **ranges})] * bool(strides):
-            result = first_of([induction(self.circuit(self.facts_query(facts)), max(PART * seconds, 1))], tell)
+            result = first_of([induction(self.circuit(self.facts_query(facts)), limit)], tell)
             if result.verdict == "false":
                 raise Fault("a round leaves a range or a stride that the tool has found")
             if result.verdict == "proved":
                 self.take_facts(facts)
                 return len(ranges) + len(facts.strides)
+            kind = "ranges and strides" if facts.strides else "ranges"
+            self.unshown.append(f"the {kind} of variables were not shown in {limit:.0f} s and are not used; a larger "
+                                "--seconds gives them more")
         return 0
 
     def facts_query(self, facts):
