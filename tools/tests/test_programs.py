@@ -93,6 +93,21 @@ def test_each_tool_helps():
         expect((status, text, b"usage: " in said), (2, b"", True), f"{name} --nothing\n{said.decode()}")
 
 
+def test_options_may_be_anywhere():
+    """Options before and after files, with `=`, and files after `--`; wrong ones are a wrong use, with the reason."""
+    design = "examples/two_counters.aadl"
+    for words, wanted, reason in (
+            ([design, "--root", "Top.impl"], 0, ""), (["--root=Top.impl", design], 0, ""), (["--", design], 0, ""),
+            (["--roo", "Top.impl", design], 2, "unknown option --roo"), ([design, "--root"], 2, "--root"),
+            (["--format", "xml", design], 2, "'xml'"), ([design] * 3, 2, f"unexpected argument {design}"),
+            (["--input", "i=1", design], 2, "--dead"), ([], 2, "expected")):
+        status, _, said = tool("lint", *words)
+        expect((status, reason in said, "usage: tools/lint" in said), (wanted, True, wanted == 2), f"{words} {said}")
+    for words in (["--all", "--count", "5"], ["--rows", "r", "--expect", "p"], ["--fast", "--strict"], ["--jobs", "0"]):
+        status, _, said = tool("campaign", *words, design)
+        expect((status, words[0] in said or words[1] in said), (2, True), f"campaign {words} {said}")
+
+
 def test_outputs_that_take_nothing():
     """A full disk, a closed output, an ASCII output and a reader that leaves end without a traceback of Python."""
     rows = read(os.path.join(EXAMPLES, "turn_controller.rounds"))
