@@ -12,7 +12,8 @@ from .answers import STOP, WATCHED
 from .bundles import Refused
 from .drawn import AXES, cut, run_of
 from .explaining import explain
-from .graph import Graph, GraphPicture
+from .graph import Graph
+from .graph_dot import design_picture
 from .lint import lint
 from .picture import Picture
 from .plot import Plot, chosen, signals_of, verdicts_of
@@ -143,7 +144,7 @@ class Page:
             return [note("The design is not a text of the language.")]
         graph = Graph(self.model)
         title = f"The design of {self.study.root}"
-        drawn = pane(GraphPicture(graph, title).draw(), title) if graph.boxes else ""
+        drawn = pane(design_picture(graph, title), title) if graph.boxes else ""
         checked = self.text_of("check") or ""
         facts = ""
         if checked.startswith("accepted"):
