@@ -177,7 +177,8 @@ def test_adaptors_fit_the_rates():
         for text in (TURN, TURN[:begin] + TURN[TURN.index("\n", begin) :]):
             found = [it["label"] for it in completions(Edited(text), begin)]
             expect(found, wanted, f"adaptors of {name}")
-    equal = TURN.replace("l.target {Timing => Delayed;", 'l.target {Timing => Delayed; PALS_Profile::Input_Adaptor => "";')
+    empty = 'PALS_Profile::Input_Adaptor => "";'
+    equal = TURN.replace("l.target {Timing => Delayed;", "l.target {Timing => Delayed; " + empty)
     expect(completions(Edited(equal), equal.index('""') + 1), [], "equal rates")
 
 
@@ -189,8 +190,8 @@ def test_the_minimum_period_is_described():
     expect("12 ms" in " ".join(described(Edited(TURN), TURN.index("Period => 10"))), False, "the period of a thread")
     odd = TURN.replace("{Period => 10 ms;}", "{Period => 7 ms;}").replace("Period => 20 ms", "Period => 63 ms")
     odd = odd.replace("m: thread Main.impl", "m: thread Main.impl {Period => 9 ms;}").replace("{Period => 5 ms;}", "")
-    expect(described(Edited(odd), odd.index("Period => 63"))[-1], "minimum period by the bound: 27 ms; the shortest one "
-           "that every rate divides: 27.000036 ms", "rates 7 and 9")
+    found = described(Edited(odd), odd.index("Period => 63"))[-1]
+    expect(found, "minimum period by the bound: 27 ms; the shortest one that every rate divides: 27.000036 ms", "7 and 9")
 
 
 def test_parts_are_folded():

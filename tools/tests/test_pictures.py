@@ -51,7 +51,8 @@ def test_the_text_for_graphviz():
     """It has each process as a cluster and each link as an edge; `dot` draws it, also with names that are markup."""
     status, text, _ = tool("graph", "--dot", "examples/turn_controller.aadl")
     lines = text.decode().split("\n")
-    expect((status, sum("subgraph" in line for line in lines), sum(" -> " in line for line in lines)), (0, 1, 7), "parts")
+    parts = sum("subgraph" in line for line in lines), sum(" -> " in line for line in lines)
+    expect((status, *parts), (0, 1, 7), "parts")
     expect(tool("graph", "--dot", "--layout", "own", "examples/turn_controller.aadl")[0], 2, "two forms")
     if not shutil.which("dot"):
         raise Skipped("dot is not installed (Debian: graphviz)")
