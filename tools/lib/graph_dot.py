@@ -1,4 +1,4 @@
-"""A design as text of Graphviz (DOT): processes and systems as clusters; and its picture by `dot`, if it is installed."""
+"""A design as text of Graphviz (DOT), with processes and systems as clusters, and its picture by `dot`."""
 
 import re
 import subprocess

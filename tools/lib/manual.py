@@ -138,7 +138,8 @@ def zsh_option(it):
     meaning = re.sub(r"([\[\]:\\])", r"\\\1", it.meaning)
     action = f"({' '.join(it.choices)})" if it.choices else "_files" if it.value in FILES else \
         "_files -/" if it.value in FOLDERS else " "
-    return quoted(f"{'*' * it.repeated}{it.name}[{meaning}]" + (f":{it.value.replace(':', '')}:{action}" * bool(it.value)))
+    value = f":{it.value.replace(':', '')}:{action}" if it.value else ""
+    return quoted(f"{'*' * it.repeated}{it.name}[{meaning}]{value}")
 
 
 def zsh(known):

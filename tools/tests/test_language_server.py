@@ -191,7 +191,8 @@ def test_the_minimum_period_is_described():
     odd = TURN.replace("{Period => 10 ms;}", "{Period => 7 ms;}").replace("Period => 20 ms", "Period => 63 ms")
     odd = odd.replace("m: thread Main.impl", "m: thread Main.impl {Period => 9 ms;}").replace("{Period => 5 ms;}", "")
     found = described(Edited(odd), odd.index("Period => 63"))[-1]
-    expect(found, "minimum period by the bound: 27 ms; the shortest one that every rate divides: 27.000036 ms", "7 and 9")
+    wanted = "minimum period by the bound: 27 ms; the shortest one that every rate divides: 27.000036 ms"
+    expect(found, wanted, "rates 7 and 9")
 
 
 def test_parts_are_folded():
