@@ -16,7 +16,7 @@ from .graph import Graph
 from .graph_dot import design_picture
 from .lint import lint
 from .picture import Picture
-from .plot import Plot, chosen, signals_of, verdicts_of
+from .plot import Plot, signals_of, verdicts_of
 from .rows import Report
 from .show import show_found
 from .svg import plain
@@ -203,7 +203,7 @@ class Page:
     def values(self):
         """The plots."""
         report, watched = self.report_of("sync"), self.report_of("watch")
-        signals = chosen(signals_of(report), self.names) if report else []
+        signals = signals_of(report, self.names) if report else []
         signals = [it for it in signals + (verdicts_of(watched) if watched else []) if it.pieces]
         halts = halted_in(report) if report else []
         drawn = Plot(signals, "Values over the rounds", halts)
