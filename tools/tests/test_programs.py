@@ -11,7 +11,7 @@ from tests.common import EXAMPLES, TOP, WITHIN, Skipped, built, expect, on_bundl
 TOOLS = ("bundle", "explain", "lint", "timeline", "rows2csv", "rows2vcd", "fail_alloc", "big_bundles", "on_files",
          "watch_files", "release", "gate_cost", "plot", "graph", "timetable", "report", "world", "inputs", "campaign",
          "import", "join", "bounds", "code2c", "same", "promises", "surface", "prove",
-         "cover", "latency", "watch")
+         "cover", "latency", "watch", "new", "install", "crate_graph", "language_server")
 LONG = "9" * 5000
 ANSWERS = [
     b"flat x\n", b"text 1 Syntax\n", b"text 99999:99999 Syntax\n", b"text 1:1 Syntax\n", b"text 2:3 NotUtf8\n",
