@@ -84,7 +84,7 @@ class Parser(argparse.ArgumentParser):
 
 
 class CommandLine(NamedTuple):
-    """The arguments of a tool: its operands, with the least and the largest number of them, and its options.
+    """The arguments of a tool: its operands, with the smallest and the largest number of them, and its options.
 
     `streams` shows the standard input and output in the usage line, `forms` are further usage lines. A tool that
     `passes` options takes unknown ones as operands; if it `runs` a command, everything from the first operand on."""
@@ -140,7 +140,7 @@ class CommandLine(NamedTuple):
         return given
 
     def operands_in(self, words):
-        """The words that are no options of the tool, of which none may look like an option, except after `--`."""
+        """The words that are not options of the tool, of which none may look like an option, except after `--`."""
         end = words.index("--") if "--" in words else len(words)
         stray = next((it for it in words[:end] if it.startswith("-") and it != "-"), None)
         if stray and not self.passes:
