@@ -5,17 +5,15 @@ import os
 import sys
 
 from .bundles import Refused
+from .command_line import Misused
 
 # The statuses of a tool for invalid arguments, and for a request that it cannot fulfil.
 MISUSED, UNABLE, INTERRUPTED = 2, 1, 130
 
 
-class Misused(Exception):
-    """The arguments are not the tool's."""
-
-
-def run(work, usage):
-    """Runs a tool on the words of its command line, and ends with its status."""
+def run(work, line):
+    """Runs a tool on the values of its command line, and ends with its status. A tool that has only a usage line gets
+    the words."""
     name = os.path.basename(sys.argv[0])
     for stream in (sys.stdout, sys.stderr):
         if hasattr(stream, "reconfigure"):
@@ -24,9 +22,10 @@ def run(work, usage):
     try:
         if sys.stdout is None:
             raise Refused("standard output is closed")
-        status = help_of(usage) if sys.argv[1:] in (["--help"], ["-h"]) else work(sys.argv[1:])
+        status = answered(work, line, name)
         sys.stdout.flush()
     except Misused as why:
+        usage = line if isinstance(line, str) else line.usage(name)
         say(f"usage: {usage}" if not str(why) else f"{name}: {why}\nusage: {usage}")
         status = MISUSED
     except Refused as why:
@@ -44,6 +43,17 @@ def run(work, usage):
         forget_output()
         status = INTERRUPTED
     sys.exit(status)
+
+
+def answered(work, line, name):
+    """The status of a tool; with --help it shows its help."""
+    if isinstance(line, str):
+        return help_of(line) if sys.argv[1:] in (["--help"], ["-h"]) else work(sys.argv[1:])
+    given = line.read(name, sys.argv[1:])
+    if given is not None:
+        return work(given)
+    sys.stdout.write(line.help(name, sys.modules["__main__"].__doc__ or ""))
+    return 0
 
 
 def say(text):

@@ -104,8 +104,6 @@ class Edited:
     def uses(self, entry):
         """The places of a name, its declaration included, as bytes."""
         word = entry.name.text.lower().encode()
-        if entry.kind in ("type", "implementation"):
-            return [entry.name.offset]
         found = [it.offset for it in self.tokens if it.kind == "word" and it.text.lower() == word]
         return [it for it in found if getattr(self.resolve(it), "name", None) == entry.name]
 

@@ -1,7 +1,9 @@
 """Remarks on designs and scenarios that are refused."""
 
 from . import sentences
+from .all_errors import errors
 from .answers import FINDING
+from .edited import Edited
 from .findings import Findings
 from .grammar import package_of
 from .json_faults import why_no_json
@@ -12,12 +14,30 @@ from .properties import associations, likely
 from .scenario_faults import Names, Why
 from .scenario_places import offset_of, place_of, value_of
 from .sentences import sentence
-from .show import show
+from .show import fix_in, show
 from .text_faults import tell
 
 # Findings that a misspelt property may have caused.
 BY_PROPERTY = {2, 3, 4, 6, 7, 9, 10, 11, 16, 18}
 FOLLOWS = "this may follow from the property above that is misspelt"
+
+
+# How many errors are shown in addition to the error of the program.
+MOST_FURTHER = 20
+# Designs with more bytes are not searched for further errors.
+MOST_SEARCHED = 1_000_000
+
+
+def show_further(bundle, offset, end=None):
+    """Shows the other errors of a design that can be found in the same run: no error between two bytes, which is the
+    one of the program."""
+    if len(bundle.design) > MOST_SEARCHED:
+        return
+    shown = range(offset, (offset if end is None else end) + 1)
+    found = [it for it in errors(Edited(bundle.design.decode("utf-8", "replace"))) if it.offset not in shown]
+    for it in found[:MOST_FURTHER]:
+        what, *more = it.words
+        show(bundle, bundle.place(it.offset), what, *more, rule=it.rule, fix=fix_in(bundle, it.fix))
 
 
 def place_in(found):
@@ -38,6 +58,8 @@ def show_text(bundle, answer):
     show(bundle, place, told.what, *told.more, f"see docs/language.md, {name}", rule=name)
     if told.culprit is not None and bundle.place(told.culprit)[0] != place[0]:
         show(bundle, bundle.place(told.culprit), "this is likely the place to fix", rule=name, level="note")
+    if name == "Syntax":
+        show_further(bundle, offset_in(bundle, place))
 
 
 def show_fault(bundle, answer):
@@ -52,6 +74,9 @@ def show_fault(bundle, answer):
     show(bundle, place, *told, see, rule=found["name"])
     if reader:
         show_related(bundle, reader, number, (name, offset_in(bundle, place)))
+        # An error of a wrong kind is at the beginning of its declaration.
+        begin, line = offset_in(bundle, place), bundle.line(place[0])
+        show_further(bundle, begin, offset_in(bundle, (place[0], len(line) + 1)) if number == 4 else None)
 
 
 def fault_sentences(reader, number, name, offset):

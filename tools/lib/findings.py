@@ -121,7 +121,16 @@ class Findings:
         high, low = self.model.rate(came.thread), self.model.rate(target)
         return (high, low, self.model.steps_sent(high) or high) if high and low else None
 
-    def no_adaptor(self, _offset, details):
+    def applied_adaptor(self, offset):
+        """A sentence on an adaptor that applies to the connection at a place from outside, or "" if there is none."""
+        wire, impl = self.wire_at(offset)
+        for prop in impl.props if wire else ():
+            if prop.applies and prop.name.text.lower() == "pals_profile::input_adaptor":
+                return f"{prop.name.text} of {impl.name.text} has `applies to`, and is ignored: if it is for this " \
+                       f"connection, write it here"
+        return ""
+
+    def no_adaptor(self, offset, details):
         """A link that lacks its adaptor."""
         rates = self.rates(details[0])
         if rates is None:
@@ -134,7 +143,7 @@ class Findings:
         return [f"the link to {details[0]} joins a rate of {high} with one of {low}, and has no "
                 f"PALS_Profile::Input_Adaptor{less}",
                 f"write `PALS_Profile::Input_Adaptor => {texts[0]};` next to `Timing => Delayed;`; there are "
-                f"{', '.join(texts)} and \"at n\" as well"]
+                f"{', '.join(texts)} and \"at n\" as well", self.applied_adaptor(offset)]
 
     def adaptor(self, offset, details):
         """An adaptor with an unknown text, or one that is not allowed."""

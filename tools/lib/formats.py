@@ -5,7 +5,6 @@ from urllib.parse import quote
 from xml.sax.saxutils import escape, quoteattr
 
 from .bundles import Refused
-from .command import Misused
 from .explaining import explain
 from .lint import RULES
 from .rows import Report
@@ -15,13 +14,6 @@ from .version import VERSION
 
 SCHEMA = "https://docs.oasis-open.org/sarif/sarif/v2.1.0/os/schemas/sarif-schema-2.1.0.json"
 FORMATS = ("json", "sarif", "junit")
-
-
-def format_of(word, known=FORMATS):
-    """A format that a command line names."""
-    if word is not None and word not in known:
-        raise Misused(f"unknown format {word}: take one of {', '.join(known)}")
-    return word
 
 
 def explained_as(form, bundle, text, command, strict=False):

@@ -1,10 +1,11 @@
 """AADL as input of a design: ports, subcomponents, connections and properties of components, with inherited ones."""
 
+import re
 from collections import namedtuple
 
 from .aadl import TWO_WORDS
 from .bundles import Refused
-from .import_tokens import association, name_at, name_of, reference_in, words_of
+from .import_tokens import association, name_at, name_of, reference_in, text_of, words_of
 from .tokens import word_of
 
 # A port: its direction (in or out), the name of its type, and its position. A subcomponent: its category and its type.
@@ -44,6 +45,16 @@ CATEGORIES = {
 }
 WHOLE_NUMBERS = {"integer", "natural"} | {f"{kind}_{size}" for kind in ("integer", "unsigned")
                                           for size in (8, 16, 32, 64)}
+
+
+# Whole numbers with fewer than 64 bits or without a sign, and the properties that limit the values of a data type.
+NARROW = re.compile("natural|unsigned_[0-9]+|integer_(8|16|32)")
+LIMITS = {"integer_range", "data_size", "source_data_size"}
+
+
+def last_of(ref):
+    """The last name of a reference, in lower case."""
+    return ref.lower().rpartition("::")[2]
 
 
 def kind_of(rest, directions):
@@ -166,10 +177,27 @@ class Library:
     def data_type(self, ref, package, place, name):
         """The type of the language for a data type; None if there is none."""
         found = self.basic(ref, package) if ref else None
+        narrow = self.narrow(ref, package) if found == "Base_Types::Integer" else ""
+        if narrow:
+            data = self.find(ref, package)
+            what, at = (data.name, (data.file, data.offset)) if data else (f"of {name}", place)
+            self.told.add(at, f"the type {what} {narrow}, and becomes Base_Types::Integer, which has 64 bits",
+                          "limit the values in a behaviour")
         if not found:
             self.told.add(place, f"the type of {name}, {ref or 'none'}, is not in the language; {name} is omitted",
                           "use Base_Types::Integer in units that are small enough, or Base_Types::Boolean")
         return found
+
+    def narrow(self, ref, package):
+        """How a data type limits its whole numbers, or ""."""
+        data = self.find(ref, package)
+        for one in reversed(self.line_of(data) if data else []):
+            limits = [it for it in self.properties(one) if it.name.lower().rpartition("::")[2] in LIMITS]
+            if limits:
+                return f"has {limits[0].name} => {text_of(limits[0].value)}"
+            if one.extends and self.find(one.extends, one.package) is None and NARROW.fullmatch(last_of(one.extends)):
+                return f"is {one.extends}"
+        return f"is {ref}" if NARROW.fullmatch(last_of(ref)) else ""
 
     def basic(self, ref, package):
         """Base_Types::Integer or Base_Types::Boolean, where a data type is one."""
@@ -202,6 +230,7 @@ class Library:
         if "[" in words:
             self.told.add(place, f"{word_of(item.tokens[0])} is an array, and is taken as one component",
                           "write its components one by one")
+        self.tell_modes(item, word_of(item.tokens[0]))
         ref = name_at(item.tokens, first + 1 + two)
         return Part(word_of(item.tokens[0]), category, (ref, component.package) if ref else None,
                     self.braces(item), *place)
@@ -229,6 +258,7 @@ class Library:
             self.told.add(place, f"the connection {name} leads into a feature group, and is omitted",
                           FEATURES["feature group"])
             return None
+        self.tell_modes(item, f"the connection {name}")
         return Link(name, source, target, self.braces(item), *place)
 
     def properties(self, component):
@@ -237,8 +267,18 @@ class Library:
         for one in self.line_of(component):
             for item in one.sections.get("properties", []):
                 made = association(item)
+                self.tell_modes(item, f"the property {made.name}")
                 found[made.name.lower(), tuple(made.applies)] = made
         return list(found.values())
+
+    def tell_modes(self, item, what):
+        """Reports that a declaration is only for some modes; a property in its braces has modes of its own."""
+        words = words_of(item)
+        words = words[: words.index("{")] + words[len(words) - words[::-1].index("}") :] if "}" in words and \
+            "{" in words else words
+        if ("in", "modes") in zip(words, words[1:]):
+            self.told.add((item.file, item.tokens[0].offset),
+                          f"{what} is only in some modes, and is taken in all of them", SECTIONS["modes"])
 
     def braces(self, item):
         """The properties in the braces of a declaration."""

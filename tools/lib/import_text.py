@@ -41,7 +41,7 @@ class Writer:
         self.section("subcomponents", [self.part(made, part) for part in made.parts])
         self.section("connections", [f"{name}: port {source} -> {target}{self.braces(props)};"
                                      for name, source, target, props in made.links])
-        self.section("properties", [it if isinstance(it, str) else self.property(it) for it in made.props])
+        self.section("properties", [self.property(it) for it in made.props])
         for annex in made.annexes:
             self.lines.append(f" annex {annex.name} {self.design_annex(made, annex)};")
         self.lines.append(f" end {made.name};")
@@ -57,9 +57,10 @@ class Writer:
         """Properties in braces."""
         return f" {{{' '.join(map(self.property, props))}}}" if props else ""
 
-    def property(self, prop):
-        """A property."""
-        return f"{prop.name} => {text_of(prop.value)};"
+    @staticmethod
+    def property(prop):
+        """A property, which may be a text already."""
+        return prop if isinstance(prop, str) else f"{prop.name} => {text_of(prop.value)};"
 
     def design_annex(self, made, annex):
         """The text of an annex, with the types of its variables as the language has them."""

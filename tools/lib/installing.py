@@ -42,8 +42,9 @@ class Installation:
         finally:
             shutil.rmtree(part, ignore_errors=True)
         text = read(os.path.join(TOP, "docs/commands.txt")).decode()
-        self.put(PAGE, manual.manual(text, VERSION))
-        known = manual.options(text, os.path.join(self.folder, "tools"))
+        tools = manual.tools_in(os.path.join(self.folder, "tools"))
+        self.put(PAGE, manual.manual(text, VERSION, tools))
+        known = manual.options(text, tools)
         for path, make in COMPLETIONS.items():
             self.put(path, make(known))
         self.link()

@@ -3,33 +3,28 @@
 import re
 import subprocess
 
-from .bundles import Bundle, Refused
+from .all_errors import errors
+from .bundles import Refused
+from .classifiers import Classifier
+from .completing import completions
+from .describing import described
 from .edited import SYMBOLS, Edited
-from .found import Edit, Fix
+from .folding import foldings
 from .lint import lint
-from .name_faults import name_faults
-from .names import choice
 from .program import program_at
-from .properties import PLACES
 from .show import visible
-from .text_faults import tell
-from .tokens import word_of
 from .tree import Impl
 from .words import ANNEX, DECLARATIONS
 
 ERROR, WARNING = 1, 2
 NAME = re.compile("[A-Za-z][A-Za-z0-9_]{0,63}")
-ADAPTORS = {"repeat": "to a higher rate: the value in each step", "first": "the first place of a group",
-            "last": "the last place of a group", "latest": "to a lower rate: the last value that is present",
-            "max": "to a lower rate: the maximum", "min": "to a lower rate: the minimum",
-            "average": "to a lower rate: the sum divided by the number, towards zero"}
-FULL_SYNC, KEYWORD, VARIABLE, PROPERTY, VALUE = 1, 14, 6, 10, 12
+FULL_SYNC = 1
 # Texts that are longer are read only for their syntax.
 MOST_LINTED = 400_000
 CAPABILITIES = {"textDocumentSync": FULL_SYNC, "definitionProvider": True, "hoverProvider": True,
                 "completionProvider": {"triggerCharacters": [".", '"']}, "documentSymbolProvider": True,
                 "documentFormattingProvider": True, "codeActionProvider": True, "referencesProvider": True,
-                "renameProvider": True}
+                "renameProvider": {"prepareProvider": True}, "foldingRangeProvider": True}
 
 
 class Stopped(Exception):
@@ -102,29 +97,41 @@ class Server:
     def on_references(self, params):
         """The places of the name at a place, in this text."""
         edited, offset = self.place(params)
-        entry, uri = edited.resolve(offset), params["textDocument"]["uri"]
-        length = len(entry.name.text) if entry else 0
-        return [{"uri": uri, "range": edited.range(it, length)} for it in edited.uses(entry)] if entry else []
+        uri = params["textDocument"]["uri"]
+        return [{"uri": uri, "range": it} for it in places_of(edited, offset)]
+
+    def on_preparerename(self, params):
+        """The range of the name at a place, if it can be renamed."""
+        edited, offset = self.place(params)
+        number = edited.token_at(offset)
+        if edited.faults or number is None or not places_of(edited, offset):
+            return None
+        return edited.range(edited.tokens[number].offset, len(edited.tokens[number].text))
 
     def on_rename(self, params):
         """The changes that give the name at a place another text."""
         edited, offset = self.place(params)
-        entry, name = edited.resolve(offset), params["newName"]
-        if entry is None or entry.kind in ("type", "implementation") or edited.faults:
-            raise Refused("only variables, states, ports, subcomponents and connections of a readable text are renamed")
+        name, found = params["newName"], places_of(edited, offset)
+        if not found or edited.faults:
+            raise Refused("only declared names of a readable text are renamed")
         if not NAME.fullmatch(name) or name.lower() in ANNEX | DECLARATIONS:
             raise Refused(f"`{name}` is not a name of the language")
-        if entry.name.text.lower() in edited.loops or name.lower() in edited.loops:
+        classifier = Classifier(edited, edited.token_at(offset))
+        if classifier.places() is not None:
+            if classifier.is_taken(name):
+                raise Refused(f"there is a declaration of the name {name} already")
+        elif edited.resolve(offset).name.text.lower() in edited.loops or name.lower() in edited.loops:
             raise Refused("a loop has a variable of this name")
-        length = len(entry.name.text)
-        edits = [{"range": edited.range(it, length), "newText": name} for it in edited.uses(entry)]
-        return {"changes": {params["textDocument"]["uri"]: edits}}
+        return {"changes": {params["textDocument"]["uri"]: [{"range": it, "newText": name} for it in found]}}
+
+    def on_foldingrange(self, params):
+        """The parts of a text that can be folded."""
+        return foldings(self.texts[params["textDocument"]["uri"]])
 
     def on_hover(self, params):
         """What the name at a place is."""
         edited, offset = self.place(params)
-        entry = edited.resolve(offset)
-        words = [entry.words, *rates(edited, entry)] if entry else property_words(edited, offset)
+        words = described(edited, offset)
         return {"contents": {"kind": "plaintext", "value": "\n".join(words)}} if words else None
 
     def on_completion(self, params):
@@ -154,6 +161,15 @@ class Server:
         return [{"range": edited.range(0, len(edited.data)), "newText": text}]
 
 
+def places_of(edited, offset):
+    """The ranges of the name at a byte, its declaration included; none if it is not declared in the text."""
+    numbers = Classifier(edited, edited.token_at(offset)).places()
+    if numbers is not None:
+        return [edited.range(edited.tokens[it].offset, len(edited.tokens[it].text)) for it in numbers]
+    entry = edited.resolve(offset)
+    return [edited.range(it, len(entry.name.text)) for it in edited.uses(entry)] if entry else []
+
+
 def named(edited, name):
     """The range of a name."""
     return edited.range(name.offset, len(name.text.encode()))
@@ -176,14 +192,7 @@ def visible_lines(words):
 
 def diagnostics(edited):
     """What is wrong with a text: syntax errors, names, and for a text without these the findings of lint."""
-    found = []
-    for at, (token, wanted) in enumerate(edited.faults):
-        words = syntax_words(edited, at, token, wanted)
-        found.append(diagnostic(edited, (token.offset, len(token.text)), ERROR, "Syntax", words))
-    for name, words, likely in name_faults(edited):
-        more = f"{likely} is likely meant" if likely else ""
-        fix = Fix(f"replace {name.text} by {likely}", [Edit(name.offset, name.text, likely)]) if likely else None
-        found.append(diagnostic(edited, (name.offset, len(name.text.encode())), ERROR, "name", [words, more], fix))
+    found = [diagnostic(edited, (it.offset, it.length), ERROR, it.rule, it.words, it.fix) for it in errors(edited)]
     if found or len(edited.data) > MOST_LINTED:
         return found
     model = edited.model()
@@ -191,40 +200,6 @@ def diagnostics(edited):
         length = len(it.about.encode()) if it.rule == "misspelt-property" else 1
         found.append(diagnostic(edited, (it.offset, length), WARNING, it.rule, [it.what, *it.more], it.fix))
     return found
-
-
-def syntax_words(edited, at, token, wanted):
-    """Sentences on a syntax error; the first one has its cause."""
-    if at == 0:
-        told = tell(Bundle("", edited.data + b"\n%%%\n"), "Syntax", token.offset)
-        if told.what:
-            return [told.what, *told.more]
-    here = "the end of the text" if token.kind == "end" else f"`{word_of(token)}`"
-    return [f"expected {choice(wanted[:6])}, found {here}" if wanted else f"{here} is nested too deeply"]
-
-
-def rates(edited, entry):
-    """The rate of the thread that an entry names, and the steps that it sends."""
-    model = edited.model() if entry.kind == "part" and not edited.faults else None
-    found = []
-    for thread in model.by_path.values() if model else ():
-        if thread.part.name.offset == entry.name.offset:
-            rate = model.rate(thread)
-            sent = model.steps_sent(rate) if rate else None
-            found.append(f"{thread.path}: rate {rate}, sends {sent} of its steps" if sent else f"{thread.path}")
-    return found
-
-
-def property_words(edited, offset):
-    """What a property or an adaptor at a place means."""
-    number = edited.token_at(offset)
-    word = word_of(edited.tokens[number]).lower() if number is not None else ""
-    names = [name for name in PLACES if name.lower().rpartition("::")[2] == word]
-    if names:
-        return [f"{names[0]}: a property of {PLACES[names[0]]}"]
-    text = next((word_of(it)[1:-1] for it in edited.tokens if it.kind == "string"
-                 and it.offset <= offset <= it.offset + len(it.text)), "")
-    return [f'"{text}": {ADAPTORS[text]}'] if text in ADAPTORS else []
 
 
 def outline(edited, made):
@@ -237,39 +212,6 @@ def outline(edited, made):
                  "selectionRange": named(edited, it.name)} for it in inside]
     return {"name": made.name.text, "detail": made.category, "kind": SYMBOLS["implementation"], "range": whole,
             "selectionRange": named(edited, made.name), "children": children}
-
-
-def completions(edited, offset):
-    """What may be written at a byte: keywords and names that the grammar allows there, or adaptors in a string."""
-    begin = offset
-    while begin and (edited.data[begin - 1 : begin].isalnum() or edited.data[begin - 1 : begin] == b"_"):
-        begin -= 1
-    line = edited.data[: begin].rpartition(b"\n")[2]
-    if line.count(b'"') % 2:
-        return [item(name, VALUE, words) for name, words in ADAPTORS.items()] if b"Input_Adaptor" in line else []
-    if b"--" in line:
-        return []
-    before = Edited(edited.data[:begin].decode("utf-8", "replace"))
-    wanted = next((wanted for token, wanted in before.faults if token.kind == "end"), [])
-    found = [item(word, KEYWORD, "") for word in wanted if word.isalpha() and word.islower()]
-    if "a name" not in wanted:
-        return found
-    owner = edited.owner_at(offset)
-    found += [item(it.name.text, VARIABLE, it.words) for it in (edited.entries(owner) if owner else {}).values()]
-    if owner and not before_annex(before):
-        found += [item(name, PROPERTY, f"of {where}") for name, where in PLACES.items()]
-        found += [item(it.name.text, VARIABLE, it.category) for it in edited.package.impls]
-    return found
-
-
-def before_annex(before):
-    """Whether the end of a text is inside of a behaviour annex."""
-    return bool(before.tokens[-1].inside) or before.data.rfind(b"{**") > before.data.rfind(b"**}")
-
-
-def item(label, kind, detail):
-    """One completion."""
-    return {"label": label, "kind": kind, "detail": detail}
 
 
 def canonical(edited):

@@ -2,7 +2,7 @@
 
 import json
 
-from . import lint_behaviours, lint_outputs, lint_timing, lint_values
+from . import lint_behaviours, lint_connections, lint_outputs, lint_timing, lint_values
 from .found import Edit, Fix, Found
 from .properties import ignored
 
@@ -16,6 +16,7 @@ RULES = {
     "shared-input": "a root in port that several components read",
     "unread-port": "a port without a reader, or that no step reads",
     "unset-port": "an out port that no step sends on",
+    "unconnected-port": "a port of a process or system that no connection names",
     "unread-variable": "a variable that no step reads, and no property of the scenario",
     "unset-variable": "a variable that no step sets",
     "unreached-state": "a state that no path leads to",
@@ -35,7 +36,7 @@ def lint(model, scenario=None):
     """All findings of a design below its root: misspelt properties first, then the others by their place."""
     impls = lint_behaviours.implementations(model)
     found = [*properties(model), *lint_timing.find(model, scenario), *lint_behaviours.find(impls, watched(scenario)),
-             *lint_values.find(impls), *lint_outputs.find(model, impls)]
+             *lint_values.find(impls), *lint_outputs.find(model, impls), *lint_connections.find(model)]
     return sorted(found, key=lambda it: (it.rule != "misspelt-property", it.offset, list(RULES).index(it.rule)))
 
 

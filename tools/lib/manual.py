@@ -1,12 +1,27 @@
-"""The manual page and the completions of shells, made of docs/commands.txt and the tools' own usage lines."""
+"""The manual page and the completions of shells, made of docs/commands.txt and the command lines of the tools."""
 
 import glob
 import os
 import re
+import runpy
+from typing import NamedTuple
 
-OPTIONS = ("--explain", "--format", "--help", "--strict")
-OWN = ("build", "help", "watch-files")
+from .command_line import FILES, FOLDERS, CommandLine, flag, option
+
+HELP = flag("--help", "show the help")
+# The words of ./pals that are no commands of the program, each with the tool that they start.
+OWN = {"build": None, "help": None, "watch-files": "watch_files"}
+# The tool that takes the files of a command, with its options.
+ON_FILES = "on_files"
 ENDINGS = "aadl|json|pals"
+
+
+class Tool(NamedTuple):
+    """A tool: its name, its command line, and its text."""
+
+    name: str
+    line: CommandLine
+    text: str
 
 
 def sections_of(text):
@@ -26,7 +41,7 @@ def roff(text):
     return "\n".join(f"\\&{line}" if line[:1] in (".", "'") else line for line in text.split("\n"))
 
 
-def manual(text, version):
+def manual(text, version, tools):
     """The manual page, section 1."""
     sections = dict(sections_of(text))
     parts = [f'.TH PALS 1 "" "pals {version}" "User Commands"', ".SH NAME",
@@ -36,6 +51,10 @@ def manual(text, version):
     for name, body in sections.items():
         if name != "pals":
             parts += [f".SS {roff(name)}", ".nf", roff(installed(body)), ".fi"]
+    parts.append(".SH TOOLS")
+    for it in tools:
+        shown = it.line.help(it.name, it.text).replace("tools/", "pals ").rstrip("\n")
+        parts += [f".SS {roff(it.name)}", ".nf", roff(installed(shown)), ".fi"]
     return "\n".join(parts) + "\n"
 
 
@@ -44,35 +63,48 @@ def installed(text):
     return text.replace("./pals", "pals")
 
 
-def options_of_tools(folder):
-    """The options of each tool in a folder, from its usage line."""
-    found = {}
+def tools_in(folder):
+    """The tools in a folder."""
+    found = []
     for path in sorted(glob.glob(os.path.join(folder, "*"))):
         name = os.path.basename(path)
         if os.path.isfile(path) and re.fullmatch("[a-z0-9_]+", name):
-            with open(path, encoding="utf-8") as file:
-                usage = file.read().rpartition("run(main, ")[2]
-            found[name] = sorted({"--help", *re.findall(r"--[a-z][a-z-]*", usage)})
+            names = runpy.run_path(path, run_name=name)
+            found.append(Tool(name, names["LINE"] if "LINE" in names else usage_line(path), names["__doc__"]))
     return found
 
 
-def options(text, folder):
+def usage_line(path):
+    """The command line of a tool that has only a usage line."""
+    with open(path, encoding="utf-8") as file:
+        words = "".join(re.findall(r'"(.*?)"', file.read().rpartition("run(main, ")[2]))
+    named = dict(re.findall(r"(--[a-z][a-z-]*)((?: [A-Z][A-Za-z.]*)?)", words))
+    return CommandLine(tuple(option(name, value.strip(), "") for name, value in named.items()),
+                       re.sub(r"\[--[^]]*\]+(\.\.)? ?", "", words.partition(" ")[2]))
+
+
+def options(text, tools):
     """The options of each command and tool."""
-    found = {name: [] for name in OWN}
+    of_tools = {it.name: [*it.line.options, HELP] for it in tools}
+    found = {name: of_tools.get(tool, []) for name, tool in OWN.items()}
     for name, body in sections_of(text):
         word, _, more = name.partition(" ")
         if word != "pals":
-            extra = re.findall(r"--[a-z]+", f"{more} {body.split(chr(10))[0]}")
-            found[word] = sorted({*found.get(word, []), *OPTIONS, *extra})
-    return {**options_of_tools(folder), **found}
+            extra = [flag(it, "") for it in re.findall(r"--[a-z]+", f"{more} {body.split(chr(10))[0]}")]
+            known = [*found.get(word, of_tools.get(ON_FILES, [])), *extra]
+            found[word] = list({it.name: it for it in known}.values())
+    return {**of_tools, **found}
 
 
 def bash(known):
     """The completion of bash."""
-    cases = "\n".join(f"    {name}) options='{' '.join(words)}' ;;" for name, words in sorted(known.items()))
+    cases = "\n".join(f"    {name}) options='{' '.join(it.name for it in words)}' ;;"
+                      for name, words in sorted(known.items()))
+    values = "\n".join(f"    '{name} {it.name}') values='{' '.join(it.choices)}' ;;"
+                       for name, words in sorted(known.items()) for it in words if it.choices)
     return f"""# Completion of pals for bash.
 _pals() {{
-    local options current=${{COMP_WORDS[COMP_CWORD]}}
+    local options values current=${{COMP_WORDS[COMP_CWORD]}}
     COMPREPLY=()
     if [ "$COMP_CWORD" -eq 1 ]; then
         mapfile -t COMPREPLY < <(compgen -W '{' '.join(sorted(known))} --version --program' -- "$current")
@@ -81,7 +113,12 @@ _pals() {{
     case ${{COMP_WORDS[1]}} in
 {cases}
     esac
-    if [[ $current == -* ]]; then
+    case "${{COMP_WORDS[1]}} ${{COMP_WORDS[COMP_CWORD - 1]}}" in
+{values}
+    esac
+    if [ -n "$values" ]; then
+        mapfile -t COMPREPLY < <(compgen -W "$values" -- "$current")
+    elif [[ $current == -* ]]; then
         mapfile -t COMPREPLY < <(compgen -W "$options" -- "$current")
     else
         mapfile -t COMPREPLY < <(compgen -f -- "$current" | grep -E '\\.({ENDINGS})$')
@@ -91,31 +128,50 @@ complete -o filenames -o plusdirs -F _pals pals
 """
 
 
+def quoted(text):
+    """A text between quotation marks of a shell."""
+    return "'" + text.replace("'", "'\\''") + "'"
+
+
+def zsh_option(it):
+    """An option as `_arguments` of zsh takes it."""
+    meaning = re.sub(r"([\[\]:\\])", r"\\\1", it.meaning)
+    action = f"({' '.join(it.choices)})" if it.choices else "_files" if it.value in FILES else \
+        "_files -/" if it.value in FOLDERS else " "
+    value = f":{it.value.replace(':', '')}:{action}" if it.value else ""
+    return quoted(f"{'*' * it.repeated}{it.name}[{meaning}]{value}")
+
+
 def zsh(known):
     """The completion of zsh."""
-    cases = "\n".join(f"    {name}) options=({' '.join(words)}) ;;" for name, words in sorted(known.items()))
+    files = quoted(f"*:file:_files -g '*.({ENDINGS})'")
+    cases = "\n".join(f"    {name}) _arguments {' '.join(map(zsh_option, words))} {files} ;;"
+                      for name, words in sorted(known.items()))
     return f"""#compdef pals
 # Completion of pals for zsh.
-local -a options
 if (( CURRENT == 2 )); then
     compadd -- {' '.join(sorted(known))}
     return
 fi
-case $words[2] in
+shift words
+(( CURRENT-- ))
+case $words[1] in
 {cases}
 esac
-if [[ $PREFIX == -* ]]; then
-    compadd -- $options
-else
-    _files -g '*.({ENDINGS})'
-fi
 """
+
+
+def fish_option(name, it):
+    """An option of a command in the completion of fish."""
+    takes = "" if not it.value else " -r" if it.value in FILES + FOLDERS else " -x"
+    choices = f" -a {quoted(' '.join(it.choices))}" if it.choices else ""
+    meaning = f" -d {quoted(it.meaning)}" if it.meaning else ""
+    return f"complete -c pals -n '__fish_seen_subcommand_from {name}' -l {it.name[2:]}{takes}{choices}{meaning}"
 
 
 def fish(known):
     """The completion of fish."""
     lines = ["# Completion of pals for fish.",
              f"complete -c pals -n __fish_use_subcommand -f -a '{' '.join(sorted(known))}'"]
-    lines += [f"complete -c pals -n '__fish_seen_subcommand_from {name}' -l {word[2:]}"
-              for name, words in sorted(known.items()) for word in words]
+    lines += [fish_option(name, it) for name, words in sorted(known.items()) for it in words]
     return "\n".join(lines) + "\n"

@@ -1,5 +1,6 @@
 """The design below one root: its threads, the sources of their ports, its rates and its bounds. No rule is checked."""
 
+import math
 from collections import namedtuple
 
 from .bundles import Refused
@@ -119,6 +120,21 @@ class Model:
             return None
         left = self.period - self.bounds.slowest - 2 * self.bounds.skew - self.bounds.longest
         return min(rate, 1 + max(left, 0) // max(self.period // rate, 1))
+
+    @property
+    def least_periods(self):
+        """The minimum period by the bound, and the smallest one from it on that every rate divides (docs/bound.md); or
+        None if a rate or a bound is missing."""
+        bounds, rates = self.bounds, [self.rate(thread) for thread in self.by_path.values()]
+        if bounds is None or None in rates:
+            return None
+        backoff = max(2 * bounds.skew - bounds.fastest, 0)
+        least = max(bounds.slowest + 2 * bounds.skew + max(backoff, bounds.longest), max(rates, default=1)
+                    * bounds.longest)
+        multiple = 1
+        for rate in rates:
+            multiple = multiple * rate // math.gcd(multiple, rate)
+        return least, -(-least // multiple) * multiple
 
     def came_from(self, end):
         """The source of a port: `PATH.PORT`, or the name of a root out port. None if it has no source."""

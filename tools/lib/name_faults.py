@@ -12,8 +12,16 @@ def name_faults(edited):
         if isinstance(made, Impl):
             yield from unknown_parts(edited, made)
             behaviour = behaviour_of(made)
-            if behaviour:
+            if behaviour and is_readable(edited, made):
                 yield from unknown_in_behaviour(edited, made, behaviour)
+
+
+def is_readable(edited, made):
+    """Whether all names that an implementation sees can be read: its type is declared, and neither has a syntax
+    error."""
+    kind = edited.declared.type_of(made)
+    return kind is not None and not any(
+        it.offset <= token.offset <= it.end.offset for token, _ in edited.faults for it in (kind, made))
 
 
 def declared_twice(edited, made):

@@ -5,6 +5,7 @@ from collections import namedtuple
 
 from .bundles import Refused
 from .names import choice, near_names
+from .rows import uncollected
 from .svg import DARK, LIGHT, WRONG, Sheet, ticks, wide
 
 # What is plotted: its name, its kind (number, truth, state or verdict), and its pieces. A piece is where it begins and
@@ -28,33 +29,57 @@ STYLE = f"""
 """
 
 
-def signals_of(report):
-    """What the rows of a report have, in their order: states, variables and outputs."""
+def signals_of(report, names=()):
+    """What the rows of a report have, in their order: states, variables and outputs; only some if there are names."""
+    known = names_in(report)
+    wanted = chosen(list(known), names)
+    with uncollected():
+        columns = columns_of(report, {known[name] for name in wanted})
+        found = [(name, known[name], columns[known[name]]) for name in wanted]
+        return [Signal(name, kind_of(key, column), pieces_of(column)) for name, key, column in found]
+
+
+def names_in(report):
+    """The names of states, variables and outputs in their order, each with its owner and its own name. The owner is the
+    path of a component, or None for an output; a state has no name of its own."""
     found = {}
+    shapes = dict.fromkeys((path, tuple(values)) for row in report.rows for path, _, values in row.components)
+    for path, names in shapes:
+        found[path] = (path, None)
+        found.update((f"{path}.{name}", (path, name)) for name in names)
+    outs = dict.fromkeys(name for row in report.rows for name, _ in row.outs)
+    return {**found, **{f"out {name}": (None, name) for name in outs}}
+
+
+def columns_of(report, keys):
+    """The values of some states, variables and outputs, each a round and the values of its places."""
+    found, wanted = {key: [] for key in keys}, {}
+    for owner, name in keys:
+        wanted.setdefault(owner, []).append((name, found[owner, name]))
     for row in report.rows:
-        for component in row.components:
-            add(found, component.path, row.number, [component.state], "state")
-            for name, value in component.values.items():
-                add(found, f"{component.path}.{name}", row.number, [value], kind_of(value))
+        for path, state, values in row.components:
+            for name, column in wanted.get(path, ()):
+                value = state if name is None else values.get(name)
+                if value is not None:
+                    column.append((row.number, (value,)))
         for name, places in row.outs:
-            for value in places:
-                add(found, f"out {name}", row.number, [], kind_of(value))
-            add(found, f"out {name}", row.number, places, "unknown")
-    return [Signal(name, kind if kind != "unknown" else "truth", pieces) for name, (kind, pieces) in found.items()]
+            if (None, name) in found:
+                found[None, name].append((row.number, places))
+    return found
 
 
-def kind_of(value):
-    """The kind of a value; an absent one may be of either."""
-    return "unknown" if value == "_" else "truth" if value in ("true", "false") else "number"
+def kind_of(key, column):
+    """The kind of a state, a variable or an output: for the last two the kind of the first value that is not absent."""
+    if key[1] is None:
+        return "state"
+    first = next((value for _, places in column for value in places if value != "_"), "true")
+    return "truth" if first in ("true", "false") else "number"
 
 
-def add(found, name, at, places, kind):
-    """Adds the values of a round, which share it evenly. One of a known kind makes the whole of that kind."""
-    known, pieces = found.setdefault(name, [kind, []])
-    found[name][0] = kind if known == "unknown" else known
-    for order, value in enumerate(places):
-        if value != "_":
-            pieces.append(Piece(at + order / len(places), at + (order + 1) / len(places), value))
+def pieces_of(column):
+    """The pieces of a signal: the values of a round share it evenly, and absent ones have none."""
+    return [Piece(at + order / len(places), at + (order + 1) / len(places), value)
+            for at, places in column for order, value in enumerate(places) if value != "_"]
 
 
 def verdicts_of(report):
@@ -72,10 +97,10 @@ def chosen(signals, names):
         return signals
     taken = []
     for name in names:
-        known = [it for it in signals if it.name.startswith(f"{name}.")
-                 or any(fnmatch.fnmatchcase(it.name, form) for form in (name, f"out {name}"))]
+        known = [it for it in signals if it.startswith(f"{name}.")
+                 or any(fnmatch.fnmatchcase(it, form) for form in (name, f"out {name}"))]
         if not known:
-            near = near_names(name, [it.name for it in signals]) or [it.name for it in signals[:6]]
+            near = near_names(name, signals) or signals[:6]
             raise Refused(f"nothing is named {name}; there is {choice(near)}" if near else f"nothing is named {name}")
         taken.extend(it for it in known if it not in taken)
     return taken

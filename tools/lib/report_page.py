@@ -12,10 +12,11 @@ from .answers import STOP, WATCHED
 from .bundles import Refused
 from .drawn import AXES, cut, run_of
 from .explaining import explain
-from .graph import Graph, GraphPicture
+from .graph import Graph
+from .graph_dot import design_picture
 from .lint import lint
 from .picture import Picture
-from .plot import Plot, chosen, signals_of, verdicts_of
+from .plot import Plot, signals_of, verdicts_of
 from .rows import Report
 from .show import show_found
 from .svg import plain
@@ -143,7 +144,7 @@ class Page:
             return [note("The design is not a text of the language.")]
         graph = Graph(self.model)
         title = f"The design of {self.study.root}"
-        drawn = pane(GraphPicture(graph, title).draw(), title) if graph.boxes else ""
+        drawn = pane(design_picture(graph, title), title) if graph.boxes else ""
         checked = self.text_of("check") or ""
         facts = ""
         if checked.startswith("accepted"):
@@ -202,7 +203,7 @@ class Page:
     def values(self):
         """The plots."""
         report, watched = self.report_of("sync"), self.report_of("watch")
-        signals = chosen(signals_of(report), self.names) if report else []
+        signals = signals_of(report, self.names) if report else []
         signals = [it for it in signals + (verdicts_of(watched) if watched else []) if it.pieces]
         halts = halted_in(report) if report else []
         drawn = Plot(signals, "Values over the rounds", halts)

@@ -1,5 +1,7 @@
 """Reports read back: rows of rounds, messages that were sent, watched properties, and timetables."""
 
+import contextlib
+import gc
 import re
 from collections import namedtuple
 
@@ -17,6 +19,7 @@ VALUE = rf"(?:-?{NUMBER}|true|false)"
 PLACES = rf"\(((?:{VALUE}|_)(?:,(?:{VALUE}|_))*)\)"
 ROUND = re.compile(rf"round ({NUMBER})")
 COMPONENT = re.compile(rf"([^\s=]+\.[^\s=]+) (halted\((?:overflow|zero-divisor)\)|\w+)((?: \w+={VALUE})*)")
+ASSIGNED = re.compile(r"(\w+)=(\S+)")
 OUT = re.compile(rf"out (\w+) {PLACES}")
 SENT = re.compile(rf"sent (\S+) ({NUMBER}) {PLACES}")
 VERDICT = re.compile(r"(\w+) (true|false)")
@@ -38,27 +41,41 @@ def rounds_in(text):
     return found
 
 
+@contextlib.contextmanager
+def uncollected():
+    """Keeps Python from looking for circles among many new objects, none of which is in one."""
+    enabled = gc.isenabled()
+    gc.disable()
+    try:
+        yield
+    finally:
+        if enabled:
+            gc.enable()
+
+
 class Report:
     """What an answer has: rows, messages, verdicts by round, and slots."""
 
     def __init__(self, text):
         self.rows, self.sent, self.verdicts, self.slots = [], [], [], []
         self.processor = ""
-        takers = [
-            (ROUND, self.take_round),
-            (OUT, self.take_out),
-            (SENT, self.take_sent),
-            (VERDICT, self.take_verdict),
-            (PROCESSOR, self.take_processor),
-            (SLOT, self.take_slot),
-            (COMPONENT, self.take_component),
-        ]
-        for line in filter(None, text.split("\n")):
-            found = next(((take, match) for shape, take in takers for match in [shape.fullmatch(line)] if match), None)
-            if found:
-                found[0](*found[1].groups())
-            elif not (parsed(line) or STOP.fullmatch(line) or WATCHED.fullmatch(line)):
-                raise Refused(f"this line belongs to no report: {line[:60]}")
+        takers = {"round": (ROUND, self.take_round), "out": (OUT, self.take_out), "sent": (SENT, self.take_sent),
+                  "processor": (PROCESSOR, self.take_processor), "slot": (SLOT, self.take_slot)}
+        with uncollected():
+            for line in filter(None, text.split("\n")):
+                match = COMPONENT.fullmatch(line)
+                if match:
+                    self.take_component(*match.groups())
+                    continue
+                # A property may have the name of another line: a line that has not that form is a verdict.
+                shape, take = takers.get(line.partition(" ")[0], (VERDICT, self.take_verdict))
+                match = shape.fullmatch(line)
+                if match:
+                    take(*match.groups())
+                elif VERDICT.fullmatch(line):
+                    self.take_verdict(*VERDICT.fullmatch(line).groups())
+                elif not (parsed(line) or STOP.fullmatch(line) or WATCHED.fullmatch(line)):
+                    raise Refused(f"this line belongs to no report: {line[:60]}")
 
     def take_round(self, number):
         """The first line of a round."""
@@ -73,8 +90,7 @@ class Report:
 
     def take_component(self, path, state, values):
         """A component's line."""
-        named = dict(word.split("=", 1) for word in values.split())
-        self.row().components.append(Component(path, state, named))
+        self.row().components.append(Component(path, state, dict(ASSIGNED.findall(values))))
 
     def take_out(self, name, places):
         """A root out port's line."""

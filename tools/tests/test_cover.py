@@ -27,7 +27,7 @@ LINE = re.compile(r"\S+:(\d+:\d+): (.*): (scenario \d+|never \(proved\)|unknown)
 
 def opened_of(text):
     """An opened design."""
-    return Opened(text, b"", {"--program": built(), "--code": built("pals_code")}, "made")
+    return Opened(text, b"", "made", program=built(), code=built("pals_code"))
 
 
 def test_positions_of_instructions():

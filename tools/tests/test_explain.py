@@ -180,3 +180,31 @@ def test_sentences_are_those_of_the_pages():
     rows = language.split("## Properties")[1].split("\n\n")[1]
     named = {name for row in rows.split("\n")[2:] for name in re.findall(r"`([\w:]+)`", row.split("|")[1])}
     expect(set(PLACES), named, "properties of docs/language.md")
+
+
+def test_all_errors_of_a_text_are_shown():
+    """After the error of the program there are the others: syntax errors, or names if the text can be read."""
+    text = page("examples/two_counters.aadl")
+    wrong = text.replace("out data port", "out dta port", 1).replace("Period => 9 ms;", "Period = 9 ms;")
+    places = [place_of_text(wrong, needle) for needle in ("dta", "= 9 ms")]
+    shown = explained(wrong.encode() + b"\n%%%\n{}", f"text {places[0]} Syntax")[1]
+    expect(errors_in(shown), places, shown)
+    named = text.replace("o!(x)", "o!(xx)", 1).replace("p: process Pair.impl", "p: process Par.impl")
+    places = [place_of_text(named, needle) for needle in ("xx)", "Par.impl")]
+    shown = explained(named.encode() + b"\n%%%\n{}", f"flat 2 Unknown xx {places[0]}")[1]
+    expect(errors_in(shown), places, shown)
+    alone = text.replace("thread Counter\n", "thread Cunter\n", 1).replace("end Counter;", "end Cunter;")
+    place = place_of_text(alone, "thread implementation")
+    shown = explained(alone.encode() + b"\n%%%\n{}", f"flat 4 WrongKind Counter.impl {place}")[1]
+    expect(errors_in(shown), [place], f"nothing that follows from it: {shown}")
+
+
+def place_of_text(text, needle):
+    """The line and the column of a part of a text, as LINE:COLUMN."""
+    offset = text.index(needle)
+    return f"{text.count(chr(10), 0, offset) + 1}:{offset - text.rfind(chr(10), 0, offset)}"
+
+
+def errors_in(shown):
+    """The places of the errors that explain shows."""
+    return [f"{it[1]}:{it[2]}" for it in re.finditer(r"(?m)^b\.pals:(\d+):(\d+): ", shown)]

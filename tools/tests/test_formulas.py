@@ -107,10 +107,10 @@ def verdicts_by_terms(opened, properties, inputs, rounds):
 def test_formulas_mean_what_watch_finds():
     """On random designs the terms of random formulas are what `watch` finds on a copy, and what rows give."""
     rounds, seen, overflows = 8, 0, 0
-    options = {"--program": built(), "--code": built("pals_code")}
+    programs = {"program": built(), "code": built("pals_code")}
     for seed in range(60 if MORE else 20):
         text, inputs = made(1000 + seed, rounds)
-        opened = Opened(text.encode(), b"", options, "made")
+        opened = Opened(text.encode(), b"", "made", **programs)
         texts = Texts(random.Random(seed), opened.listing)
         properties = dict(read_property(f"q{at}: {texts.formula()}", opened.listing) for at in range(4))
         given = {"rounds": rounds, "inputs": inputs}

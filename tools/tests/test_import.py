@@ -18,6 +18,7 @@ EDITORS = os.path.join(HERE, "editors")
 # The messages on the two packages: the file, the line, and words of it.
 TOLD = [
     ("Vehicle_Types", 2, "the property set Vehicle_Properties is omitted"),
+    ("Vehicle_Types", 12, "the type Speed is Base_Types::Integer_32, and becomes Base_Types::Integer"),
     ("Vehicle_Types", 40, "net is not a data port (bus access)"),
     ("Vehicle_Types", 42, "the flows of Wheel_Sensor are omitted"),
     ("Vehicle", 9, "wanted is an event data port, and is taken as a data port"),
@@ -78,6 +79,49 @@ def test_imported_designs_are_accepted():
     status, report = answered(["check", "Car.impl"], text, given)
     expect((status, report.startswith("accepted\n")), (0, True), report)
     expect(answered(["budget", "Car.impl"], text, given)[0], 0, "the timetable")
+
+
+MODAL = """package A public
+thread T features
+ i: in data port Base_Types::Unsigned_8; o: out data port Base_Types::Integer_64;
+properties Dispatch_Protocol => Periodic;
+end T;
+thread implementation T.i
+end T.i;
+process P end P;
+process implementation P.i
+subcomponents
+ a: thread T.i;
+ b: thread T.i {Period => 5 ms;} in modes (m);
+connections
+ c: port a.o -> b.i {Timing => Delayed;};
+ d: port b.o -> a.i {Timing => Delayed in modes (m);} in modes (m);
+properties
+ Period => 10 ms in modes (m);
+end P.i;
+system S end S;
+system implementation S.i
+subcomponents p: process P.i;
+properties Period => 10 ms; PALS_Profile::Skew => 1 ms; PALS_Profile::Execution => 0 ms .. 1 ms;
+ PALS_Profile::Network => 0 ms .. 1 ms;
+end S.i;
+end A;
+"""
+
+
+def test_modes_narrow_types_and_missing_adaptors():
+    """Modes and the limits of types are dropped, and connections of different rates get adaptors: each is reported."""
+    status, text, said, _ = imported(MODAL)
+    told = [(int(line), what) for line, what in re.findall(r"(?m)^\S+\.aadl:(\d+):\d+: (.*)$", said)]
+    expect((status, told), (1, [
+        (3, "the type of i is Base_Types::Unsigned_8, and becomes Base_Types::Integer, which has 64 bits"),
+        (12, "b is only in some modes, and is taken in all of them"),
+        (14, 'the connection c joins the rates 1 and 2 at p.b.i, and is given the adaptor "repeat"'),
+        (15, "the connection d is only in some modes, and is taken in all of them"),
+        (15, 'the connection d joins the rates 2 and 1 at p.a.i, and is given the adaptor "latest"'),
+        (17, "the property Period is only in some modes, and is taken in all of them")]), said)
+    model = Model(declared_in(text), declared_in(text).roots()[0])
+    expect([model.came_from(f"p.{it}.i").adaptor for it in "ab"], ["latest", "repeat"], "adaptors")
 
 
 def test_own_designs_stay_as_they_are():

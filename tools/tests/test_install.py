@@ -75,11 +75,12 @@ def test_foreign_files_are_not_replaced():
 
 
 def test_the_manual_has_each_command():
-    """Each section of docs/commands.txt is in the manual, which troff takes without a warning."""
-    text = page("docs/commands.txt")
-    made = manual.manual(text, VERSION)
-    names = [name for name, _ in manual.sections_of(text)]
-    expect([name for name in names[1:] if f".SS {manual.roff(name)}\n" not in made], [], "sections")
+    """Each section of docs/commands.txt and each tool are in the manual, which troff takes without a warning."""
+    text, tools = page("docs/commands.txt"), manual.tools_in(os.path.join(TOP, "tools"))
+    made = manual.manual(text, VERSION, tools)
+    names = [name for name, _ in manual.sections_of(text)][1:] + [it.name for it in tools]
+    expect([name for name in names if f".SS {manual.roff(name)}\n" not in made], [], "sections")
+    expect("omit intended constructs: a rule" in made, True, "the options of lint")
     expect("./pals" in made, False, "the installed name")
     if shutil.which("groff"):
         expect(ran("groff", "-man", "-Tutf8", "-ww", "-z", given=made.encode()), (0, ""), "groff")
@@ -87,9 +88,10 @@ def test_the_manual_has_each_command():
 
 def test_completions():
     """Each command and tool is offered, with its options; each shell that is installed takes its file."""
-    known = manual.options(page("docs/commands.txt"), os.path.join(TOP, "tools"))
+    known = manual.options(page("docs/commands.txt"), manual.tools_in(os.path.join(TOP, "tools")))
     expect({"check", "lint", "report", "install", "build"} <= set(known), True, "commands and tools")
-    expect("--loose" in known["world"] and "--trace" in known["run"] and "--quiet" in known["lint"], True, "options")
+    names = {name: [it.name for it in words] for name, words in known.items()}
+    expect("--loose" in names["world"] and "--trace" in names["run"] and "--quiet" in names["lint"], True, "options")
     with tempfile.TemporaryDirectory() as folder:
         for name, make in (("bash", manual.bash), ("zsh", manual.zsh), ("fish", manual.fish)):
             path = os.path.join(folder, f"pals.{name}")
@@ -97,9 +99,15 @@ def test_completions():
                 file.write(make(known))
             if shutil.which(name):
                 expect(ran(name, "-n", path), (0, ""), name)
-        asked = "COMP_WORDS=(pals lint --qu); COMP_CWORD=2; _pals; echo ${COMPREPLY[@]}"
-        if shutil.which("bash"):
-            expect(ran("bash", "-c", f"source {folder}/pals.bash; {asked}"), (0, "--quiet\n"), "bash")
+        asked = "_pals; echo ${COMPREPLY[@]}"
+        for words, at, offered in (("lint --qu", 2, "--quiet"), ("lint --format ", 3, "json sarif"),
+                                   ("check --form", 2, "--format"), ("timeline --format s", 3, "svg")):
+            given = f"COMP_WORDS=(pals {words}); COMP_CWORD={at}"
+            if shutil.which("bash"):
+                expect(ran("bash", "-c", f"source {folder}/pals.bash; {given}; {asked}"), (0, f"{offered}\n"), words)
+            if shutil.which("fish"):
+                found = ran("fish", "-c", f"source {folder}/pals.fish; complete -C 'pals {words}'")[1]
+                expect([it.split("\t")[0] for it in found.split()[:1]], offered.split()[:1], f"fish: {words}")
 
 
 def test_the_package():

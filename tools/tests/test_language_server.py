@@ -8,12 +8,15 @@ import subprocess
 import sys
 import time
 
-from lib.bundles import read
+from lib.bundles import Refused, read
+from lib.completing import completions
 from lib.cursor import Fault
+from lib.describing import described
 from lib.edited import Edited
+from lib.folding import foldings
 from lib.grammar import package_of
 from lib.grammar import read as read_design_tree
-from lib.language_server import Server, completions, diagnostics
+from lib.language_server import Server, diagnostics, places_of
 from lib.recovering import read_all
 from tests.common import TOP, WITHIN, Skipped, built, expect, page
 from tests.test_traps import LAW
@@ -139,6 +142,86 @@ def test_all_errors_in_one_run():
     expect(characters, {"line": 0, "character": 5}, "characters of UTF-16")
 
 
+TURN = page("examples/turn_controller.aadl")
+
+
+def test_types_are_renamed():
+    """The name of a type or an implementation changes at all its places, and at no other name of the same letters."""
+    server = Server([].append, "0")
+    server.take(URI, TURN.replace(" l: thread Surface.impl", " surface: thread Surface.impl"))
+    edited = server.texts[URI]
+
+    def renamed(needle, more, name):
+        params = {"textDocument": {"uri": URI}, "position": edited.position(edited.text.index(needle) + more)}
+        expect(server.on_preparerename(params)["start"], edited.position(edited.text.index(needle) + more), needle)
+        edits = server.on_rename({**params, "newName": name})["changes"][URI]
+        return [it["range"]["start"]["line"] + 1 for it in edits]
+
+    expect(renamed("Surface features", 0, "Fin"), [19, 23, 24, 33, 38, 39, 40], "a type")
+    expect(renamed("Surface.impl {Period => 5", 0, "Fin"), [19, 23, 24, 33, 38, 39, 40], "a type in an implementation")
+    expect(renamed("Main.impl annex", 5, "plain"), [13, 18, 37], "an implementation of one type")
+    for name in ("main", "end", "a.b"):
+        try:
+            renamed("Surface features", 0, name)
+        except Refused:
+            continue
+        expect(name, "an error", "a name that is taken or not allowed")
+
+
+def test_adaptors_fit_the_rates():
+    """In the string of an adaptor the adaptors that the rates allow are offered, also while the string is open."""
+    numbers = ["first", "last", "latest", "max", "min", "average"]
+    for name, wanted in (("c3", ["repeat", "first", "last", *(f"at {at}" for at in range(1, 5))]),
+                         ("c5", [*numbers, "at 1", "at 2"]), ("c6", [*numbers, *(f"at {at}" for at in range(1, 5))])):
+        begin = TURN.index('"', TURN.index(f" {name}: port")) + 1
+        for text in (TURN, TURN[:begin] + TURN[TURN.index("\n", begin) :]):
+            found = [it["label"] for it in completions(Edited(text), begin)]
+            expect(found, wanted, f"adaptors of {name}")
+    empty = 'PALS_Profile::Input_Adaptor => "";'
+    equal = TURN.replace("l.target {Timing => Delayed;", "l.target {Timing => Delayed; " + empty)
+    expect(completions(Edited(equal), equal.index('""') + 1), [], "equal rates")
+
+
+def test_the_minimum_period_is_described():
+    """It is shown at the period of the root and at the root's name: the example of docs/bound.md."""
+    for needle in ("Period => 20", "Top.impl\n"):
+        found = described(Edited(TURN), TURN.index(needle) + (4 if needle.startswith("Top") else 0))
+        expect("minimum period by the bound: 12 ms" in found, True, f"{needle} {found}")
+    expect("12 ms" in " ".join(described(Edited(TURN), TURN.index("Period => 10"))), False, "the period of a thread")
+    odd = TURN.replace("{Period => 10 ms;}", "{Period => 7 ms;}").replace("Period => 20 ms", "Period => 63 ms")
+    odd = odd.replace("m: thread Main.impl", "m: thread Main.impl {Period => 9 ms;}").replace("{Period => 5 ms;}", "")
+    found = described(Edited(odd), odd.index("Period => 63"))[-1]
+    wanted = "minimum period by the bound: 27 ms; the shortest one that every rate divides: 27.000036 ms"
+    expect(found, wanted, "rates 7 and 9")
+
+
+def test_parts_are_folded():
+    """Declarations, sections and comments, by the lines of the example; an unfinished text has its complete parts."""
+    lines = [(it["startLine"] + 1, it["endLine"] + 1) for it in foldings(Edited(TURN))]
+    expect(lines, [(1, 2), (5, 12), (13, 18), (19, 23), (24, 33), (27, 31), (35, 49), (36, 40), (41, 48), (51, 57),
+                   (54, 56)], "parts")
+    cut = TURN[: TURN.index("process implementation")]
+    expect(len(foldings(Edited(cut))), 6, "parts of a text without an end")
+
+
+def test_answers_are_quick():
+    """On a text of 300 lines each answer takes less than a tenth of a second of the processor."""
+    kind = TURN[TURN.index("thread Surface") : TURN.index("process Plane")]
+    text = TURN.replace("process Plane features", "".join(kind.replace("Surface", f"Fin{at}") for at in range(17))
+                        + "process Plane features")
+    expect(text.count("\n") > 300, True, "lines")
+    middle = text.index("Fin8.impl annex")
+    for name, work in (("diagnostics", diagnostics), ("completion", lambda it: completions(it, middle)),
+                       ("hover", lambda it: described(it, middle)), ("folding", foldings),
+                       ("adaptors", lambda it: completions(it, text.index('"repeat') + 1))):
+        took = []
+        for _ in range(3):
+            begun = time.process_time()
+            work(Edited(text))
+            took.append(time.process_time() - begun)
+        expect(min(took) < 0.1, True, f"{name}: {min(took):.3f} s")
+
+
 def test_readable_texts_have_their_tree():
     """On the examples the reader that recovers has no error and the tree of the grammar; else its first error."""
     for path in DESIGNS:
@@ -176,9 +259,14 @@ def test_cut_and_changed_texts():
         for _ in range(chance.randint(1, 4)):
             at = chance.randrange(len(text))
             text[at : at + chance.randint(0, 9)] = chance.choice(["", ";", "end", "{", "**}", '"', "x.y", "->", "\x00"])
-        edited = Edited("".join(text))
+        begun, edited = time.process_time(), Edited("".join(text))
+        at = chance.randrange(len(edited.data) + 1)
         diagnostics(edited)
-        completions(edited, chance.randrange(len(edited.data) + 1))
+        completions(edited, at)
+        described(edited, at)
+        places_of(edited, at)
+        foldings(edited)
+        expect(time.process_time() - begun < 1, True, "".join(text))
 
 
 def test_formatting():

@@ -108,6 +108,9 @@ CHANGES = [
      "\n c5: port odometer.speed -> spare.speed {Timing => Delayed; PALS_Profile::Input_Adaptor => \"at 3\";};\n",
      ["shared-input"]),
     ("no brake", "brake!(speed > limit)", "", ["unread-port", "unread-port", "unset-port"]),
+    ("unconnected", " brake: out data port Base_Types::Boolean;\nend Cab",
+     " brake: out data port Base_Types::Boolean; spare: out data port Base_Types::Boolean;\nend Cab",
+     ["unconnected-port"]),
     ("no scenario value", None, '%%%\n{"rounds": 2, "inputs": {"limit": [null]}}', ["no-input"]),
     ("unread", "states s: initial complete state;\ntransitions s -[on dispatch]-> s {brake",
      "variables w: Base_Types::Integer;\nstates s: initial complete state;\ntransitions s -[on dispatch]-> s {w := 1; "

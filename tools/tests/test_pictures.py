@@ -1,16 +1,22 @@
 """Pictures, tables and waves."""
 
 import os
+import shutil
 import sys
 import tempfile
 import xml.dom.minidom
+from collections import namedtuple
 
 from lib.bundles import read
 from lib.crate_picture import CratePicture
 from lib.crates import chains, dependencies, direct, purposes
+from lib.graph import Box, Wire
+from lib.graph_dot import dot_text, drawn_by_dot
 from lib.rows import Report
-from tests.common import EXAMPLES, TOP, answers, expect, page, tool
+from tests.common import EXAMPLES, TOP, Skipped, answers, expect, page, tool
 
+# The parts of a design that are drawn.
+Shown = namedtuple("Shown", "boxes wires")
 
 PICTURES = [
     ("accepted_round", ["timeline", "examples/turn_world.pals"], "turn_world.world"),
@@ -18,7 +24,7 @@ PICTURES = [
     ("lost_message", ["timeline", "examples/lost_message.pals"], "lost_message.journal"),
     ("trace", ["timeline", "examples/turn_trace.pals"], "turn_trace.audit"),
     ("values", ["plot", "--watch", "examples/pacemaker_watch.watch", "controller.pacer", "pace"], "pacemaker.rounds"),
-    ("design", ["graph", "examples/turn_controller.aadl"], None),
+    ("design", ["graph", "--layout", "own", "examples/turn_controller.aadl"], None),
     ("timetable", ["timetable"], "turn_budget.budget"),
     ("crates", ["crate_graph"], None),
 ]
@@ -41,6 +47,24 @@ def expect_picture(picture, drawn):
     expect(read(path) == drawn, True, f"{path} is not what is drawn")
 
 
+def test_the_text_for_graphviz():
+    """It has each process as a cluster and each link as an edge; `dot` draws it, also with names that are markup."""
+    status, text, _ = tool("graph", "--dot", "examples/turn_controller.aadl")
+    lines = text.decode().split("\n")
+    parts = sum("subgraph" in line for line in lines), sum(" -> " in line for line in lines)
+    expect((status, *parts), (0, 1, 7), "parts")
+    expect(tool("graph", "--dot", "--layout", "own", "examples/turn_controller.aadl")[0], 2, "two forms")
+    if not shutil.which("dot"):
+        raise Skipped("dot is not installed (Debian: graphviz)")
+    boxes = {("thread", name): Box(name, 'rate "1"', "k0") for name in ('a.<b>&"', "a.b.{c|d}")}
+    wires = [Wire(("thread", "a.b.{c|d}"), ("thread", 'a.<b>&"'), "at 1 \\N-->", "note <i>", "wire")]
+    drawn = drawn_by_dot(dot_text(Shown(boxes, wires), "The <design>"))
+    texts = [it.firstChild.data for it in xml.dom.minidom.parseString(drawn.encode()).getElementsByTagName("text")]
+    expect({'<b>&"', "at 1 \\N-->", "{c|d}", "The <design>"} <= set(texts), True, f"{texts}")
+    drawn = tool("graph", "examples/turn_controller.aadl")[1].decode()
+    expect((drawn.count('class="node"'), "average, 3 of 4" in drawn, "xlink:title" in drawn), (5, True, False), "drawn")
+
+
 def test_the_picture_of_the_crates_is_whole():
     """It has a box for each crate but the tests, in as many rows as the longest chain has crates."""
     below, shown = dependencies(page("crates.txt")), purposes(page("docs/crates.md"))
@@ -59,7 +83,7 @@ def test_pictures_of_what_is_made():
             with open(os.path.join(folder, name), "wb") as file:
                 file.write(tool(*words)[1])
         world = tool("timeline", "examples/two_counters.aadl", os.path.join(folder, "world.json"))
-        graph = tool("graph", os.path.join(folder, "car.aadl"))
+        graph = tool("graph", "--layout", "own", os.path.join(folder, "car.aadl"))
     for picture, (status, drawn, said) in (("random_world", world), ("imported", graph)):
         expect((status, said), (0, ""), picture)
         expect_picture(picture, drawn)

@@ -11,7 +11,7 @@ from tests.common import EXAMPLES, TOP, WITHIN, Skipped, built, expect, on_bundl
 TOOLS = ("bundle", "explain", "lint", "timeline", "rows2csv", "rows2vcd", "fail_alloc", "big_bundles", "on_files",
          "watch_files", "release", "gate_cost", "plot", "graph", "timetable", "report", "world", "inputs", "campaign",
          "import", "join", "bounds", "code2c", "same", "promises", "surface", "prove",
-         "cover", "latency", "watch")
+         "cover", "latency", "watch", "new", "install", "crate_graph", "language_server")
 LONG = "9" * 5000
 ANSWERS = [
     b"flat x\n", b"text 1 Syntax\n", b"text 99999:99999 Syntax\n", b"text 1:1 Syntax\n", b"text 2:3 NotUtf8\n",
@@ -91,6 +91,21 @@ def test_each_tool_helps():
                f"{name} --help\n{text.decode()}")
         status, text, said = ran(name, "--nothing")
         expect((status, text, b"usage: " in said), (2, b"", True), f"{name} --nothing\n{said.decode()}")
+
+
+def test_options_may_be_anywhere():
+    """Options before and after files, with `=`, and files after `--`; wrong ones are a wrong use, with the reason."""
+    design = "examples/two_counters.aadl"
+    for words, wanted, reason in (
+            ([design, "--root", "Top.impl"], 0, ""), (["--root=Top.impl", design], 0, ""), (["--", design], 0, ""),
+            (["--roo", "Top.impl", design], 2, "unknown option --roo"), ([design, "--root"], 2, "--root"),
+            (["--format", "xml", design], 2, "'xml'"), ([design] * 3, 2, f"unexpected argument {design}"),
+            (["--input", "i=1", design], 2, "--dead"), ([], 2, "expected")):
+        status, _, said = tool("lint", *words)
+        expect((status, reason in said, "usage: tools/lint" in said), (wanted, True, wanted == 2), f"{words} {said}")
+    for words in (["--all", "--count", "5"], ["--rows", "r", "--expect", "p"], ["--fast", "--strict"], ["--jobs", "0"]):
+        status, _, said = tool("campaign", *words, design)
+        expect((status, words[0] in said or words[1] in said), (2, True), f"campaign {words} {said}")
 
 
 def test_outputs_that_take_nothing():

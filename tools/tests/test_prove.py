@@ -112,7 +112,7 @@ def test_answers_on_random_designs():
     proved = false = 0
     for seed in range(40 if MORE else 6):
         text, _ = made(5000 + seed, 1)
-        opened = Opened(text.encode(), b"", {"--program": built(), "--code": built("pals_code")}, "made")
+        opened = Opened(text.encode(), b"", "made", program=built(), code=built("pals_code"))
         if len(opened.machine.terms.nodes) > 500:
             continue
         texts, chance = Texts(random.Random(seed), opened.listing), random.Random(seed)

@@ -204,7 +204,7 @@ def test_campaigns_compare_with_a_file():
                 ("less_rows", [], 1, "the row is false first in round 4"), ("short_rows", [], 1, "use --rounds 9"),
                 ("short_rows", ["--rounds", "9"], 0, "none is false"), ("bad_rows", [], 1, "no row"),
                 ("all_rows", ["--input", "beat=true"], 1, "false first in round 2"),
-                ("all_rows", ["--expect", files.path("one")], 2, "take one of")):
+                ("all_rows", ["--expect", files.path("one")], 2, "not allowed with")):
             status, _, heard = campaign(files.path("one"), "--rows", files.path(name), *words)
             expect((status, said in heard), (wanted, True), f"--rows {name} {words}: {heard}")
 

@@ -13,22 +13,18 @@ from ..rows import Report
 from .evaluate import Run
 from .machine import Machine
 
-# Options that each command of this package takes, each with a word.
-OPTIONS = ("--root", "--program", "--code")
-
 
 class Opened:
     """A design and its scenario, with the programs that are asked about them."""
 
-    def __init__(self, design, scenario, options, where):
+    def __init__(self, design, scenario, where, root=None, program=None, code=None):
         self.design, self.given = design if design.endswith(b"\n") else design + b"\n", scenario
         self.declared = declared_in(self.design)
         if self.declared is None:
             raise Refused(f"{where}: not a text of the language; ./pals check reports the position")
-        self.root = root_of(self.declared, options.get("--root")).name.text
-        self.program = program_at(options.get("--program"))
-        code = code_program_at(options.get("--code"))
-        self.listing = read_listing(listing_of(code, self.root, self.design))
+        self.root = root_of(self.declared, root).name.text
+        self.program = program_at(program)
+        self.listing = read_listing(listing_of(code_program_at(code), self.root, self.design))
         self.machine = Machine(self.listing)
 
     def scenario(self):
@@ -93,12 +89,12 @@ def shown(kind, value):
     return str(bool(value)).lower() if kind == "Boolean" else str(int(value))
 
 
-def opened_files(files, options):
+def opened_files(files, root=None, program=None, code=None):
     """The design and the scenario in one file or in two. A design has no scenario if its file has only it."""
     if len(files) == 1 and files[0].endswith(".aadl"):
-        return Opened(without_mark(read(files[0])), b"", options, files[0])
+        return Opened(without_mark(read(files[0])), b"", files[0], root, program, code)
     bundle = bundle_of(*files)
-    return Opened(bundle.design, bundle.scenario, options, files[0])
+    return Opened(bundle.design, bundle.scenario, files[0], root, program, code)
 
 
 def listing_of(code, root, design):

@@ -31,9 +31,9 @@ class Progress:
 def guarded(name, main):
     """A command whose own faults have a status of their own."""
 
-    def work(words):
+    def work(given):
         try:
-            return main(words)
+            return main(given)
         except Fault as why:
             print(f"{name}: this tool has a fault: {why}", file=sys.stderr)
             return WRONG

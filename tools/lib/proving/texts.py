@@ -3,17 +3,15 @@
 from ..bundles import Refused, read
 from .formula_text import read_properties, read_property
 
-# The options that have properties as text.
-PROPERTY, PROPERTIES = "--property", "--properties"
 
-
-def properties_of(opened, options):
-    """All properties by their names; a later one replaces an earlier one of its name."""
+def properties_of(opened, texts, path=None):
+    """All properties by their names: of the scenario, of a file if there is a path, and of texts. A later one replaces
+    an earlier one of its name."""
     found = opened.scenario().get("properties")
     found = dict(found) if isinstance(found, dict) else {}
-    if options.get(PROPERTIES):
-        found.update(read_properties(read(options[PROPERTIES]).decode("utf-8", "replace"), opened.listing))
-    for text in options.get(PROPERTY) or []:
+    if path:
+        found.update(read_properties(read(path).decode("utf-8", "replace"), opened.listing))
+    for text in texts:
         name, form = read_property(text, opened.listing)
         found[name] = form
     if not found:
