@@ -59,6 +59,11 @@ class Tables:
             f"    {name}_frame frame;", f"    pals_value slots[{slots}];", f"    bool full[{links}];",
             f"    pals_value ins[{ins}];", f"    pals_value outs[{outs}];",
             f"    pals_value values[{max(1, component.rate, len(component.outs))}];", f"}} {name}_node;", "",
+            f"/* What the node of {component.path} saves of a round: only for {name}_save_at. */",
+            "typedef struct {", "    pals_checkpoint of;", f"    {name}_frame frame;", f"    pals_value slots[{slots}];",
+            f"}} {name}_saved;", "",
+            "/* Lets the node save what a round begins with (pals_save_at), for pals_resume. */",
+            f"void {name}_save_at({name}_node *of, {name}_saved *to, uint64_t round);", "",
             "/* The node before its first round, of a run of `rounds` rounds; 0: no end. */",
             f"pals_node *{name}_open({name}_node *of, const pals_hooks *hooks, void *user, uint64_t rounds);", "",
             "#endif", ""])
@@ -103,12 +108,15 @@ class Tables:
             f"    {len(component.ins)}, {len(component.outs)}, {len(component.variables)},",
             f"    {many['links']}, {many['inputs']}, {many['targets']},",
             f"    {at['links']}, {at['inputs']}, {at['targets']}, {at['outputs']}, {many['outputs']},",
+            f"    (uint32_t)sizeof({name}_frame),",
             f"    {name}_init_of, {name}_step_of, &{name}_names", "};", "",
             f"pals_node *{name}_open({name}_node *of, const pals_hooks *hooks, void *user, uint64_t rounds)", "{",
             "    const pals_memory memory = {&of->frame, of->slots, of->full, of->ins, of->outs,",
             "                                of->values};",
             f"    pals_open(&of->node, &{name}_component, &memory, hooks, user, rounds);", "    return &of->node;", "}",
-            ""])
+            "", f"void {name}_save_at({name}_node *of, {name}_saved *to, uint64_t round)", "{",
+            "    to->of = (pals_checkpoint){.frame = &to->frame, .slots = to->slots};",
+            "    pals_save_at(&of->node, &to->of, round);", "}", ""])
 
     def is_near(self, link):
         """Whether a link begins or ends at a chosen component."""

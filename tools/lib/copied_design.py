@@ -2,8 +2,8 @@
 
 Each component has a type and an implementation of its own. In the first rounds of the copy, the **entry**, components
 send what the design has sent: so the in ports hold what they held, and the messages of the last round are on their way.
-After the entry, each component is in its state and runs the design's own transitions. Each out port that a link reads
-is shown by an out port of the root, so the rows have the messages."""
+After the entry, each component is in its state and runs the design's own transitions. Out ports of the root can show
+each out port that a link reads: then the rows have the messages."""
 
 from .copied_thread import ThreadMaker, section
 from .model import adaptor_of, ports_of
@@ -12,9 +12,10 @@ from .tree import property_of
 
 
 class CopiedDesign:
-    """The copy of a design, below a root, that begins with a round."""
+    """The copy of a design, below a root, that begins with a round. `shows` states whether the root shows all messages.
+    """
 
-    def __init__(self, design, model, start):
+    def __init__(self, design, model, start, shows=True):
         self.model, self.start, self.texts, self.count = model, start, [], 0
         words = {word_of(token).lower() for token in tokens_of(design)}
         self.prefix = next(prefix for prefix in ("x" * more + "entry" for more in range(60))
@@ -24,7 +25,7 @@ class CopiedDesign:
         self.shown = {}
         for thread, port in model.in_ports():
             source = model.came_from(f"{thread.path}.{port.name.text}")
-            if source and source.thread:
+            if shows and source and source.thread:
                 key = (source.thread.path.lower(), source.port.lower())
                 self.shown.setdefault(key, f"{self.prefix}_{len(self.shown)}")
 

@@ -25,6 +25,14 @@ class Entry:
         """The root out ports of the copy that show a node."""
         return [name for name, (thread, _) in self.outputs.items() if thread == path.lower()]
 
+    def entered(self, path, record, rounds):
+        """The record of a node after the first rounds of the entry, with these rounds before it."""
+        rows = {number: self.row(path, number) for number in range(rounds)}
+        outs = {(number, name): self.out(name, self.start.sent[number]) for number in range(rounds)
+                for name in self.outputs_of(path)}
+        return record._replace(lines=[*self.lines(path, rounds), *record.lines], rows={**rows, **record.rows},
+                               outs={**outs, **record.outs})
+
     def lines(self, path, rounds):
         """The lines of a node in the first rounds of the entry, with the arrivals of their messages."""
         links = [link for link, (_, target) in self.nodes.links.items() if target == path]

@@ -12,7 +12,7 @@ from .joined_bundle import MOST_LINES, MOST_ROUNDS, bundle_text
 from .joining import Joined
 from .model import Model, declared_in, root_of
 from .nodes_of import nodes_of
-from .record_parts import shifted
+from .record_parts import moved_line
 from .round_start import Course
 from .tree import behaviour_of
 
@@ -120,17 +120,13 @@ class Windows:
         window."""
         record, start, lines = self.records[path], made.start, self.lines[path]
         moved, unseen = start.round - len(start.sent), max(len(start.sent) - 1, 0)
-        own = [*made.lines(path, unseen), *(moved_line(line, moved, self.nodes.period) for number in rounds
-                                            for line in lines.get(number, ()))]
-        rows = {number: made.row(path, number) for number in range(unseen)}
-        rows.update((number - moved, record.rows[number]) for number in rounds if number in record.rows)
+        own = [moved_line(line, moved, self.nodes.period) for number in rounds for line in lines.get(number, ())]
+        rows = {number - moved: record.rows[number] for number in rounds if number in record.rows}
         shown = {(number - moved, name): record.outs[number, name] for number in rounds for name in self.nodes.outputs
                  if (number, name) in record.outs}
-        for name in made.outputs_of(path):
-            for number, sent in enumerate([*start.sent, *outs]):
-                if number < unseen or name not in self.nodes.outputs:
-                    shown[number, name] = made.out(name, sent)
-        return record._replace(lines=own, rows=rows, outs=shown, held=None, notes=[])
+        for name in set(made.outputs_of(path)).difference(self.nodes.outputs):
+            shown.update(((number, name), made.out(name, sent)) for number, sent in enumerate([*start.sent, *outs]))
+        return made.entered(path, record._replace(lines=own, rows=rows, outs=shown, held=None, notes=[]), unseen)
 
     def inputs(self, start):
         """The inputs of a window."""
@@ -144,10 +140,3 @@ class Windows:
 def size_of(sent):
     """The bytes of the out lines of a round at most."""
     return sum(OF_OUT + sum(len(str(value)) + 1 for value in places) for places in sent.values())
-
-
-def moved_line(line, moved, period):
-    """A line with its round and its reading counted from a later round."""
-    words = shifted(" ".join(line.words), moved, period).split(" ")
-    reading = None if line.reading is None else max(0, line.reading - moved * period)
-    return line._replace(round=line.round - moved, reading=reading, words=words)
