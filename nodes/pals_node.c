@@ -122,7 +122,8 @@ void pals_restart(pals_node *node, uint64_t round, int64_t reading)
 }
 
 /* Copies a frame and the slots. */
-static void copy(const pals_component *of, void *frame, pals_value slots[], const void *from, const pals_value of_from[])
+static void copy(const pals_component *of, void *frame, pals_value slots[], const void *from,
+                 const pals_value of_from[])
 {
     for (uint32_t i = 0; i < of->frame_size; i++) {
         ((uint8_t *)frame)[i] = ((const uint8_t *)from)[i];

@@ -171,9 +171,9 @@ void pals_restart(pals_node *node, uint64_t round, int64_t reading);
    nodes have to save one round, if they are to resume. */
 void pals_save_at(pals_node *node, pals_checkpoint *checkpoint, uint64_t round);
 
-/* Sets a node, in any phase, before a round that it begins as it began the saved one: with the saved frame, and with the
-   saved messages as those of the round before. Returns false, and changes nothing, if no round is saved. All nodes have
-   to resume at one round, with what they saved of one round. */
+/* Sets a node, in any phase, before a round that it begins as it began the saved one: with the saved frame, and with
+   the saved messages as those of the round before. Returns false, and changes nothing, if no round is saved. All nodes
+   have to resume at one round, with what they saved of one round. */
 bool pals_resume(pals_node *node, uint64_t round, int64_t reading);
 
 /* A message of a round has arrived on a link. It is rejected if the link does not go to this node, if it has another

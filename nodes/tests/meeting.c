@@ -2,8 +2,8 @@
    target to the next. Messages take the delays of the scenario, and a node checks for them only before a start, as in
    `pals run` without `clocks`. It writes `PATH LINE` for each line that a node records, up to the first stop.
 
-   With the arguments SAVE LOST AGAIN all nodes save the round SAVE, the message of the round LOST of link 0 is lost, and
-   after the stop all nodes resume at the round AGAIN. */
+   With the arguments SAVE LOST AGAIN all nodes save the round SAVE, the message of the round LOST of link 0 is lost,
+   and after the stop all nodes resume at the round AGAIN. */
 #include <stdio.h>
 #include <stdlib.h>
 #include "design.h"

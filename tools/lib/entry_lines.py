@@ -1,5 +1,5 @@
-"""What the nodes of a copied design do in the rounds of its entry that no node has recorded: each acts at the readings of
-its alarms, and each message arrives for the start that reads it."""
+"""What the nodes of a copied design do in the rounds of its entry that no node has recorded: each acts at the readings
+of its alarms, and each message arrives for the start that reads it."""
 
 from .copied_thread import is_boolean
 from .model import ports_of

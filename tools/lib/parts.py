@@ -14,8 +14,8 @@ from .record_parts import moved_line, part_of, saved_of
 from .records import read_record
 from .round_start import Course
 
-# A part: a bundle with its design, its scenario, its nodes and records, the round of the run at which it begins, how many
-# rounds its entry has, and the saved round that it continues (None if it begins with the initial frames).
+# A part: a bundle with its design, its scenario, its nodes and records, the round of the run at which it begins, how
+# many rounds its entry has, and the saved round that it continues (None if it begins with the initial frames).
 Part = namedtuple("Part", "bundle scenario nodes records first entry saved")
 
 
@@ -78,7 +78,7 @@ class Parts:
         made, entry = from_round(self.scenario, first), len(start.sent)
         if "rounds" in made:
             made["rounds"] += entry
-        if "inputs" in made:
-            made["inputs"] = {name: [*(it.get(name.lower()) for it in start.inputs), *values] if isinstance(values, list)
-                              else values for name, values in made["inputs"].items()}
+        for name, values in made.get("inputs", {}).items():
+            if isinstance(values, list):
+                made["inputs"][name] = [*(it.get(name.lower()) for it in start.inputs), *values]
         return made

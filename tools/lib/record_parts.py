@@ -1,6 +1,6 @@
-"""The parts of a record between restarts. All nodes restart at one round R, so the part from there on is a run by itself:
-its rounds are counted from R, and its readings from the time R * T. It begins with the initial frames (`restart`), or as
-an earlier round began that all nodes saved (`resume`)."""
+"""The parts of a record between restarts. All nodes restart at one round R, so the part from there on is a run by
+itself: its rounds are counted from R, and its readings from the time R * T. It begins with the initial frames
+(`restart`), or as an earlier round began that all nodes saved (`resume`)."""
 
 import re
 

@@ -42,7 +42,7 @@ def rounds_of(text):
 
 
 def test_a_saved_round_is_continued():
-    """After a lost message all nodes of the turn controller resume; their trace is sound, and goes on as round 3 did."""
+    """After a lost message all nodes of the turn controller resume; their trace is sound, and continues as round 3."""
     text, given = page("examples/turn_controller.aadl"), {"rounds": ROUNDS, "inputs": {"goal": [10, None, 4]}}
     program = program_of(page("examples/turn_controller.listing"), "tests/meeting.c", compilers()[0], CHECKED)
     output = program.run(given, str(SAVED), str(LOST), str(AGAIN))
@@ -68,7 +68,8 @@ def test_wrong_saved_rounds_are_found():
     expect((status, audit_of(joined)), (0, (1, "wrong 4 row\n")), said)
     other = output.replace(f"p.b save p.b {SAVED} ", f"p.b save p.b {SAVED + 1} ")
     status, _, said = join_part(text, given, other, 1)
-    expect((status, said), (1, "join: in part 1 the nodes continue different saved rounds, or some of them none\n"), said)
+    wanted = "join: in part 1 the nodes continue different saved rounds, or some of them none\n"
+    expect((status, said), (1, wanted), "different saved rounds")
 
 
 def test_random_designs_resume():
