@@ -84,7 +84,7 @@ def wrong_operators(header):
         path = os.path.join(folder, "pals_step.h")
         with open(path, "w", encoding="ascii") as file:
             file.write(header)
-        status, written, said = tool("same", "--operators", path)
+        status, written, said = tool("same", "--seconds", "300", "--operators", path)
     found = dict(re.findall(r"(?m)^(\S+) (.*) [\d.]+ s$", written.decode()))
     expect((said, len(found)), ("", 8), "what same says")
     wrong = {name for name, result in found.items() if result != "same"}
