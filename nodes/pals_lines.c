@@ -52,7 +52,8 @@ uint32_t pals_line(char to[PALS_LINE], const pals_node *node, const pals_record 
 {
     static const char *const EVENTS[] = {"start ",      "step ",        "finish ", "send ",    "arrive ",
                                          "",            "stop early ",  "stop missed ",        "hold ",
-                                         "restart ",    "# trap ",      "# unsent ",           "# stop clock "};
+                                         "restart ",    "# trap ",      "# unsent ",           "# stop clock ",
+                                         "save ",       "resume "};
     static const char *const ARRIVED[] = {" kept", " ignored", " early", ""};
     static const char *const TRAPS[] = {"", " overflow", " zero-divisor", " bad-state"};
     const bool of_link = (record->event == PALS_ARRIVED) || (record->event == PALS_STOP_EARLY) ||

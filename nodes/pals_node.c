@@ -71,27 +71,40 @@ static bool is_last_round(const pals_node *node)
 
 /* --------------------------------------------------------------------------------------------------- messages */
 
-/* Sets a node before a round, which is its first one: all slots are empty, and the frame is the initial one. */
-static void begin_at(pals_node *node, uint64_t round)
+/* The number of slots of all links together. */
+static uint32_t slots_of(const pals_component *of)
 {
-    const pals_component *of = node->of;
-    pals_value *slot = node->memory.slots;
+    uint32_t count = 0;
     for (uint32_t l = 0; l < of->links; l++) {
-        for (uint32_t i = 0; i < of->link[l].rate; i++) {
-            slot[i] = PALS_ABSENT;
-        }
-        slot = &slot[of->link[l].rate];
-        node->memory.full[l] = false;
+        count += of->link[l].rate;
     }
-    node->first = round;
+    return count;
+}
+
+/* Sets a node before a round, which is its first one; if it reads messages, they are in the slots. */
+static void set_before(pals_node *node, uint64_t round, bool reads)
+{
+    for (uint32_t l = 0; l < node->of->links; l++) {
+        node->memory.full[l] = reads;
+    }
+    node->reads = reads;
     node->count = round;
     node->steps = 0;
     node->sent = true;
     node->degraded = false;
     node->halted = false;
-    node->alarm = ((int64_t)round + 1) * of->period;
+    node->alarm = ((int64_t)round + 1) * node->of->period;
     node->phase = is_last_round(node) ? PALS_DONE : PALS_WAITING;
-    of->init(node->memory.frame);
+}
+
+/* Sets a node before a round with the initial frame and empty slots. */
+static void begin_at(pals_node *node, uint64_t round)
+{
+    for (uint32_t i = 0; i < slots_of(node->of); i++) {
+        node->memory.slots[i] = PALS_ABSENT;
+    }
+    node->of->init(node->memory.frame);
+    set_before(node, round, false);
 }
 
 void pals_open(pals_node *node, const pals_component *of, const pals_memory *memory, const pals_hooks *hooks,
@@ -106,6 +119,50 @@ void pals_restart(pals_node *node, uint64_t round, int64_t reading)
     set_reading(node, reading);
     begin_at(node, round);
     record(node, PALS_RESTARTED, 0, round, PALS_KEPT);
+}
+
+/* Copies a frame and the slots. */
+static void copy(const pals_component *of, void *frame, pals_value slots[], const void *from,
+                 const pals_value of_from[])
+{
+    for (uint32_t i = 0; i < of->frame_size; i++) {
+        ((uint8_t *)frame)[i] = ((const uint8_t *)from)[i];
+    }
+    for (uint32_t i = 0; i < slots_of(of); i++) {
+        slots[i] = of_from[i];
+    }
+}
+
+void pals_save_at(pals_node *node, pals_checkpoint *checkpoint, uint64_t round)
+{
+    checkpoint->round = round;
+    checkpoint->saved = false;
+    node->checkpoint = checkpoint;
+}
+
+/* Saves what the next round begins with, if the checkpoint is for it. */
+static void save(const pals_node *node)
+{
+    pals_checkpoint *to = node->checkpoint;
+    if ((to != NULL) && (to->round == node->count)) {
+        copy(node->of, to->frame, to->slots, node->memory.frame, node->memory.slots);
+        to->reads = node->reads;
+        to->saved = true;
+        record(node, PALS_SAVED, 0, node->count, PALS_KEPT);
+    }
+}
+
+bool pals_resume(pals_node *node, uint64_t round, int64_t reading)
+{
+    const pals_checkpoint *from = node->checkpoint;
+    if ((from == NULL) || !from->saved) {
+        return false;
+    }
+    set_reading(node, reading);
+    copy(node->of, node->memory.frame, node->memory.slots, from->frame, from->slots);
+    set_before(node, round, from->reads);
+    record(node, PALS_RESUMED, 0, round, PALS_KEPT);
+    return true;
 }
 
 /* Whether these are values of a link. */
@@ -158,7 +215,7 @@ pals_arrived pals_arrive(pals_node *node, uint32_t link, uint64_t round, const p
 static uint32_t missed(const pals_node *node)
 {
     uint32_t l = 0;
-    if (node->count == node->first) {
+    if (!node->reads) {
         return node->of->links;
     }
     while ((l < node->of->links) && node->memory.full[l]) {
@@ -186,7 +243,7 @@ static void take_ins(pals_node *node)
         node->memory.ins[i] = PALS_ABSENT;
     }
     for (uint32_t l = 0; l < of->links; l++) {
-        if (node->count > node->first) {
+        if (node->reads) {
             feed(node, &of->link[l], slot);
         }
         slot = &slot[of->link[l].rate];
@@ -232,12 +289,15 @@ pals_answer pals_start(pals_node *node, int64_t reading)
             return PALS_MISSED;
         }
         hold(node);
+    } else {
+        save(node);
     }
     take_ins(node);
     for (uint32_t i = 0; i < (of->outs * of->rate); i++) {
         node->memory.outs[i] = PALS_ABSENT;
     }
     node->count += 1U;
+    node->reads = true;
     node->alarm += of->period;
     node->steps = 0;
     node->sent = false;

@@ -45,6 +45,7 @@ typedef struct {
     const pals_target *target;
     const pals_target *output; /* the root out ports that show the component, by their numbers */
     uint32_t outputs;
+    uint32_t frame_size;       /* in bytes */
     void (*init)(void *frame);
     int32_t (*step)(void *frame, const pals_value in[], pals_value out[]);
     const struct pals_names *names; /* only for pals_lines; may be NULL */
@@ -76,10 +77,10 @@ typedef enum { PALS_NOTHING, PALS_START, PALS_STEP, PALS_FINISH, PALS_SEND } pal
 /* The event of a record. PALS_ROW follows the last finish of a round: the frame and the outs then have the values at
    the end of the round. The events from PALS_HELD on are not actions of the theorem: a start with the last values of a
    link whose message is missing, a restart at a round, a step that trapped, a message that the transport did not
-   accept, and a stop by a clock that is not trusted. */
+   accept, a stop by a clock that is not trusted, a round that is saved, and a restart with a saved round. */
 typedef enum {
     PALS_STARTED, PALS_STEPPED, PALS_FINISHED, PALS_SENT, PALS_ARRIVED, PALS_ROW, PALS_STOP_EARLY, PALS_STOP_MISSED,
-    PALS_HELD, PALS_RESTARTED, PALS_TRAPPED, PALS_UNSENT, PALS_STOP_CLOCK
+    PALS_HELD, PALS_RESTARTED, PALS_TRAPPED, PALS_UNSENT, PALS_STOP_CLOCK, PALS_SAVED, PALS_RESUMED
 } pals_event;
 
 /* The reaction of a node to a start that misses a message: it stops; or it takes the last values of the link and
@@ -130,6 +131,15 @@ typedef struct {
     pals_value *values; /* the larger of outs and rate: the values of a step, or of a message */
 } pals_memory;
 
+/* Memory for what a round begins with: the frame, and the messages of the round before. */
+typedef struct {
+    void *frame;       /* the frame_size bytes of the component */
+    pals_value *slots; /* as many as the node has */
+    uint64_t round;    /* the round that is saved when it starts */
+    bool reads;        /* whether it reads messages */
+    bool saved;        /* whether it has started */
+} pals_checkpoint;
+
 struct pals_node {
     const pals_component *of;
     const pals_hooks *hooks;
@@ -138,7 +148,7 @@ struct pals_node {
     uint64_t rounds;   /* how many it makes; 0: no end */
     uint64_t count;    /* how many it has started */
     uint32_t steps;    /* how many of the round in hand are finished */
-    uint64_t first;    /* the first round, which reads no messages: 0, or that of a restart */
+    bool reads;        /* whether the next round reads messages: false before the first one, and after a restart */
     pals_policy policy;
     bool degraded;     /* whether a round was started with held values since the first one */
     bool halted;       /* whether a trap was recorded */
@@ -146,6 +156,7 @@ struct pals_node {
     bool sent;         /* whether round count - 1 is sent; true before the first */
     int64_t alarm;     /* of round count */
     int64_t reading;   /* the last one */
+    pals_checkpoint *checkpoint; /* NULL: saves nothing */
 };
 
 /* Opens a node before its first round. Its policy is PALS_STOPS; set `policy` for another one. */
@@ -155,6 +166,15 @@ void pals_open(pals_node *node, const pals_component *of, const pals_memory *mem
 /* Sets a node, in any phase, before a round that it begins as its first one: with the initial frame, without the
    messages of the round before. Messages of rounds before it are ignored. All nodes have to restart at one round. */
 void pals_restart(pals_node *node, uint64_t round, int64_t reading);
+
+/* Lets a node save what a round begins with, when it starts the round; it saves nothing if it holds a value there. All
+   nodes have to save one round, if they are to resume. */
+void pals_save_at(pals_node *node, pals_checkpoint *checkpoint, uint64_t round);
+
+/* Sets a node, in any phase, before a round that it begins as it began the saved one: with the saved frame, and with
+   the saved messages as those of the round before. Returns false, and changes nothing, if no round is saved. All nodes
+   have to resume at one round, with what they saved of one round. */
+bool pals_resume(pals_node *node, uint64_t round, int64_t reading);
 
 /* A message of a round has arrived on a link. It is rejected if the link does not go to this node, if it has another
    number of values, if a Boolean is neither 0 nor 1, and if the node has stopped. */

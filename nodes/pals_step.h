@@ -5,8 +5,14 @@
 #include <stdbool.h>
 #include <stdint.h>
 
+/* An attribute of values: where a number of 64 bits is aligned, a value takes 16 bytes, and as
+   -DPALS_PACKED=__attribute__((packed)) it takes 9. All sources have to be compiled with the same. */
+#ifndef PALS_PACKED
+#define PALS_PACKED
+#endif
+
 /* The value of a port in one step. The number is meaningless if the value is absent; for a Boolean it is 0 or 1. */
-typedef struct {
+typedef struct PALS_PACKED {
     int64_t number;
     bool present;
 } pals_value;

@@ -3,6 +3,7 @@
 #include <assert.h>
 #include <stdio.h>
 #include <string.h>
+#include "c_p_a_node.h"
 #include "design.h"
 
 #define MS INT64_C(1000000)
@@ -152,6 +153,21 @@ static void a_restart(void)
     assert((arrive(n, 0, 5, 1, 48 * MS) == PALS_EARLY));
 }
 
+/* A node that resumes begins a round as it began the saved one: with its frame, and with its messages. */
+static void a_saved_round(void)
+{
+    static c_p_a_saved saved;
+    pals_node *n = opened(0);
+    c_p_a_save_at((c_p_a_node *)n, &saved, 1);
+    assert(!pals_resume(n, 4, 0) && (pals_poll(n, 9 * MS) == 10 * MS) && (pals_poll(n, 10 * MS) == 18 * MS));
+    assert((arrive(n, 0, 0, 1, 11 * MS) == PALS_KEPT) && (pals_start(n, 18 * MS) == PALS_OK) && (records == 7U));
+    assert((pals_finish(n) == PALS_OK) && says("p.a s x=7") && (pals_send(n, 19 * MS) == PALS_OK));
+    assert((pals_start(n, 27 * MS) == PALS_MISSED) && pals_resume(n, 4, 30 * MS));
+    assert(says("resume p.a 4 30000000") && waits(n, PALS_START, 45 * MS));
+    assert((arrive(n, 0, 3, 1, 31 * MS) == PALS_IGNORED) && (pals_start(n, 45 * MS) == PALS_OK));
+    assert((pals_finish(n) == PALS_OK) && says("p.a s x=7"));
+}
+
 static void a_message_that_is_not_accepted(void)
 {
     pals_node *n = opened(1);
@@ -182,6 +198,7 @@ int main(void)
 {
     a_value_that_is_held();
     a_restart();
+    a_saved_round();
     a_message_that_is_not_accepted();
     a_clock_that_is_not_trusted();
     links();

@@ -1,7 +1,11 @@
 /* All nodes of a design in one process, in virtual time: all clocks show the same reading, which advances from one
    target to the next. Messages take the delays of the scenario, and a node checks for them only before a start, as in
-   `pals run` without `clocks`. It writes `PATH LINE` for each line that a node records, up to the first stop. */
+   `pals run` without `clocks`. It writes `PATH LINE` for each line that a node records, up to the first stop.
+
+   With the arguments SAVE LOST AGAIN all nodes save the round SAVE, the message of the round LOST of link 0 is lost,
+   and after the stop all nodes resume at the round AGAIN. */
 #include <stdio.h>
+#include <stdlib.h>
 #include "design.h"
 #include "messages.h"
 #include "records.h"
@@ -12,6 +16,7 @@ enum { MOST_NODES = 256 };
 static pals_node *nodes[MOST_NODES];
 static messages flying;
 static bool stopped;
+static uint64_t lost = UINT64_MAX;
 
 static bool on_send(void *user, uint32_t link, uint64_t round, const pals_value values[], uint32_t count)
 {
@@ -19,7 +24,9 @@ static bool on_send(void *user, uint32_t link, uint64_t round, const pals_value 
     const int64_t due = node->reading + scenario_delay(link, round, pals_network_least);
     const message sent = message_of(due, link, round, values, count);
     (void)user;
-    messages_add(&flying, &sent);
+    if ((link != 0U) || (round != lost)) {
+        messages_add(&flying, &sent);
+    }
     return true;
 }
 
@@ -77,7 +84,38 @@ static void act(uint32_t number, int64_t reading)
     }
 }
 
-int main(void)
+/* Runs up to a stop, or up to the end; returns the last reading. */
+static int64_t run(void)
+{
+    int64_t last = 0;
+    for (int64_t reading = next_reading(); (reading != PALS_NEVER) && !stopped; reading = next_reading()) {
+        last = reading;
+        for (uint32_t j = 0; (j < pals_nodes) && !stopped; j++) {
+            act(j, reading);
+        }
+    }
+    return last;
+}
+
+/* Lets all nodes save a round. */
+static void save_all(uint64_t round)
+{
+    static pals_checkpoint saved[MOST_NODES];
+    for (uint32_t j = 0; j < pals_nodes; j++) {
+        uint32_t slots = 1;
+        for (uint32_t l = 0; l < nodes[j]->of->links; l++) {
+            slots += nodes[j]->of->link[l].rate;
+        }
+        saved[j].frame = malloc(nodes[j]->of->frame_size);
+        saved[j].slots = malloc(slots * sizeof(pals_value));
+        if ((saved[j].frame == NULL) || (saved[j].slots == NULL)) {
+            abort();
+        }
+        pals_save_at(nodes[j], &saved[j], round);
+    }
+}
+
+int main(int argc, char **argv)
 {
     if (!scenario_read() || (pals_nodes > MOST_NODES)) {
         return 2;
@@ -85,10 +123,23 @@ int main(void)
     for (uint32_t j = 0; j < pals_nodes; j++) {
         nodes[j] = pals_open_node(j, &HOOKS, NULL, scenario_rounds());
     }
-    for (int64_t reading = next_reading(); (reading != PALS_NEVER) && !stopped; reading = next_reading()) {
-        for (uint32_t j = 0; (j < pals_nodes) && !stopped; j++) {
-            act(j, reading);
+    if (argc == 4) {
+        save_all(strtoull(argv[1], NULL, 10));
+        lost = strtoull(argv[2], NULL, 10);
+    }
+    const int64_t last = run();
+    if (argc == 4) {
+        stopped = false;
+        for (uint32_t j = 0; j < pals_nodes; j++) {
+            if (!pals_resume(nodes[j], strtoull(argv[3], NULL, 10), last)) {
+                return 3;
+            }
         }
+        (void)run();
+    }
+    for (uint32_t j = 0; (argc == 4) && (j < pals_nodes); j++) {
+        free(nodes[j]->checkpoint->frame);
+        free(nodes[j]->checkpoint->slots);
     }
     return 0;
 }

@@ -15,6 +15,11 @@ def c_name(path):
     return "c_" + path.replace("_", "__").replace(".", "_")
 
 
+def c_names(design, short=False):
+    """The names of all components in C: by their paths, or short ones by their numbers."""
+    return [f"c_{number}" if short else c_name(it.path) for number, it in enumerate(design.components)]
+
+
 def c_number(number):
     """A number in C."""
     if number == LEAST:
@@ -155,9 +160,9 @@ class Body:
         return place + 1
 
 
-def step_header(component):
-    """The header of a component's step code."""
-    name = c_name(component.path)
+def step_header(component, name=None):
+    """The header of a component's step code; the name in C is that of its path if none is given."""
+    name = name or c_name(component.path)
     begun = ", ".join(f"{at} {state.name}" for at, state in enumerate(component.states) if state.entry is not None)
     fields = [f"    int64_t v_{it.name};" for it in component.variables]
     fields += [f"    int64_t h_{it.name};" for it in component.ins]
@@ -173,9 +178,9 @@ def step_header(component):
         f"int32_t {name}_step({name}_frame *f, const pals_value in[], pals_value out[]);", "", "#endif", ""])
 
 
-def step_source(component, lines=None):
+def step_source(component, lines=None, name=None):
     """The source of a component's step code. Its comments name instructions, or lines of the design's text."""
-    name, body = c_name(component.path), Body(component, lines)
+    name, body = name or c_name(component.path), Body(component, lines)
     names, ins, outs = component.variables, list(enumerate(component.ins)), list(enumerate(component.outs))
     written = [f"    out[{at}] = o_{it.name};" for at, it in outs]
     return "\n".join([

@@ -1,6 +1,6 @@
 """C of what nodes need of a design: a table and the memory for each component, and the design as a whole."""
 
-from .c_step import HEAD, c_name
+from .c_step import HEAD, c_names
 from .listing import FORM, name_of_link
 
 # The bounds of the platform, in the order of a listing.
@@ -28,8 +28,8 @@ def adaptor(text, source, target):
 class Tables:
     """The C of the tables of one design."""
 
-    def __init__(self, design, identity, chosen=None):
-        self.design, self.identity = design, identity
+    def __init__(self, design, identity, chosen=None, short=False):
+        self.design, self.identity, self.names = design, identity, c_names(design, short)
         self.chosen = range(len(design.components)) if chosen is None else chosen
         self.inputs = list(dict.fromkeys(it.name for it in design.inputs))
 
@@ -47,7 +47,7 @@ class Tables:
 
     def node_header(self, number):
         """The header of a component's node."""
-        component, name = self.design.components[number], c_name(self.design.components[number].path)
+        component, name = self.design.components[number], self.names[number]
         rates = [self.rate(link.source[0]) for _, link in self.links_to(number)]
         slots, links = max(1, sum(rates)), max(1, len(rates))
         ins, outs = (max(1, component.rate * len(ports)) for ports in (component.ins, component.outs))
@@ -59,6 +59,13 @@ class Tables:
             f"    {name}_frame frame;", f"    pals_value slots[{slots}];", f"    bool full[{links}];",
             f"    pals_value ins[{ins}];", f"    pals_value outs[{outs}];",
             f"    pals_value values[{max(1, component.rate, len(component.outs))}];", f"}} {name}_node;", "",
+            f"/* What the node of {component.path} saves of a round: only for {name}_save_at. */",
+            "typedef struct {", "    pals_checkpoint of;", f"    {name}_frame frame;",
+            f"    pals_value slots[{slots}];", f"}} {name}_saved;", "",
+            "/* Lets the node save what a round begins with (pals_save_at), for pals_resume. */",
+            f"static inline void {name}_save_at({name}_node *of, {name}_saved *to, uint64_t round)", "{",
+            "    to->of = (pals_checkpoint){.frame = &to->frame, .slots = to->slots};",
+            "    pals_save_at(&of->node, &to->of, round);", "}", "",
             "/* The node before its first round, of a run of `rounds` rounds; 0: no end. */",
             f"pals_node *{name}_open({name}_node *of, const pals_hooks *hooks, void *user, uint64_t rounds);", "",
             "#endif", ""])
@@ -88,12 +95,12 @@ class Tables:
     def node_source(self, number):
         """The source of a component's node."""
         component, rows = self.design.components[number], self.rows(number)
-        name, period = c_name(component.path), self.design.period
+        name, period = self.names[number], self.design.period
         tables = [line for word, (kind, lines) in rows.items() for line in table(kind, f"{name}_{word}", lines)]
         at = {word: f"{name}_{word}" if lines else "NULL" for word, (_, lines) in rows.items()}
         many = {word: len(lines) for word, (_, lines) in rows.items()}
         return "\n".join([
-            f'{HEAD}#include "{name}_node.h"', "#include <stddef.h>", "", *tables, "", *accessors(component),
+            f'{HEAD}#include "{name}_node.h"', "#include <stddef.h>", "", *tables, "", *accessors(component, name),
             f"static const pals_names {name}_names = {{",
             f"    {at['states']}, {at['variables']}, {many['taps']}, {at['taps']},",
             f"    {name}_state_of, {name}_value_of", "};", "",
@@ -103,6 +110,7 @@ class Tables:
             f"    {len(component.ins)}, {len(component.outs)}, {len(component.variables)},",
             f"    {many['links']}, {many['inputs']}, {many['targets']},",
             f"    {at['links']}, {at['inputs']}, {at['targets']}, {at['outputs']}, {many['outputs']},",
+            f"    (uint32_t)sizeof({name}_frame),",
             f"    {name}_init_of, {name}_step_of, &{name}_names", "};", "",
             f"pals_node *{name}_open({name}_node *of, const pals_hooks *hooks, void *user, uint64_t rounds)", "{",
             "    const pals_memory memory = {&of->frame, of->slots, of->full, of->ins, of->outs,",
@@ -141,7 +149,7 @@ class Tables:
     def design_source(self):
         """The source of the whole design, or of the parts that the chosen components need."""
         design = self.design
-        names = {at: c_name(design.components[at].path) for at in self.chosen}
+        names = {at: self.names[at] for at in self.chosen}
         kinds = {it.name: self.kind_of(it.target) for it in design.inputs}
         inputs = [f'{{"{name}", {flag(kinds[name])}}}' for name in self.inputs]
         counts = {"nodes": design.components, "links": design.links, "inputs": inputs, "outputs": design.outputs}
@@ -222,9 +230,8 @@ pals_node *pals_open_node(uint32_t number, const pals_hooks *hooks, void *user, 
 """
 
 
-def accessors(component):
+def accessors(component, name):
     """The adapters between a component's own calls and the calls of any node."""
-    name = c_name(component.path)
     own, shown = f"({name}_frame *)frame", f"((const {name}_frame *)frame)"
     values = [f"    case {at}: return {shown}->v_{it.name};" for at, it in enumerate(component.variables)]
     of_variables = ["    switch (variable) {", *values, "    default: return 0;", "    }"]

@@ -33,8 +33,9 @@ class Composition:
             ins, outs = ([port.name.text for port in ports_of(thread, way)] for way in ("in", "out"))
             sources = [model.came_from(f"{thread.path}.{name}") for name in ins]
             self.nodes[key] = Node(thread, rate, model.steps_sent(rate) or rate, Machine(behaviour, ins, outs), sources)
-        self.messages = {(key, name): [None] * node.rate for key, node in self.nodes.items()
-                         for name in node.machine.outs}
+        # What each out port has sent in the last round: whole, and as the messages carry it.
+        self.whole = {(key, name): [None] * node.rate for key, node in self.nodes.items() for name in node.machine.outs}
+        self.messages = self.whole
 
     @property
     def steps(self):
@@ -43,20 +44,27 @@ class Composition:
 
     def advance(self):
         """One round; collects the components that halt in it."""
-        after = {}
+        whole, cut = {}, {}
         for key, node in self.nodes.items():
-            inputs = [self.tuple_of(source, node.rate) for source in node.sources]
+            inputs = self.inputs_of(key)
             tuples = [[] for _ in node.machine.outs]
             for step in range(node.rate):
                 halted = node.machine.trap is not None
                 for places, value in zip(tuples, node.machine.step([places[step] for places in inputs])):
-                    places.append(value if step < node.sent else None)
+                    places.append(value)
                 if node.machine.trap is not None and not halted:
                     self.halts.append(Halt(node.thread.path, self.round, step, node.machine.trap,
                                            frozenset(node.machine.arrived)))
-            after.update(((key, name), places) for name, places in zip(node.machine.outs, tuples))
-        self.messages = after
+            absent = [None] * (node.rate - node.sent)
+            for name, places in zip(node.machine.outs, tuples):
+                whole[key, name], cut[key, name] = places, places[: node.sent] + absent
+        self.whole, self.messages = whole, cut
         self.round += 1
+
+    def inputs_of(self, key):
+        """What comes into each in port of a component in the steps of this round."""
+        node = self.nodes[key]
+        return [self.tuple_of(source, node.rate) for source in node.sources]
 
     def tuple_of(self, source, rate):
         """What comes into a port in the steps of this round."""

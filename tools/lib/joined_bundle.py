@@ -12,8 +12,7 @@ MOST_LINES, MOST_ROUNDS = 1_000_000, 100_000
 
 def joined_bundle(bundle, scenario, nodes, records, rounds):
     """The bundle of a trace of records, sentences on the rest, and whether the ends of the records are of interest."""
-    asked = rounds if rounds is not None else scenario.get("rounds")
-    asked = asked if isinstance(asked, int) and 0 < asked <= MOST_ROUNDS else None
+    asked = asked_rounds(scenario, rounds)
     limit, notes = asked, []
     while True:
         joined = Joined(nodes, records, limit)
@@ -26,14 +25,29 @@ def joined_bundle(bundle, scenario, nodes, records, rounds):
         if limit < 1:
             raise Refused("not even one round fits into a bundle")
         notes = notes or [f"{whole:,} rounds are too long for a bundle, which holds {MOST_BYTES:,} bytes"]
-    ended = bool(joined.notes) or any(record.lines and record.lines[-1].kind == "stop" for record in records.values())
-    notes = [*joined.notes, *notes]
+    return text, notes_on(joined, notes, asked), has_ended(joined)
+
+
+def asked_rounds(scenario, rounds, most=MOST_ROUNDS):
+    """The number of rounds that the nodes were to execute, or None."""
+    asked = rounds if rounds is not None else scenario.get("rounds")
+    return asked if isinstance(asked, int) and 0 < asked <= most else None
+
+
+def notes_on(joined, more, asked):
+    """Sentences on what a trace does not show."""
+    notes = [*joined.notes, *more]
     whole = joined.rounds if joined.rounds is not None else asked
     if notes and not joined.last and whole is not None:
         notes.append(f"the trace has the first {whole:,} rounds")
     if joined.left_out:
         notes.append(f"{joined.left_out} second copies of messages are omitted: a trace has no line for them")
-    return text, notes, ended
+    return notes
+
+
+def has_ended(joined):
+    """Whether a run has ended before its last round."""
+    return bool(joined.notes) or any(it.lines and it.lines[-1].kind == "stop" for it in joined.given.values())
 
 
 def from_round(scenario, first):

@@ -184,6 +184,9 @@ class Joined:
         return [*self.rows(), *(" ".join(it.words) for it in self.journal), *self.stop_lines()]
 
     def raw_arrivals(self):
-        """The recorded readings of the arrivals that the trace does not have with them, by link and round."""
+        """The recorded readings of the arrivals that the trace does not have with them, by link and round. A message
+        that its node took only for a round that is cut off has none: it may have arrived long before."""
         in_trace = {(it.what, it.round): it.reading for it in self.journal if it.kind == "arrive"}
-        return {key: reading for key, reading in self.arrivals.items() if in_trace.get(key) != reading}
+        cut = None if self.rounds is None else (self.rounds + 1) * self.nodes.period
+        return {key: reading for key, reading in self.arrivals.items() if in_trace.get(key) != reading
+                and (key[1] + 1 != self.rounds or reading < cut)}

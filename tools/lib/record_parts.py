@@ -1,15 +1,18 @@
-"""The parts of a record between restarts. All nodes restart at one round R, with the design's initial frames, so the
-part from there on is a run by itself: its rounds are counted from R, and its readings from the time R * T."""
+"""The parts of a record between restarts. All nodes restart at one round R, so the part from there on is a run by
+itself: its rounds are counted from R, and its readings from the time R * T. It begins with the initial frames
+(`restart`), or as an earlier round began that all nodes saved (`resume`)."""
 
 import re
 
 from .answers import NUMBER
 from .bundles import Refused
 
-RESTART = re.compile(rf"restart (?P<path>\S+) (?P<round>{NUMBER}) {NUMBER}")
+RESTART = re.compile(rf"(?P<kind>restart|resume) (?P<path>\S+) (?P<round>{NUMBER}) {NUMBER}")
+SAVE = re.compile(rf"save (?P<path>\S+) (?P<round>{NUMBER}) {NUMBER}")
 # The places of the round and of the reading among the words of a line, by its first word.
 PLACES = {"start": (2, 3), "send": (2, 3), "finish": (2, None), "step": (2, 4), "arrive": (2, 3), "stop": (3, 4),
-          "row": (1, None), "out": (1, None), "hold": (2, 3)}
+          "row": (1, None), "out": (1, None), "hold": (2, 3),
+          "save": (2, 3)}
 
 
 def part_of(text, number, path, period):
@@ -26,6 +29,31 @@ def part_of(text, number, path, period):
     if number:
         own = [line for line in (shifted(line, first, period) for line in own) if line is not None]
     return "\n".join(own), first
+
+
+def saved_of(text, number, path):
+    """The round that a part of a record continues, and the number of the part that has saved it; None if it begins with
+    the initial frames."""
+    count, saved = 0, None
+    for line in text.split("\n"):
+        save, start = SAVE.fullmatch(line), RESTART.fullmatch(line)
+        if save:
+            saved = (count, int(save["round"]))
+        count += start is not None
+        if start and count == number:
+            if start["kind"] == "restart":
+                return None
+            if saved is None:
+                raise Refused(f"{path} has no saved round before it resumes at round {start['round']}")
+            return saved
+    return None
+
+
+def moved_line(line, moved, period):
+    """A line with its round and its reading counted from a later round, or from an earlier one."""
+    words = shifted(" ".join(line.words), moved, period).split(" ")
+    reading = None if line.reading is None else max(0, line.reading - moved * period)
+    return line._replace(round=line.round - moved, reading=reading, words=words)
 
 
 def shifted(line, first, period):

@@ -26,6 +26,7 @@ FORMS = [
 ROW = re.compile(rf"row (?P<round>{NUMBER}) (?P<path>\S+) \S.*")
 OUT = re.compile(rf"out (?P<round>{NUMBER}) (?P<name>\w+) \(.*\)")
 DESIGN = re.compile(r"design (?P<path>\S+) (?P<sum>[0-9a-f]{16})")
+SAVE = re.compile(rf"save (?P<path>\S+) {NUMBER} {NUMBER}")
 HOLD = re.compile(rf"hold (?P<link>\S+) (?P<round>{NUMBER}) {NUMBER}")
 
 
@@ -67,7 +68,8 @@ class Reader:
         elif hold and self.nodes.links.get(hold["link"], (None, None))[1] == self.path:
             self.held = int(hold["round"]) + 1 if self.held is None else self.held
         else:
-            return text.startswith("#")
+            save = SAVE.fullmatch(text)
+            return text.startswith("#") or bool(save and save["path"] == self.path)
         return True
 
 

@@ -32,6 +32,12 @@ def installed(folder):
     return os.path.join(folder, "bin/pals")
 
 
+def nobody():
+    """The words before a command that runs it as a user who owns nothing; none if that is not possible."""
+    other = ["setpriv", "--reuid=65534", "--regid=65534", "--clear-groups"]
+    return other if os.geteuid() == 0 and shutil.which("setpriv") else []
+
+
 def test_an_installation_runs_without_sources():
     """It answers by the copied program, also for a user who owns nothing; it refuses to build; it is removed whole."""
     with tempfile.TemporaryDirectory() as folder:
@@ -40,8 +46,7 @@ def test_an_installation_runs_without_sources():
         shutil.copy(DESIGN, os.path.join(folder, "two.aadl"))
         os.chmod(os.path.join(folder, "two.aadl"), 0o644)
         before = sorted(os.walk(os.path.join(folder, "usr")))
-        other = ["setpriv", "--reuid=65534", "--regid=65534", "--clear-groups"]
-        other = other if os.geteuid() == 0 and shutil.which("setpriv") else []
+        other = nobody()
         clean = {"PATH": "/usr/bin:/bin", "HOME": "/nonexistent"}
         status, text = ran(*other, pals, "check", f"{folder}/two.aadl", env=clean, cwd="/")
         expect((status, text.startswith("accepted\n")), (0, True), text)
@@ -119,13 +124,21 @@ def test_the_package():
     except Refused as why:
         raise Skipped(str(why)) from why
     with tempfile.TemporaryDirectory() as folder:
-        status, text = ran(os.path.join(TOP, "packaging/build-deb"), folder)
+        os.chmod(folder, 0o755)
+        status, text = ran(os.path.join(TOP, "packaging/build-deb"), os.path.join(folder, "made"))
         expect(status, 0, text)
         listed = ran("dpkg-deb", "-c", text.strip())[1]
         for path in ("./usr/bin/pals", "./usr/lib/pals/program/pals", "./usr/share/man/man1/pals.1.gz"):
             expect(f" {path}" in listed, True, path)
         fields = ran("dpkg-deb", "-f", text.strip(), "Version", "Depends")[1]
         expect(f"Version: {VERSION}\n" in fields and "python3" in fields, True, fields)
+        unpacked = os.path.join(folder, "unpacked")
+        expect(ran("dpkg-deb", "-x", text.strip(), unpacked)[0], 0, "unpack")
+        shutil.copy(DESIGN, os.path.join(folder, "two.aadl"))
+        os.chmod(os.path.join(folder, "two.aadl"), 0o644)
+        status, text = ran(*nobody(), os.path.join(unpacked, "usr/bin/pals"), "check", f"{folder}/two.aadl", cwd="/",
+                           env={"PATH": "/usr/bin:/bin", "HOME": "/nonexistent"})
+        expect((status, text.startswith("accepted\n")), (0, True), text)
 
 
 def test_the_version_is_in_one_place():

@@ -62,3 +62,40 @@ def test_changed_c_is_another_step():
             file.write(text.replace("s0 = v_a;", "s0 = v_a ^ 1;"))
         status, found = same(folder, only)
         expect((status, found["p.l"][:41]), (1, "not tried: p.l: a statement of the C cann"), found)
+
+
+# Changes of pals_step.h, each with the operators that are then wrong or undefined.
+OPERATORS = [
+    ("a > (INT64_MAX - b)", "a >= (INT64_MAX - b)", {"add"}), ("a < (INT64_MIN - b)", "a < INT64_MIN", {"add"}),
+    ("a > (INT64_MAX + b)", "a > (INT64_MAX - b)", {"sub"}), ("*to = a - b;", "*to = b - a;", {"sub"}),
+    ("*to = a * b;", "*to = a + b;", {"mul"}), ("(a == INT64_MIN) && (b == -1)", "b == -1", {"quot"}),
+    ("*to = a / b;", "*to = a % b;", {"quot"}), ("(b == -1) ? 0 : (a % b)", "a % b", {"rem", "mod"}),
+    ("*to += b;", "*to = b;", {"mod"}), ("(*to < 0) != (b < 0)", "*to < 0", {"mod"}),
+    ("a == INT64_MIN) {\n        return PALS_OVERFLOW;\n    }\n    *to = -a;", "a == INT64_MAX) {\n        return "
+     "PALS_OVERFLOW;\n    }\n    *to = -a;", {"neg", "abs"}), ("    if (a < 0) {\n", "    if (a < 1) {\n", set()),
+]
+
+
+def wrong_operators(header):
+    """The operators of a header that are not shown to be their definitions."""
+    if not shutil.which("cvc5"):
+        raise Skipped("cvc5 is not installed")
+    with tempfile.TemporaryDirectory() as folder:
+        path = os.path.join(folder, "pals_step.h")
+        with open(path, "w", encoding="ascii") as file:
+            file.write(header)
+        status, written, said = tool("same", "--seconds", "300", "--operators", path)
+    found = dict(re.findall(r"(?m)^(\S+) (.*) [\d.]+ s$", written.decode()))
+    expect((said, len(found)), ("", 8), "what same says")
+    wrong = {name for name, result in found.items() if result != "same"}
+    expect(status, 1 if wrong else 0, f"the status with {found}")
+    return wrong
+
+
+def test_operators_are_their_definitions():
+    """Each operator of pals_step.h is its definition for all operands; each change of an operator is found."""
+    header = page("nodes/pals_step.h")
+    expect(wrong_operators(header), set(), "the header")
+    for old, new, wrong in OPERATORS if MORE else OPERATORS[:1] + OPERATORS[7:9]:
+        expect(header.count(old) >= 1, True, f"the change {old}")
+        expect(wrong_operators(header.replace(old, new, 1)), wrong, f"{old} becomes {new}")
