@@ -71,7 +71,7 @@ class Parts:
         course = Course(Model(declared, root_of(declared, self.root)), source.scenario)
         for _ in range(rounds):
             course.advance()
-        return course.start(goes_on=False)
+        return course.start(continues=False)
 
     def inputs(self, first, start):
         """The scenario of a part that continues a round."""

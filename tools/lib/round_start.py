@@ -39,12 +39,12 @@ class Course(Composition):
         self.past = {number: sent for number, sent in self.past.items() if number in used}
         self.past[self.round - 1] = self.whole
 
-    def start(self, goes_on=True):
-        """What the next round begins with. If the run does not go on with its own inputs, they do not count as read."""
+    def start(self, continues=True):
+        """What the next round begins with. If the run does not continue with its own inputs, they do not count as read."""
         states = {key: State(node.machine.spelled[node.machine.state], dict(node.machine.variables),
                              node.machine.trap.kind if node.machine.trap else None)
                   for key, node in self.nodes.items()}
-        sent, read = self.replayed(goes_on)
+        sent, read = self.replayed(continues)
         count = max([1, *(len(rounds) for rounds in (*sent.values(), *read.values()))]) if self.round else 0
         sents, inputs = [{} for _ in range(count)], [{} for _ in range(count)]
         for port, rounds in sent.items():
@@ -55,14 +55,14 @@ class Course(Composition):
                 inputs[place][name] = self.given[name][number] if number < len(self.given[name]) else None
         return RoundStart(self.round, states, sents, inputs)
 
-    def replayed(self, goes_on):
+    def replayed(self, continues):
         """The rounds whose values each out port has to send again: the last one, and before it those of which an in
         port holds a value and does not read a later one at once. For each in port of the root, such rounds."""
         sent = {port: {self.round - 1} for port in self.whole if self.round}
         read = {name: set() for name in self.given}
         for (key, at), number in self.came.items():
             source = self.nodes[key].sources[at]
-            known = goes_on or source.thread is not None
+            known = continues or source.thread is not None
             if self.nodes[key].machine.trap is not None or (known and self.reads_at_once(key, at)):
                 continue
             if source.thread is None:

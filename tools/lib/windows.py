@@ -101,16 +101,16 @@ class Windows:
         """The window of a copy, with what the out ports have sent in its rounds."""
         first, entry = copied.start.round, len(copied.start.sent)
         moved, end = first - entry, first + len(outs)
-        goes_on = end < self.total or not self.joined.last
+        continues = end < self.total or not self.joined.last
         bundle = Bundle(self.bundle.path, design)
         nodes = nodes_of(bundle, self.root)
         made = Entry(copied, self.model, nodes)
-        rounds = range(first - min(entry, 1), end if goes_on else self.last + 1)
+        rounds = range(first - min(entry, 1), end if continues else self.last + 1)
         records = {path: self.record(path, made, rounds, outs) for path in nodes.paths}
-        joined = Joined(nodes, records, end - moved if goes_on else None)
+        joined = Joined(nodes, records, end - moved if continues else None)
         if joined.notes:
             raise Refused(f"the window from round {first} on: {joined.notes[-1]}")
-        text, _ = bundle_text(bundle, self.inputs(copied.start), joined, rounds.stop - moved + (not goes_on))
+        text, _ = bundle_text(bundle, self.inputs(copied.start), joined, rounds.stop - moved + (not continues))
         if len(text) > MOST_BYTES:
             raise Refused(f"the window from round {first} on has {len(text):,} bytes")
         return Window(first, end, entry, text)
