@@ -11,6 +11,8 @@ from ..bundles import Refused
 
 ENGINE = "berkeley-abc"
 INSTALL = "apt install berkeley-abc (Debian and Ubuntu) installs it"
+# What the word `proved` depends on, for the end of an output that has it.
+TRUSTED = f"`proved` depends on the translation in tools/lib/proving and on {ENGINE} (docs/for_all_inputs.md)"
 # How a graph is made smaller before the inductive engine reads it, and the gates from which on one step takes too long.
 REDUCED, LARGE_REDUCED, LARGE = "strash; scorr; dc2", "strash; dc2", 10_000
 # Seconds that the engine gets at most beyond its own limit before it is ended.
