@@ -7,7 +7,7 @@ import time
 from lib.bundles import read
 from lib.records import read_record
 from tests.common import Skipped, Wrong, page, tool
-from tests.nodes import MORE, design_nodes, folder, pals
+from tests.nodes import design_nodes, folder, pals
 from tests.test_demo import slower
 from tests.udp import Network, Run, changed_listing, udp_program
 
@@ -132,8 +132,6 @@ def test_nodes_over_udp():
 
 def test_500_rounds_over_udp():
     """500 rounds of 20 ms over UDP are sound and within the bounds, on a host that wakes its nodes up in time."""
-    if not MORE:
-        raise Skipped("it takes 12 seconds a try; --more runs it")
     nodes = Nodes(1, 500)
     network = Network(len(nodes.nodes.paths))
     try:
