@@ -113,7 +113,8 @@ def watch(plan, scenario):
 def check_original(plan, scenario):
     """Shows that the copy of the design has the rows of the design in a scenario."""
     plain = json.dumps({name: value for name, value in scenario.items() if name != "properties"}).encode()
-    check_rows(*(sync_text(plan.program, ["sync", plan.root], joined(it, plain)) for it in (plan.original, plan.design)))
+    check_rows(*(sync_text(plan.program, ["sync", plan.root], joined(it, plain))
+                 for it in (plan.original, plan.design)))
 
 
 def none_halted(paths):

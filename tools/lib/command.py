@@ -12,8 +12,7 @@ MISUSED, UNABLE, INTERRUPTED = 2, 1, 130
 
 
 def run(work, line):
-    """Runs a tool on the values of its command line, and ends with its status. A tool that has only a usage line gets
-    the words."""
+    """Runs a tool on the values of its command line, and ends with its status."""
     name = os.path.basename(sys.argv[0])
     for stream in (sys.stdout, sys.stderr):
         if hasattr(stream, "reconfigure"):
@@ -25,8 +24,7 @@ def run(work, line):
         status = answered(work, line, name)
         sys.stdout.flush()
     except Misused as why:
-        usage = line if isinstance(line, str) else line.usage(name)
-        say(f"usage: {usage}" if not str(why) else f"{name}: {why}\nusage: {usage}")
+        say(f"{name}: {why}\nusage: {line.usage(name)}")
         status = MISUSED
     except Refused as why:
         say(f"{name}: {why}")
@@ -47,8 +45,6 @@ def run(work, line):
 
 def answered(work, line, name):
     """The status of a tool; with --help it shows its help."""
-    if isinstance(line, str):
-        return help_of(line) if sys.argv[1:] in (["--help"], ["-h"]) else work(sys.argv[1:])
     given = line.read(name, sys.argv[1:])
     if given is not None:
         return work(given)
@@ -70,44 +66,6 @@ def forget_output():
         os.dup2(os.open(os.devnull, os.O_WRONLY), sys.stdout.fileno())
     except (OSError, ValueError):
         pass
-
-
-def help_of(usage):
-    """The purpose of the tool, from its own text."""
-    print(f"usage: {usage}\n\n{(sys.modules['__main__'].__doc__ or '').strip()}")
-    return 0
-
-
-def take_option(words, name):
-    """The value after an option, and the arguments without both; None if the option is absent."""
-    if name not in words:
-        return None, words
-    at = words.index(name)
-    if at + 1 == len(words):
-        raise Misused(f"{name} needs a value after it")
-    return words[at + 1], words[:at] + words[at + 2 :]
-
-
-def take_flag(words, name):
-    """Whether a word is there, and the words without it."""
-    return name in words, [word for word in words if word != name]
-
-
-def take_options(words, name):
-    """The values after all options of a name, and the arguments without them."""
-    values = []
-    while name in words:
-        value, words = take_option(words, name)
-        values.append(value)
-    return values, words
-
-
-def no_options(words):
-    """The words, of which none may look like an option."""
-    stray = next((word for word in words if word.startswith("-") and word != "-"), None)
-    if stray:
-        raise Misused(f"there is no option {stray}")
-    return words
 
 
 def answer():

@@ -5,7 +5,7 @@ import re
 from typing import Any, Callable, NamedTuple, Optional, Tuple
 
 # The values of an option that are files, for the completions of shells.
-FILES = ("FILE", "LOG", "MODEL.aadl", "OTHER.aadl", "PATH", "PROGRAM", "SCENARIO.json", "WATCH_ANSWER")
+FILES = ("FILE", "HEADER", "LOG", "MODEL.aadl", "OTHER.aadl", "PATH", "PROGRAM", "SCENARIO.json", "WATCH_ANSWER")
 FOLDERS = ("DIR", "FOLDER")
 WIDTH, INDENTED = 100, 26
 

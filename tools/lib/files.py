@@ -30,7 +30,7 @@ class Asked:
         if len(self.files) == 2 and self.files[0].endswith(".json"):
             self.files.reverse()
         if not self.words or len(self.files) not in (1, 2):
-            raise Misused
+            raise Misused("expected a command, and one or two files")
         self.bundle = bundle_of(*self.files)
         self.add_root()
 

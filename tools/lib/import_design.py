@@ -184,7 +184,7 @@ class Design:
         return [prop for prop in props if prop.name.lower() in MEANT]
 
     def props_of(self, made, part):
-        """The properties of a subcomponent or a connection: its own, and the ones that an enclosing component applies."""
+        """The properties of a subcomponent or a connection: its own, and those that an enclosing component applies."""
         found = {it.name.lower(): it for it in self.meant_of(part.props, part.name)}
         for prop in self.library.properties(made.component):
             if part.name.lower() in (path.lower() for path in prop.applies) and prop.name.lower() in MEANT:

@@ -6,7 +6,7 @@ import re
 import runpy
 from typing import NamedTuple
 
-from .command_line import FILES, FOLDERS, CommandLine, flag, option
+from .command_line import FILES, FOLDERS, CommandLine, flag
 
 HELP = flag("--help", "show the help")
 # The words of ./pals that are no commands of the program, each with the tool that they start.
@@ -70,17 +70,8 @@ def tools_in(folder):
         name = os.path.basename(path)
         if os.path.isfile(path) and re.fullmatch("[a-z0-9_]+", name):
             names = runpy.run_path(path, run_name=name)
-            found.append(Tool(name, names["LINE"] if "LINE" in names else usage_line(path), names["__doc__"]))
+            found.append(Tool(name, names["LINE"], names["__doc__"]))
     return found
-
-
-def usage_line(path):
-    """The command line of a tool that has only a usage line."""
-    with open(path, encoding="utf-8") as file:
-        words = "".join(re.findall(r'"(.*?)"', file.read().rpartition("run(main, ")[2]))
-    named = dict(re.findall(r"(--[a-z][a-z-]*)((?: [A-Z][A-Za-z.]*)?)", words))
-    return CommandLine(tuple(option(name, value.strip(), "") for name, value in named.items()),
-                       re.sub(r"\[--[^]]*\]+(\.\.)? ?", "", words.partition(" ")[2]))
 
 
 def options(text, tools):

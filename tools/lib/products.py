@@ -105,7 +105,8 @@ def transitions(number):
 
 def chain(number):
     """Many transitions between the states of a chain."""
-    states = put(COUNTER, "states\n", many(62, lambda n: f" s{n}: state;\n")).replace("dispatch]-> s {", "dispatch]-> s0 {")
+    states = put(COUNTER, "states\n", many(62, lambda n: f" s{n}: state;\n"))
+    states = states.replace("dispatch]-> s {", "dispatch]-> s0 {")
     between = many(number, lambda n: f" s{n % 61} -[x > {n}]-> s{n % 61 + 1};\n")
     last = many(61, lambda n: f" s{n} -[otherwise]-> s{n + 1};\n") + " s61 -[otherwise]-> s;\n"
     return package(put(states, "transitions\n", between + last))
@@ -147,7 +148,8 @@ def loops(number):
 
 def connected_ports(number):
     """A type with many ports, and connections between all of them."""
-    kind = f"thread Wide\nfeatures\n{ports(number)}{ports(number, 'out')}end Wide;\nthread implementation Wide.impl end Wide.impl;\n"
+    kind = (f"thread Wide\nfeatures\n{ports(number)}{ports(number, 'out')}end Wide;\n"
+            "thread implementation Wide.impl end Wide.impl;\n")
     subs = " c: thread Wide.impl;\n d: thread Wide.impl;\n"
     wires = many(number, lambda n: f" w{n}: port c.out{n} -> d.in{n};\n")
     return package(others=kind + unused(subs, wires))
@@ -195,7 +197,8 @@ def thread_notes(number):
 def ring(links):
     """Threads with sixteen in ports each at most, so many of which read the next threads."""
     counter = put(COUNTER, "features\n", ports(16))
-    wires = many(links, lambda n: f" w{n}: port t{(n // 16 + n % 16 + 1) % 255}.o -> t{n // 16}.in{n % 16} {{Timing => Delayed;}};\n")
+    wires = many(links, lambda n: f" w{n}: port t{(n // 16 + n % 16 + 1) % 255}.o -> t{n // 16}.in{n % 16} "
+                                  "{Timing => Delayed;};\n")
     return counter, threads(COMPONENTS - 1), wires
 
 
@@ -246,7 +249,8 @@ def plants(number):
     pairs = many(number, lambda n: f" r{n}: thread Counter.impl;\n h{n}: thread Counter.impl;\n")
     wires = many(
         number,
-        lambda n: f" d{n}: port r{n}.o -> h{n}.i {{Timing => Delayed;}};\n u{n}: port h{n}.o -> r{n}.i {{Timing => Delayed;}};\n",
+        lambda n: f" d{n}: port r{n}.o -> h{n}.i {{Timing => Delayed;}};\n"
+                  f" u{n}: port h{n}.o -> r{n}.i {{Timing => Delayed;}};\n",
     )
     listed = ",".join(f'"p.r{n}":"p.h{n}"' for n in range(number))
     return package(subs=pairs, connections=wires, scenario=f'{{"rounds":1000,"plants":{{{listed}}}}}')

@@ -40,7 +40,8 @@ class Course(Composition):
         self.past[self.round - 1] = self.whole
 
     def start(self, continues=True):
-        """What the next round begins with. If the run does not continue with its own inputs, they do not count as read."""
+        """The values with which the next round begins. If the run does not continue with its own inputs, they do not
+        count as read."""
         states = {key: State(node.machine.spelled[node.machine.state], dict(node.machine.variables),
                              node.machine.trap.kind if node.machine.trap else None)
                   for key, node in self.nodes.items()}

@@ -10,11 +10,11 @@ from .page import TOP
 PAGE = "docs/surface.txt"
 # The crates that docs/library.md names by task, and the ones whose types their calls have.
 CRATES = ("pals_top", "pals_io", "program_edge", "bundle_designs", "aadl_lex", "aadl_tree", "aadl_parse", "aadl_print",
-          "aadl_instance", "model_checks", "bound_checker", "behaviour_sem", "input_adaptors", "sync_product", "pals_report",
-          "analysis_texts", "scenario_json", "scenario_values", "analysis_fields", "run_monitor", "triple_vote",
-          "plant_fuse", "round_budget", "step_compiler", "design_codes", "step_code", "step_vm", "round_timer",
-          "output_backoff", "link_buffers", "pals_node", "pals_bus", "loose_world", "timed_world", "world_gen",
-          "pals_clock", "node_threads", "pals_model", "pals_runs", "pals_base")
+          "aadl_instance", "model_checks", "bound_checker", "behaviour_sem", "input_adaptors", "sync_product",
+          "pals_report", "analysis_texts", "scenario_json", "scenario_values", "analysis_fields", "run_monitor",
+          "triple_vote", "plant_fuse", "round_budget", "step_compiler", "design_codes", "step_code", "step_vm",
+          "round_timer", "output_backoff", "link_buffers", "pals_node", "pals_bus", "loose_world", "timed_world",
+          "world_gen", "pals_clock", "node_threads", "pals_model", "pals_runs", "pals_base")
 HEAD = """The public calls of the crates that docs/library.md names: the items that a crate exports, with their methods.
 tools/surface makes this list from the sources. A difference is a change that users of the library see.
 """

@@ -96,6 +96,12 @@ def induction(circuit, seconds):
     return Job(circuit, "pdr", f"{reduced}; pdr -T {max(1, round(seconds))}", seconds)
 
 
+def one_step(circuit, seconds):
+    """A job for a query that the step of one round decides. It reads the graph as it is: a reduction takes longer than
+    the proof, and may replace latches so that one step no longer decides the query."""
+    return Job(circuit, "pdr", f"pdr -T {max(1, round(seconds))}", seconds)
+
+
 def bounded(circuit, seconds):
     """A job that searches for the shortest counterexample."""
     return Job(circuit, SHORTEST, f"bmc3 -T {max(1, round(seconds))}", seconds)

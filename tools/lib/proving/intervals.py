@@ -30,7 +30,7 @@ class Intervals:
 
     def __init__(self, machine, inputs, seconds):
         self.machine, self.terms = machine, machine.terms
-        self.end, self.late = time.monotonic() + seconds, False
+        self.end, self.late = time.process_time() + seconds, False
         self.ranges = dict(inputs)
         self.state = list(machine.next)
         self.below = {it: self.terms.below([after]) for it, after in machine.next.items()}
@@ -99,7 +99,7 @@ class Intervals:
 
     def round(self, changed):
         """The ranges after a round of the variables that depend on changed ones."""
-        self.spent, self.level, self.late = 0, 0, time.monotonic() > self.end
+        self.spent, self.level, self.late = 0, 0, time.process_time() > self.end
         self.base = Environment({}, 0)
         affected = [it for it in self.state if not changed.isdisjoint(self.below[it])]
         for term in sorted(set().union(*(self.below[it] for it in affected))):

@@ -4,7 +4,7 @@ import os
 import time
 
 from .circuit import Circuit, Facts, Query
-from .engine import bounded, first_of, first_proved, induction
+from .engine import bounded, first_of, first_proved, induction, one_step
 from .interval_arithmetic import EITHER, WIDEST
 from .intervals import Intervals
 from .properties import Formulas, paths_in
@@ -72,7 +72,7 @@ class Questions:
         exact = {it: aligned(found, strides[it]) if it in strides else found for it, found in ranges.items()}
         tries = [Facts({**self.inputs, **exact}, strides)]
         for facts in tries + [Facts({**self.inputs, **ranges})] * bool(strides):
-            result = first_of([induction(self.circuit(self.facts_query(facts)), limit)], tell)
+            result = first_of([one_step(self.circuit(self.facts_query(facts)), limit)], tell)
             if result.verdict == "false":
                 raise Fault("a round leaves a range or a stride that the tool has found")
             if result.verdict == "proved":
