@@ -78,7 +78,7 @@ class Questions:
             if result.verdict == "proved":
                 self.take_facts(facts)
                 return len(ranges) + len(facts.strides)
-            kind = "ranges and strides" if facts.strides else "ranges"
+            kind = "strides" if facts.strides else "ranges"
             self.unshown.append(f"the {kind} of variables were not shown in {limit:.0f} s and are not used; a larger "
                                 "--seconds gives them more")
         return 0
