@@ -6,6 +6,7 @@
 
 mod adaptors;
 mod alarms_and_releases;
+mod arguments;
 mod behaviour_answers;
 mod buffers;
 mod clocks;

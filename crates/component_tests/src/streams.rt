@@ -2,12 +2,12 @@
 //! take.
 ghost use Rattle.std.specs.Prelude.{◌<◌};
 
-use pals_io::{
-    Failed, MemSink, MemSource, ReadEnd, ReadSource, Source, WriteSink, read_all, write_all,
-};
+use pals_io::{Failed, MemSink, MemSource, ReadEnd, Source, read_all, write_all};
+use program_edge::{ReadSource, WriteSink};
 use std::alloc::{AllocError, Global};
 use std::io;
 use std::io::{ErrorKind, Read, Write};
+use std::marker::Brand;
 
 // Gives or takes two bytes, then fails, then gives or takes two bytes more.
 #[derive(Drop)]
@@ -139,8 +139,8 @@ pub fn reads_on_behind_a_fault(alloc: Global) -> Result<bool, AllocError> {
 
 /// Whether the readers of the standard library are read.
 pub fn reads_from_std(alloc: Global) -> bool {
-    let mut whole = ReadSource::new(b"abc".as_slice());
-    let mut faulty = ReadSource::new(Faulty { calls: 0 });
+    let mut whole = ReadSource::<_, Brand>::new(b"abc".as_slice());
+    let mut faulty = ReadSource::<_, Brand>::new(Faulty { calls: 0 });
     gives(alloc, &mut whole, 3, b"abc")
         && end_of(alloc, &mut faulty, 9) == Some(ReadEnd::ReadFault)
         && gives(alloc, &mut faulty, 9, b"xx")
@@ -149,17 +149,21 @@ pub fn reads_from_std(alloc: Global) -> bool {
 // Whether the bytes that find no room are refused and the others written.
 fn fills_a_slice() -> bool {
     let mut short = [0u8; 2];
-    let is_refused = write_all(&mut WriteSink::new(short.as_mut_slice()), b"abc").is_err();
+    let is_refused = write_all(
+        &mut WriteSink::<_, Brand>::new(short.as_mut_slice()),
+        b"abc",
+    )
+    .is_err();
     is_refused && short == *b"ab"
 }
 
 /// Whether the writers of the standard library are written to.
 pub fn writes_to_std(alloc: Global) -> bool {
-    let mut sink = WriteSink::new(Faulty { calls: 0 });
+    let mut sink = WriteSink::<_, Brand>::new(Faulty { calls: 0 });
     let is_refused = write_all(&mut sink, b"abcd").is_err();
     let is_taken = write_all(&mut sink, b"cd").is_ok();
     let mut written = Vec::new(alloc);
-    let is_written = write_all(&mut WriteSink::new(&mut written), b"abc").is_ok();
+    let is_written = write_all(&mut WriteSink::<_, Brand>::new(&mut written), b"abc").is_ok();
     let is_whole = is_written && written.as_slice() == b"abc".as_slice();
     is_refused && is_taken && fills_a_slice() && is_whole
 }

@@ -1,6 +1,8 @@
 //! Worked rows of the small crates, a line for each: streams of bytes, adaptors, buffers, the minimum period, alarms and
 //! clocks. Each call that allocates is made once with enough memory.
-use crate::{adaptors, alarms_and_releases, buffers, clocks, least_periods_and_multiples, streams};
+use crate::{
+    adaptors, alarms_and_releases, arguments, buffers, clocks, least_periods_and_multiples, streams,
+};
 use std::alloc::AllocError;
 use std::io;
 
@@ -41,7 +43,9 @@ fn check_streams(rt: &HostRuntime) -> io::Result<()> {
         "writes to a small memory",
         streams::writes_to_a_small_memory(alloc),
     )?;
-    write_verdict(rt, "writes to std", Ok(streams::writes_to_std(alloc)))
+    write_verdict(rt, "writes to std", Ok(streams::writes_to_std(alloc)))?;
+    write_verdict(rt, "arguments", arguments::drop_the_name(alloc))?;
+    write_verdict(rt, "unread arguments", Ok(arguments::are_not_read(alloc)))
 }
 
 fn check_numbers(rt: &HostRuntime) -> io::Result<()> {

@@ -4,41 +4,17 @@
 
 mod answer;
 mod bundle_answer;
+mod edge;
 mod laws;
 mod program;
 mod status;
 
-use pals_base::{NoMemory, Text};
-use pals_io::{ReadSource, WriteSink};
-use program::code;
-use status::NO_MEMORY;
-use std::alloc::AllocError;
+use edge::execute;
 use std::env;
-use std::io::ErrorKind;
 use std::process::ExitCode;
-use std::rt::Env;
 
 fn main(rt: HostRuntime) -> ExitCode {
-    let Ok(words) = command_words(&rt) else {
-        return ExitCode::from(NO_MEMORY);
-    };
-    let mut source = ReadSource::new(rt.stdin());
-    let mut sink = WriteSink::new(rt.stdout());
-    let status = code(rt.alloc(), words.as_slice(), &mut source, &mut sink);
-    ExitCode::from(status)
-}
-
-// The arguments after the program's name. If one is not UTF-8 the list is empty, which is invalid.
-fn command_words(rt: &(impl Env + AllocGlobal)) -> Result<Vec<Text>, NoMemory> {
-    let mut words = Vec::new(rt.alloc());
-    match env::args(rt) {
-        Ok(args) => {
-            for word in args.skip(1) {
-                words.push(Text::new(word))?;
-            }
-        }
-        Err(error) if error.kind() == ErrorKind::InvalidData => {}
-        Err(_) => return Err(AllocError),
-    }
-    Ok(words)
+    let arguments = env::args(&rt);
+    let exit = execute(rt.alloc(), arguments, rt.stdin(), rt.stdout());
+    ExitCode::from(exit.status)
 }

@@ -1,0 +1,42 @@
+use Rattle.pals_base.specs.declared.limits.TheConstants.{BUNDLE_BYTES}
+use Rattle.pals_io.specs.SourcesAndSinks.{GivesWithin}
+use Rattle.program_edge.proofs.ExposedCalls.{reader_shown, consumes_within, appends, appends_part, same_writer}
+use Rattle.pals_code.specs.Answers.{reading, root_of, IsAnswer}
+use Rattle.pals_code.proofs.edge.execute_on_streams.Goals as goal
+
+pub returns-clause-answered : goal.returns-clause-answered
+returns-clause-answered g c no_fault memory =
+    let answered = c.code-status.ensures.answered no_fault memory in (
+      answered.0,
+      (
+        c.code-status.new.source.faults,
+        reader_shown g.R.Read.remaining _ _ _ _ _ c.requires.input c.new-source.ensures c.into_reader.ensures
+            (λ before after. IsAnswer (root_of c.args.words.now) (reading before after) c.code-status.result
+            answered.0)
+            answered.1,
+      ),
+      appends g.W.Write.contents _ _ _ _ _ c.requires.output c.new-sink.ensures c.into_writer.ensures answered.0
+          answered.2,
+    )
+
+pub returns-clause-cut_short : goal.returns-clause-cut_short
+returns-clause-cut_short g c fault =
+    let cut = c.code-status.ensures.cut_short fault in (
+      cut.0,
+      cut.1,
+      (
+        c.code-status.new.source.faults,
+        reader_shown g.R.Read.remaining _ _ _ _ _ c.requires.input c.new-source.ensures c.into_reader.ensures
+            (λ before after. IsAnswer (root_of c.args.words.now) (reading before after) cut.0 cut.1) cut.2,
+      ),
+      appends_part g.W.Write.contents _ _ _ _ _ c.requires.output c.new-sink.ensures c.into_writer.ensures cut.1 cut.3,
+    )
+
+pub returns-clause-no_memory : goal.returns-clause-no_memory
+returns-clause-no_memory g c memory =
+    let untouched = c.code-status.ensures.no_memory memory in (
+      consumes_within _ _ _ _
+          (reader_shown g.R.Read.remaining _ _ _ _ _ c.requires.input c.new-source.ensures c.into_reader.ensures
+          (λ before after. GivesWithin before after BUNDLE_BYTES) untouched.1),
+      same_writer g.W.Write.contents _ _ _ _ _ c.requires.output c.new-sink.ensures c.into_writer.ensures untouched.2,
+    )
