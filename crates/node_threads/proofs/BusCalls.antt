@@ -164,7 +164,7 @@ take_goes bus lists notes new node reading (Ok done) course is_open waits awaite
     let from = course_of bus lists notes in
     let first : Still from lists notes node reading bus =
     record {
-      goes = record { course = course; stays = record { run = refl; lists = refl } };
+      goes = record { course = course; stays = record { run = refl; codes = refl; lists = refl } };
       waits = waits;
       awaited = awaited;
       closed = refl;
@@ -189,7 +189,7 @@ take_goes bus lists notes new node reading (Err end) course is_open waits awaite
     let from = course_of bus lists notes in
     let first : Still from lists notes node reading bus =
     record {
-      goes = record { course = course; stays = record { run = refl; lists = refl } };
+      goes = record { course = course; stays = record { run = refl; codes = refl; lists = refl } };
       waits = waits;
       awaited = awaited;
       closed = refl;

@@ -1,4 +1,4 @@
--- Each kind of change under the lock, an event or a pick, keeps a course, its run and its lists.
+-- Each kind of change under the lock, an event or a pick, keeps a course, its run, its step codes and its lists.
 use Rattle.std.proofs.Common.{◌≡◌, ◌≢◌, inl, inr, ℕ, ◌<◌, true, false, List, length, Some, refl, sym, ap, ◌∙◌, subst}
 use Rattle.std.proofs.Common.{arith}
 use Rattle.std.specs.Prelude.{slice_set}
@@ -30,17 +30,21 @@ pub record Goes (old new : CourseValue) : Type 0 where
   pub stays : Stays old new
 
 pub stays_on : (a b c : CourseValue) → Stays a b → Stays b c → Stays a c
-stays_on a b c one two = record { run = two.run ∙ one.run; lists = two.lists ∙ one.lists }
+stays_on a b c one two = record {
+  run = two.run ∙ one.run;
+  codes = two.codes ∙ one.codes;
+  lists = two.lists ∙ one.lists;
+}
 
 pub stays_same : (c : CourseValue) → Stays c c
-stays_same c = record { run = refl; lists = refl }
+stays_same c = record { run = refl; codes = refl; lists = refl }
 
 -- nothing happens
 pub goes_same : (bus : BusValue) (lists : List ClockState) (notes : List NodeNote) (new : BusValue)
     → IsCourse (course_of bus lists notes) → new ≡ bus → Goes (course_of bus lists notes) (course_of new lists notes)
 goes_same bus lists notes new course same =
     subst (λ (b : BusValue). Goes (course_of bus lists notes) (course_of b lists notes)) (sym same)
-    (record { course = course; stays = record { run = refl; lists = refl } })
+    (record { course = course; stays = record { run = refl; codes = refl; lists = refl } })
 
 -- ---- an event
 abbrev after_event : BusValue → BusValue → BusValue
@@ -73,7 +77,7 @@ event_goes bus lists notes e new course keeps happens =
         ended = λ node goal is. ends_still bus new clocks e node goal keeps happens.step (course.ended node goal is);
         closed = course.closed;
       };
-      stays = record { run = refl; lists = refl };
+      stays = record { run = refl; codes = refl; lists = refl };
     })
 
 -- ---- a pick
@@ -125,6 +129,7 @@ pick_goes bus lists notes node action course within next noted =
       stays =
           record {
             run = refl;
+            codes = refl;
             lists =
                 ap Some (map-set_same (λ (c : ClockState). c.readings) lists node new no_clock refl);
           };
@@ -157,7 +162,7 @@ note_goes bus lists notes node goal course is_open ends =
         ];
         closed = λ is. absurd (let both : false ≡ true = sym is_open.unclosed ∙ is in cc);
       };
-      stays = record { run = refl; lists = refl };
+      stays = record { run = refl; codes = refl; lists = refl };
     }
 
 pub memory_goes : (bus : BusValue) (lists : List ClockState) (notes : List NodeNote) (node : ℕ)
@@ -182,7 +187,7 @@ memory_goes bus lists notes node course within =
         ];
         closed = λ is. (node, get_or-set_at notes node node note.Memory note.Open refl inside);
       };
-      stays = record { run = refl; lists = refl };
+      stays = record { run = refl; codes = refl; lists = refl };
     }
 
 -- ---- of a course that is this value

@@ -2,6 +2,7 @@ mod ChangesUnderLock
 mod NextTargetsAndStarts
 mod ArrivalsBeforeStart
 mod BusCalls
+mod OwnJobs
 mod NextReadings
 mod SentSources
 mod ReadyNodeActions

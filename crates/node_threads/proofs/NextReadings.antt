@@ -232,7 +232,7 @@ lists_picked bus lists notes node next new (Err e) apart course is_open is waite
     subst (λ (ls : List ClockState).
     Picked (course_of bus lists notes) (course_of bus ls notes) node next (Err e)) (sym same)
     (record {
-      goes = record { course = course; stays = record { run = refl; lists = refl } };
+      goes = record { course = course; stays = record { run = refl; codes = refl; lists = refl } };
       is_open = is_open;
       ok = tt;
       err =

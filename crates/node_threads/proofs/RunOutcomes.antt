@@ -28,20 +28,21 @@ lists_of false lists others same = ap Some same
 same_by : (bus other : BusValue) (lists others : List ClockState) (notes noted : List NodeNote)
     → (bus.run ≡ other.run) × (bus.meeting ≡ other.meeting)
     → map (λ (c : ClockState). c.readings) lists ≡ map (λ (c : ClockState). c.readings) others
-    → Stays (course_of other others noted) (course_of bus lists notes)
-same_by bus other lists others notes noted same readings = record {
-  run = same.0;
-  lists = lists_of bus.meeting lists others readings ∙ ap (λ m. lists_in (clocks_of m others)) same.1;
-}
+    → IsOf other (clocks_of other.meeting others) (course_of bus lists notes)
+same_by bus other lists others notes noted same readings = (
+  same.0,
+  lists_of bus.meeting lists others readings ∙ ap (λ m. lists_in (clocks_of m others)) same.1,
+)
 
-pub same_stays : (bus other : BusValue) (lists others : List ClockState) (notes noted : List NodeNote)
+pub same_courses : (bus other : BusValue) (lists others : List ClockState) (notes noted : List NodeNote)
     (v w : CourseValue)
     → course_of bus lists notes ≡ v → course_of other others noted ≡ w
     → (bus.run ≡ other.run) × (bus.meeting ≡ other.meeting)
-    → map (λ (c : ClockState). c.readings) lists ≡ map (λ (c : ClockState). c.readings) others → Stays w v
-same_stays bus other lists others notes noted v w is there same readings =
-    subst (λ a. Stays w a) is
-    (subst (λ a. Stays a (course_of bus lists notes)) there
+    → map (λ (c : ClockState). c.readings) lists ≡ map (λ (c : ClockState). c.readings) others
+    → IsOf w.bus w.clocks v
+same_courses bus other lists others notes noted v w is there same readings =
+    subst (λ a. IsOf w.bus w.clocks a) is
+    (subst (λ (a : CourseValue). IsOf a.bus a.clocks (course_of bus lists notes)) there
     (same_by bus other lists others notes noted same readings))
 
 -- ---- the outcome
@@ -66,23 +67,23 @@ none_stopped b new clocks ends is fit node stopped =
     subst (λ (v : BusValue). v.state.stop ≢ None) (sym is) (fit.each node ended.Stopped stopped)
 
 -- a course belongs to the run of a bus and its lists, and the outcome is the outcome of that run
-outcome_of : (b : BusValue) (clocks : Clocks) (kept c : CourseValue) (new : BusValue) (ends : List NodeEnd)
-    → IsOf b clocks kept → Stays kept c → IsOutcome c.bus c.clocks new ends → IsOutcome b clocks new ends
-outcome_of b clocks kept c new ends is stays out = record {
-  run = out.run ∙ stays.run ∙ is.0;
+outcome_of : (b : BusValue) (clocks : Clocks) (c : CourseValue) (new : BusValue) (ends : List NodeEnd)
+    → IsOf b clocks c → IsOutcome c.bus c.clocks new ends → IsOutcome b clocks new ends
+outcome_of b clocks c new ends is out = record {
+  run = out.run ∙ is.0;
   rules = out.rules;
   later = out.later;
-  lists = out.lists ∙ stays.lists ∙ is.1;
+  lists = out.lists ∙ is.1;
   runs = out.runs;
   ends_fit = out.ends_fit;
 }
 
-pub run_outcome : {E : Type 0} (b : BusValue) (clocks : Clocks) (kept c : CourseValue) (result : Result RunEnd E)
-    → IsOf b clocks kept → Stays kept c
+pub run_outcome : {E : Type 0} (b : BusValue) (clocks : Clocks) (c : CourseValue) (result : Result RunEnd E)
+    → IsOf b clocks c
     → IfOk result (λ (end : RunEnd). IsOutcome c.bus c.clocks end.bus end.ends)
     → IfOk result (λ (end : RunEnd). IsOutcome b clocks end.bus end.ends)
-run_outcome b clocks kept c (Ok end) is stays out = outcome_of b clocks kept c end.bus end.ends is stays out
-run_outcome b clocks kept c (Err e) is stays out = tt
+run_outcome b clocks c (Ok end) is out = outcome_of b clocks c end.bus end.ends is out
+run_outcome b clocks c (Err e) is out = tt
 
 -- ---- the spare run
 pub fresh_opens : (b f : BusValue) → f ≡ opening_bus b.run b.codes b.meeting → f ≡ opening_bus f.run f.codes f.meeting

@@ -1,8 +1,10 @@
 -- What lies under the lock may go to other threads: a course is made of data that it owns, and what lies under an
 -- `Arc` may be shared.
+use denote.RattleType.{RattleType}
 use denote.Param.Send.{IsSend, IsSync, sendable, struct_send, recorded_send}
 use denote.Struct.Declared as S
 use Rattle.std.proofs.Crossing.{Box-send, Box-sync, Vec-send, Vec-sync, Arc-send, Arc-sync, crosses}
+use Rattle.std.specs.contracts.marker.PhantomData.{the_field as phantom, the_type as phantom_type}
 use Rattle.pals_base.proofs.behaviour.Expr.TheLaws.TheKnot.{send-Expr, sync-Expr}
 use Rattle.pals_base.proofs.behaviour.Act.TheLaws.TheKnot.{send-Act, sync-Act}
 use Rattle.pals_base.proofs.item_list.ItemList.TheSendSync.{the_send as items_send, the_sync as items_sync}
@@ -53,12 +55,13 @@ use Rattle.pals_bus.specs.contracts.node_list.NodeList.{the_field as node_list}
 use Rattle.pals_bus.specs.contracts.node_list.NodeList.TheInside.{the_type as node_list_inside}
 use Rattle.pals_bus.specs.contracts.bus_fields.BusFields.{the_field as bus_fields}
 use Rattle.pals_bus.specs.contracts.bus.Bus.{the_field as bus}
+use Rattle.node_threads.specs.declared.run_codes.RunCodes.{Ghosts}
 use Rattle.node_threads.specs.contracts.course.SharedRun.{the_field as course}
 use Rattle.node_threads.specs.contracts.locked_state.Locked.{the_field as locked}
 use Rattle.node_threads.specs.contracts.sleepers.ThreadSlot.{the_field as slot}
 use Rattle.node_threads.specs.contracts.sleepers.Sleepers.{the_field as sleepers}
 use Rattle.node_threads.specs.contracts.wake_list.WakeList.{the_field as wakes}
-use Rattle.node_threads.specs.contracts.wake_signals.WakeSignals.{the_field as bells}
+use Rattle.node_threads.specs.contracts.wake_signals.WakeSignals.{the_field as signals}
 use Rattle.node_threads.specs.contracts.node_end.NodeNote.{the_field as note}
 
 -- ---- what a component does
@@ -236,8 +239,11 @@ thread_slot_send = search sendable depth 20
 sleepers_send : IsSend sleepers.row
 sleepers_send = search (sendable, items_send, thread_slot_send, wakes_send) depth 20
 
-pub locked_send : IsSend locked.row
-locked_send = search (sendable, course_send, sleepers_send) depth 20
+phantom_send : (C : RattleType) → IsSend (phantom C).row
+phantom_send C = struct_send (S.shape (phantom_type C)) tt
 
-pub bells_sync : IsSync bells.row
-bells_sync = search (sendable, crosses) depth 20
+pub locked_send : (C : RattleType) (codes : Ghosts C.Denot) → IsSend (locked C codes).row
+locked_send C codes = search (sendable, course_send, sleepers_send, phantom_send) depth 20
+
+pub signals_sync : IsSync signals.row
+signals_sync = search (sendable, crosses) depth 20

@@ -5,7 +5,7 @@ ghost use Rattle.bus_machine.specs.proof.AgreementLaws.{IsRunOf};
 ghost use Rattle.pals_bus.specs.proof.Meeting.{HasEnded};
 ghost use Rattle.pals_bus.specs.proof.OpeningNodes.{opening_bus};
 ghost use Rattle.run_laws.specs.Runs.{target_of, HaveFreshClocks, Runs};
-ghost use Rattle.node_threads.specs.proof.SharedCourses.{clocks_of, IsCourse, Stays, IsOpen, IsDone, next_in, is_send};
+ghost use Rattle.node_threads.specs.proof.SharedCourses.{clocks_of, IsCourse, IsOf, IsOpen, IsDone, next_in, is_send};
 ghost use Rattle.node_threads.specs.proof.NodeEndsAndOutcomes.{AllEnded, EndsFit, end_in, phase_end, closed_end};
 
 use crate::clocks::same_lists;
@@ -79,7 +79,7 @@ impl SharedRun {
 
     /// Whether it belongs to the same run as another one, with the same lists.
     pub fn is_same(&self, other: &SharedRun) -> bool
-        ensures { IsTrue result → Stays other.now self.now }
+        ensures { IsTrue result → IsOf other.now.bus other.now.clocks self.now }
     {
         self.bus.same_run(&other.bus) && same_lists(self.lists.as_slice(), other.lists.as_slice())
     }

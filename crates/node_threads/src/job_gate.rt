@@ -24,10 +24,10 @@ impl Gate for NoGate {
 }
 
 /// Does a node's job between the calls of the gate, outside the lock.
-pub fn done_by<G: Gate>(gate: &G, node: NodeNo, job: Job) -> Done
+pub fn done_by<G: Gate>(gate: &G, job: Job) -> Done
     ensures { result ≡ job }
 {
-    let round = job.round();
+    let (node, round) = (job.node(), job.round());
     gate.enter(node, round);
     let done = job.run();
     gate.leave(node, round);

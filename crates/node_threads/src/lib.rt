@@ -10,6 +10,8 @@ mod locked_state;
 mod moves_under_lock;
 mod node_end;
 mod opening_course;
+mod own_jobs;
+mod run_codes;
 mod run_completion;
 mod sleepers;
 mod thread_starters;

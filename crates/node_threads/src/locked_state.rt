@@ -1,33 +1,44 @@
-//! The state under the lock: the course of the run, and who sleeps until it advances. A thread that takes
-//! the lock knows only the type invariant of the course.
+//! The state under the lock: the course of the run, and who sleeps until it advances. A thread that takes the lock
+//! knows only the type invariant of the course, and the step codes of the run.
 ghost use Rattle.std.specs.Prelude.{◌≡◌, ℕ, true, IsTrue};
 ghost use Rattle.run_laws.specs.Runs.{IsLeast};
 ghost use Rattle.node_threads.specs.proof.SharedCourses.{Stays, IsOpen, IsDone};
 ghost use Rattle.node_threads.specs.proof.Sleepers.{slot_at, Waits};
+ghost use Rattle.node_threads.specs.proof.OwnJobs.{GivesOwn};
 
 use crate::course::SharedRun;
 use crate::moves_under_lock::NextMove;
+use crate::own_jobs::{OwnDone, OwnJob};
+use crate::run_codes::RunCodes;
 use crate::sleepers::Sleepers;
 use crate::wake_list::Sleeper;
 use pals_base::NodeNo;
-use pals_node::Done;
+use pals_node::Job;
+use std::marker::PhantomData;
 
-/// The course of a run, and who sleeps.
+/// The course of a run with these step codes, and who sleeps.
 #[derive(Drop)]
-pub struct Locked {
+pub struct Locked<C: RunCodes> {
     course: SharedRun,
     sleepers: Sleepers,
+    run: PhantomData<C>,
+    ghost codes: { course.bus.codes ≡ C.codes },
 }
 
-impl Locked {
+impl<C: RunCodes> Locked<C> {
     /// A course whose hour is the least target, and who sleeps.
-    pub fn new(course: SharedRun, mut sleepers: Sleepers) -> Locked
+    pub fn new(course: SharedRun, mut sleepers: Sleepers) -> Locked<C>
+        requires codes { course.bus.codes ≡ C.codes }
         ensures course { result.course ≡ course }
         ensures hour { IsLeast course.bus.run course.bus.state result.sleepers.hour }
         ensures others { result.sleepers ≡ record sleepers { hour = result.sleepers.hour } }
     {
         sleepers.move_hour(&course);
-        Locked { course, sleepers }
+        Locked {
+            course,
+            sleepers,
+            run: PhantomData,
+        }
     }
 
     /// The course, once all threads have ended.
@@ -43,19 +54,23 @@ impl Locked {
     /// If a job comes in while others have to be woken, it is nobody: a thread that is on its way to its turn will
     /// wake the next one.
     #[tactic(auto, using(crate::proofs::ChangesUnderLock::stays_on))]
-    pub fn turn(&mut self, node: NodeNo, done: Option<Done>) -> (NextMove, Option<Sleeper>)
+    pub fn turn(
+        &mut self,
+        node: NodeNo,
+        done: Option<OwnDone<C>>,
+    ) -> (NextMove<OwnJob<C>>, Option<Sleeper>)
         ensures { Stays self.old.course self.new.course }
     {
         self.sleepers.rise(node);
         let tells = done.is_none() || !self.sleepers.has_wakes();
         if let Some(done) = done {
-            self.finish(node, done);
+            self.finish(done);
         }
         self.send_first(node);
         let turn = if self.sleepers.is_early(&self.course, node) {
             NextMove::Wait
         } else {
-            self.course.begin(node)
+            self.begin(node)
         };
         self.wake_others(node, &turn);
         let wake = if tells {
@@ -67,7 +82,7 @@ impl Locked {
     }
 
     /// The next turn of a node that the calling thread has.
-    pub fn turn_of_caller(&mut self, node: NodeNo) -> (NextMove, Option<Sleeper>)
+    pub fn turn_of_caller(&mut self, node: NodeNo) -> (NextMove<OwnJob<C>>, Option<Sleeper>)
         ensures { Stays self.old.course self.new.course }
     {
         if self.sleepers.is_of_caller(node) {
@@ -78,10 +93,10 @@ impl Locked {
     }
 
     /// The job of a node that the calling thread has comes in.
-    pub fn finish_of_caller(&mut self, node: NodeNo, done: Done) -> Option<Sleeper>
+    pub fn finish_of_caller(&mut self, done: OwnDone<C>) -> Option<Sleeper>
         ensures { Stays self.old.course self.new.course }
     {
-        self.finish(node, done);
+        self.finish(done);
         self.sleepers.take_wake()
     }
 
@@ -126,12 +141,21 @@ impl Locked {
         self.sleepers.caller_is_over(&self.course)
     }
 
-    // A node's job comes in.
-    #[tactic(auto, using(crate::proofs::ChangesUnderLock::stays_on))]
-    fn finish(&mut self, node: NodeNo, done: Done)
+    // A node continues, if its part has not ended.
+    fn begin(&mut self, node: NodeNo) -> NextMove<OwnJob<C>>
         ensures { Stays self.old.course self.new.course }
     {
-        self.course.hand_in(node, done);
+        own_move(self.course.begin(node))
+    }
+
+    // A node's job comes in.
+    #[tactic(auto, using(crate::proofs::ChangesUnderLock::stays_on))]
+    fn finish(&mut self, done: OwnDone<C>)
+        ensures { Stays self.old.course self.new.course }
+    {
+        let done = done.into_done();
+        let node = done.node();
+        self.course.hand_in(done);
         self.move_hour(node);
     }
 
@@ -141,13 +165,13 @@ impl Locked {
         ensures { Stays self.old.course self.new.course }
     {
         if self.course.is_to_send(node) && !self.sleepers.is_early(&self.course, node) {
-            let turn = self.course.begin(node);
+            let turn = self.begin(node);
             self.wake_others(node, &turn);
         }
     }
 
     // The threads that waited for what a node has done are woken.
-    fn wake_others(&mut self, node: NodeNo, turn: &NextMove)
+    fn wake_others(&mut self, node: NodeNo, turn: &NextMove<OwnJob<C>>)
         ensures { Stays self.old.course self.new.course }
     {
         match turn {
@@ -192,7 +216,19 @@ impl Locked {
         ensures { Stays self.old.course self.new.course }
     {
         if self.sleepers.is_at_hour(&self.course, node) && self.course.is_to_send(node) {
-            let _sent = self.course.begin(node);
+            let _sent = self.begin(node);
         }
+    }
+}
+
+// A move whose job, if there is one, has its node's code.
+fn own_move<C: RunCodes>(turn: NextMove<Job>) -> NextMove<OwnJob<C>>
+    requires { GivesOwn C.codes turn }
+{
+    match turn {
+        NextMove::Work(job) => NextMove::Work(OwnJob::new(job)),
+        NextMove::Wait => NextMove::Wait,
+        NextMove::Again => NextMove::Again,
+        NextMove::Over => NextMove::Over,
     }
 }

@@ -4,6 +4,7 @@ ghost use Rattle.std.specs.Prelude.{◌<◌, ◌≤◌, length, OnOk, Some};
 ghost use Rattle.pals_base.specs.declared.limits.TheConstants.{READING};
 ghost use Rattle.bus_machine.specs.Machine.{Start, Step, Send};
 ghost use Rattle.node_threads.specs.proof.SharedCourses.{Stays, IsOpen, EndsAt, IsToStartIn, IsAwaitedIn, Allows};
+ghost use Rattle.node_threads.specs.proof.OwnJobs.{IsOwn, GivesOwn};
 
 use crate::clocks::ClockAnswer;
 use crate::course::SharedRun;
@@ -15,9 +16,9 @@ use pals_node::{Done, Job, StartEnd, StepEnd};
 
 /// What a thread does with its node after a locked step.
 #[derive(Drop)]
-pub enum NextMove {
+pub enum NextMove<J> {
     /// Runs a job, outside the lock.
-    Work(Job),
+    Work(J),
     /// Sleeps until others have advanced.
     Wait,
     /// Goes on at once: the node has sent its round.
@@ -30,8 +31,9 @@ impl SharedRun {
     /// A node continues, if its part has not ended: to a job, to a wait, or to its end. It takes its next
     /// step at a reading of its clock.
     #[tactic(auto, using(crate::proofs::ChangesUnderLock::stays_on))]
-    pub fn begin(&mut self, node: NodeNo) -> NextMove
-        ensures { Stays self.old self.new }
+    pub fn begin(&mut self, node: NodeNo) -> NextMove<Job>
+        ensures stays { Stays self.old self.new }
+        ensures own { GivesOwn self.new.bus.codes result }
     {
         if !self.is_open(node) {
             return NextMove::Over;
@@ -52,30 +54,34 @@ impl SharedRun {
         }
     }
 
-    /// Takes in the finished job of a node.
-    pub fn hand_in(&mut self, node: NodeNo, done: Done)
+    /// Takes in a finished job, which has its node's code.
+    pub fn hand_in(&mut self, done: Done)
+        requires { IsOwn self.old.bus.codes done }
         ensures { Stays self.old self.new }
     {
+        let node = done.node();
         if node.0 >= self.count() {
             return;
         }
-        let _ = self.bus.finish(node, done);
+        let _ = self.bus.finish_own(node, done);
     }
 
     // If a node's thread returned without its job, the job is run here.
-    fn recover(&mut self, node: NodeNo) -> NextMove
+    fn recover(&mut self, node: NodeNo) -> NextMove<Job>
         requires { node.0 < length self.old.bus.run.design.components }
-        ensures { Stays self.old self.new }
+        ensures stays { Stays self.old self.new }
+        ensures own { GivesOwn self.new.bus.codes result }
     {
         let _ = self.bus.finish_here(node);
         NextMove::Again
     }
 
     // It is noted that the clock of a node has ended.
-    fn note_end(&mut self, node: NodeNo, target: Nanos) -> NextMove
+    fn note_end(&mut self, node: NodeNo, target: Nanos) -> NextMove<Job>
         requires is_open { IsOpen self.old node.0 }
         requires ended { EndsAt self.old.bus self.old.clocks node.0 target }
-        ensures { Stays self.old self.new }
+        ensures stays { Stays self.old self.new }
+        ensures own { GivesOwn self.new.bus.codes result }
     {
         self.notes
             .set(node.0 as usize, NodeNote::ClockEnded { target });
@@ -84,10 +90,11 @@ impl SharedRun {
 
     // A node takes the messages that are due, and starts its next round.
     #[tactic(auto, using(crate::proofs::ChangesUnderLock::stays_on))]
-    fn start(&mut self, node: NodeNo, reading: Nanos) -> NextMove
+    fn start(&mut self, node: NodeNo, reading: Nanos) -> NextMove<Job>
         requires is_open { IsOpen self.old node.0 }
         requires waits { IsToStartIn self.old node reading }
-        ensures { Stays self.old self.new }
+        ensures stays { Stays self.old self.new }
+        ensures own { GivesOwn self.new.bus.codes result }
     {
         if !self.is_awaited(node) {
             return NextMove::Wait;
@@ -119,10 +126,11 @@ impl SharedRun {
 
     // A node starts the next step of its round.
     #[tactic(auto, using(crate::proofs::ChangesUnderLock::stays_on))]
-    fn step(&mut self, node: NodeNo, reading: Nanos) -> NextMove
+    fn step(&mut self, node: NodeNo, reading: Nanos) -> NextMove<Job>
         requires is_open { IsOpen self.old node.0 }
         requires steps { Allows self.old (Step node (Some reading)) }
-        ensures { Stays self.old self.new }
+        ensures stays { Stays self.old self.new }
+        ensures own { GivesOwn self.new.bus.codes result }
     {
         match self.bus.step(node, Some(reading)) {
             Ok(job) => NextMove::Work(job),
@@ -133,20 +141,22 @@ impl SharedRun {
     }
 
     // A node sends its round.
-    fn send(&mut self, node: NodeNo, reading: Nanos) -> NextMove
+    fn send(&mut self, node: NodeNo, reading: Nanos) -> NextMove<Job>
         requires is_open { IsOpen self.old node.0 }
         requires sends { Allows self.old (Send node (Some reading)) }
         requires range { reading ≤ READING }
-        ensures { Stays self.old self.new }
+        ensures stays { Stays self.old self.new }
+        ensures own { GivesOwn self.new.bus.codes result }
     {
         let _ = self.bus.send(node, Some(reading));
         NextMove::Again
     }
 
     // A node finds no memory, and the run is closed.
-    fn out_of_memory(&mut self, node: NodeNo) -> NextMove
+    fn out_of_memory(&mut self, node: NodeNo) -> NextMove<Job>
         requires { node.0 < length self.old.bus.run.design.components }
-        ensures { Stays self.old self.new }
+        ensures stays { Stays self.old self.new }
+        ensures own { GivesOwn self.new.bus.codes result }
     {
         self.bus.close();
         self.notes.set(node.0 as usize, NodeNote::Memory);

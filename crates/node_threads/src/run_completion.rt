@@ -1,7 +1,7 @@
 //! The completion of a run once its threads have ended: the parts of nodes that have not ended, as where a thread
 //! came back without its job, are driven to their ends with no other thread.
 ghost use Rattle.std.specs.Prelude.{IfOk};
-ghost use Rattle.node_threads.specs.proof.SharedCourses.{Stays};
+ghost use Rattle.node_threads.specs.proof.SharedCourses.{IsOf, Stays};
 ghost use Rattle.node_threads.specs.proof.NodeEndsAndOutcomes.{EndsFit, IsOutcome};
 
 use crate::course::SharedRun;
@@ -29,7 +29,7 @@ pub fn end_run<R: Wait, G: Gate>(
 
 // The course from the lock if it belongs to the spare run, and else that run at its opening.
 fn held_or_kept(mut out: SharedRun, mut kept: SharedRun) -> SharedRun
-    ensures { Stays kept result }
+    ensures { IsOf kept.bus kept.clocks result }
 {
     restore(&mut out, &mut kept);
     out
@@ -37,7 +37,7 @@ fn held_or_kept(mut out: SharedRun, mut kept: SharedRun) -> SharedRun
 
 // Puts back the spare run if the lock held another one.
 fn restore(out: &mut SharedRun, kept: &mut SharedRun)
-    ensures { Stays kept.old out.new }
+    ensures { IsOf kept.old.bus kept.old.clocks out.new }
 {
     if out.is_same(kept) {
         return;
@@ -96,7 +96,6 @@ fn go_on<G: Gate>(course: &mut SharedRun, gate: &G, node: NodeNo)
     ensures { Stays course.old course.new }
 {
     if let NextMove::Work(job) = course.begin(node) {
-        let done = done_by(gate, node, job);
-        course.hand_in(node, done);
+        course.hand_in(done_by(gate, job));
     }
 }

@@ -3,7 +3,7 @@ ghost use Rattle.std.specs.Prelude.{◌≡◌, ◌<◌, ◌≤◌, ℕ, length, 
 ghost use Rattle.run_laws.specs.Runs.{IsLeast};
 ghost use Rattle.node_threads.specs.proof.SharedCourses.{IsOpen, IsDone};
 ghost use Rattle.node_threads.specs.declared.wake_list.Sleeper.{Sleeper};
-ghost use Rattle.node_threads.specs.proof.Sleepers.{no_wakes, is_to_ring, without_bell, free_slot, slot_at, with_slot};
+ghost use Rattle.node_threads.specs.proof.Sleepers.{no_wakes, is_to_wake, without_sleeper, free_slot, slot_at, with_slot};
 ghost use Rattle.node_threads.specs.proof.Sleepers.{IsAbove, IsHourOver, Waits, Rouses};
 
 use crate::course::SharedRun;
@@ -107,17 +107,17 @@ impl Sleepers {
         self.wakes.any()
     }
 
-    /// One bell that is to be rung, which then is noted no longer.
+    /// One thread that is to be woken, which then is noted no longer.
     pub fn take_wake(&mut self) -> Option<Sleeper>
-        ensures taken { IfSome result (λ bell. is_to_ring self.old.wakes bell ≡ true) }
-        ensures rest { self.new ≡ record self.old { wakes = without_bell self.old.wakes result } }
+        ensures taken { IfSome result (λ sleeper. is_to_wake self.old.wakes sleeper ≡ true) }
+        ensures rest { self.new ≡ record self.old { wakes = without_sleeper self.old.wakes result } }
     {
         self.wakes.take()
     }
 
     /// The thread of a node has a turn: it need not be woken.
     pub fn rise(&mut self, node: NodeNo)
-        ensures { self.new ≡ record self.old { wakes = without_bell self.old.wakes (Some (Sleeper.Node node.0)) } }
+        ensures { self.new ≡ record self.old { wakes = without_sleeper self.old.wakes (Some (Sleeper.Node node.0)) } }
     {
         self.wakes.remove(node.0 as usize);
     }

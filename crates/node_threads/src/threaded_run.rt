@@ -12,6 +12,7 @@ use crate::job_gate::Gate;
 use crate::locked_state::Locked;
 use crate::node_end::NodeEnd;
 use crate::opening_course::open_with_spare;
+use crate::run_codes::RunCodes;
 use crate::run_completion::end_run;
 use crate::sleepers::Sleepers;
 use crate::thread_starters::Starter;
@@ -21,6 +22,7 @@ use pals_base::{ItemList, NoMemory};
 use pals_bus::Bus;
 use pals_clock::Clocks;
 use std::alloc::Global;
+use std::marker::Brand;
 use std::sync::{Mutex, Wait};
 use std::thread::Threads;
 
@@ -54,27 +56,44 @@ pub fn run_threads<R: Threads + Wait + Sync, W: Starter, G: Gate + Sync>(
         gate,
     } = host;
     let (course, kept) = open_with_spare(alloc, bus, clocks)?;
-    let count = course.count();
-    let (lock, bells) = shared(alloc, course)?;
-    work_all(runtime, &lock, &bells, count, starter, gate);
-    let out = lock.into_inner().into_course();
+    let out = run_course::<Brand, R, W, G>(runtime, alloc, course, starter, gate)?;
     end_run(runtime, alloc, out, kept, gate)
 }
 
-// A course under a lock, and the bells of its nodes.
-fn shared(alloc: Global, course: SharedRun) -> Result<(Mutex<Locked>, WakeSignals), NoMemory>
-    ensures { IfOk result (λ both. vec_len both.1.nodes ≡ length course.bus.run.design.components) }
+// The course that comes from the lock once all threads have ended. `C` stands for the codes of its nodes.
+fn run_course<C: RunCodes + Send + Sync, R: Threads + Wait + Sync, W: Starter, G: Gate + Sync>(
+    rt: &R,
+    alloc: Global,
+    course: SharedRun,
+    starter: &mut W,
+    gate: &G,
+) -> Result<SharedRun, NoMemory>
+    requires codes { course.bus.codes ≡ C.codes }
 {
-    let (bells, sleepers) = bells_and_sleepers(alloc, course.count())?;
-    let lock = Mutex::new(Locked::new(course, sleepers));
-    Ok((lock, bells))
+    let count = course.count();
+    let (lock, signals) = shared::<C>(alloc, course)?;
+    work_all(rt, &lock, &signals, count, starter, gate);
+    Ok(lock.into_inner().into_course())
 }
 
-// The bells of `count` nodes, all of which are awake.
-fn bells_and_sleepers(alloc: Global, count: u32) -> Result<(WakeSignals, Sleepers), NoMemory>
+// A course under a lock, and the signals to the threads of its nodes.
+fn shared<C: RunCodes>(
+    alloc: Global,
+    course: SharedRun,
+) -> Result<(Mutex<Locked<C>>, WakeSignals), NoMemory>
+    requires codes { course.bus.codes ≡ C.codes }
+    ensures { IfOk result (λ both. vec_len both.1.nodes ≡ length course.bus.run.design.components) }
+{
+    let (signals, sleepers) = signals_and_sleepers(alloc, course.count())?;
+    let lock = Mutex::new(Locked::new(course, sleepers));
+    Ok((lock, signals))
+}
+
+// The signals to the threads of `count` nodes, all of which are awake.
+fn signals_and_sleepers(alloc: Global, count: u32) -> Result<(WakeSignals, Sleepers), NoMemory>
     ensures { IfOk result (λ both. vec_len both.0.nodes ≡ count) }
 {
-    let bells = WakeSignals::new(alloc, count)?;
+    let signals = WakeSignals::new(alloc, count)?;
     let sleepers = Sleepers::new(alloc, count)?;
-    Ok((bells, sleepers))
+    Ok((signals, sleepers))
 }

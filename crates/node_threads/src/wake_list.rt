@@ -1,16 +1,16 @@
 //! Which threads are to be woken.
 ghost use Rattle.std.specs.Prelude.{◌≡◌, IfSome, Some, false, true, slice_index_or};
 ghost use Rattle.node_threads.specs.declared.wake_list.Sleeper.{Sleeper};
-ghost use Rattle.node_threads.specs.proof.Sleepers.{no_wakes, with_rung, is_to_ring, without_bell};
+ghost use Rattle.node_threads.specs.proof.Sleepers.{no_wakes, with_wake, is_to_wake, without_sleeper};
 
 use pals_base::limits::COMPONENTS;
 
-/// The bell of a node, or that of the calling thread.
+/// A thread that may sleep: that of a node, or the calling thread.
 #[derive(Clone, Copy)]
 pub enum Sleeper {
-    /// Of the node of this number.
+    /// The own thread of the node of this number.
     Node(usize),
-    /// Of the calling thread.
+    /// The calling thread.
     Caller,
 }
 
@@ -40,7 +40,7 @@ impl WakeList {
 
     /// The thread that has a node is to be woken too: the calling thread, or the node's own.
     pub fn add(&mut self, number: usize, of_caller: bool)
-        ensures { self.new ≡ with_rung self.old number of_caller }
+        ensures { self.new ≡ with_wake self.old number of_caller }
     {
         self.any = true;
         if of_caller {
@@ -59,17 +59,17 @@ impl WakeList {
 
     /// A node's own thread need not be woken.
     pub fn remove(&mut self, number: usize)
-        ensures { self.new ≡ without_bell self.old (Some (Sleeper.Node number)) }
+        ensures { self.new ≡ without_sleeper self.old (Some (Sleeper.Node number)) }
     {
         if number < COMPONENTS {
             self.nodes[number] = false;
         }
     }
 
-    /// One bell that is to be rung, which then is noted no longer. That of the calling thread comes last.
+    /// One thread that is to be woken, which then is noted no longer. The calling thread comes last.
     pub fn take(&mut self) -> Option<Sleeper>
-        ensures taken { IfSome result (λ bell. is_to_ring self.old bell ≡ true) }
-        ensures rest { self.new ≡ without_bell self.old result }
+        ensures taken { IfSome result (λ sleeper. is_to_wake self.old sleeper ≡ true) }
+        ensures rest { self.new ≡ without_sleeper self.old result }
     {
         if !self.any {
             return None;

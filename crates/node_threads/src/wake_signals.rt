@@ -1,14 +1,15 @@
-//! The bells of sleeping threads: one `Condvar` for each node, and one for the calling thread. Only
+//! The signals to sleeping threads: one `Condvar` for each node, and one for the calling thread. Only
 //! other threads see who sleeps and who is woken, so no clause speaks of it.
 ghost use Rattle.std.specs.Prelude.{◌≡◌, IfOk, vec_len};
 
 use crate::locked_state::Locked;
+use crate::run_codes::RunCodes;
 use crate::wake_list::Sleeper;
 use pals_base::{NoMemory, NodeNo};
 use std::alloc::Global;
 use std::sync::{Condvar, Mutex, MutexGuard, Wait};
 
-/// A bell for each node, and one for the calling thread.
+/// A signal to the thread of each node, and one to the calling thread.
 #[derive(Drop)]
 pub struct WakeSignals {
     nodes: Vec<Condvar>,
@@ -16,9 +17,9 @@ pub struct WakeSignals {
 }
 
 impl WakeSignals {
-    /// The bells of a run of `count` nodes.
+    /// The signals of a run of `count` nodes.
     pub fn new(alloc: Global, count: u32) -> Result<WakeSignals, NoMemory>
-        ensures { IfOk result (λ bells. vec_len bells.nodes ≡ count) }
+        ensures { IfOk result (λ signals. vec_len signals.nodes ≡ count) }
     {
         let mut nodes = Vec::new(alloc);
         for _node in 0..count {
@@ -31,35 +32,35 @@ impl WakeSignals {
     }
 
     /// Sleeps until a node need not wait, and gives the lock back that it was given.
-    pub fn sleep<'a, R: Wait>(
+    pub fn sleep<'a, C: RunCodes, R: Wait>(
         &self,
         rt: &R,
-        locked: MutexGuard<'a, Locked>,
+        locked: MutexGuard<'a, Locked<C>>,
         node: NodeNo,
-    ) -> MutexGuard<'a, Locked> {
+    ) -> MutexGuard<'a, Locked<C>> {
         match self.nodes.get(node.0 as usize) {
             None => locked,
-            Some(bell) => bell.wait_while(rt, locked, |locked| locked.sleeps(node)),
+            Some(signal) => signal.wait_while(rt, locked, |locked| locked.sleeps(node)),
         }
     }
 
     /// Sleeps until some node of the calling thread need not wait. Answers whether none of them has
     /// anything left to do.
-    pub fn sleep_caller<R: Wait>(&self, rt: &R, lock: &Mutex<Locked>) -> bool {
+    pub fn sleep_caller<C: RunCodes, R: Wait>(&self, rt: &R, lock: &Mutex<Locked<C>>) -> bool {
         let locked = self
             .caller
             .wait_while(rt, lock.lock(rt), |locked| locked.caller_sleeps());
         locked.caller_is_over()
     }
 
-    /// Wakes the thread of a bell, if there is one.
-    pub fn ring(&self, bell: Option<Sleeper>) {
-        match bell {
+    /// Wakes a thread, if one is given.
+    pub fn notify(&self, sleeper: Option<Sleeper>) {
+        match sleeper {
             None => {}
             Some(Sleeper::Caller) => self.caller.notify_one(),
             Some(Sleeper::Node(number)) => {
-                if let Some(bell) = self.nodes.get(number) {
-                    bell.notify_one();
+                if let Some(signal) = self.nodes.get(number) {
+                    signal.notify_one();
                 }
             }
         }

@@ -1,12 +1,12 @@
 //! The work of threads on the course under the lock: each has one node, and the calling thread has the nodes
-//! that have no thread. Only the type of a course pins the result, so there are no clauses here.
-use crate::job_gate::{Gate, done_by};
+//! that have no thread. Only the types of a course and of its jobs pin the result, so there are no clauses here.
+use crate::job_gate::Gate;
 use crate::locked_state::Locked;
 use crate::moves_under_lock::NextMove;
+use crate::run_codes::RunCodes;
 use crate::thread_starters::Starter;
 use crate::wake_signals::WakeSignals;
 use pals_base::NodeNo;
-use pals_node::Done;
 use std::sync::{Mutex, Wait};
 use std::thread;
 use std::thread::{Builder, Threads};
@@ -16,10 +16,10 @@ use std::thread::{Builder, Threads};
 const STACK: usize = 0x4_0000;
 
 /// The parts of all nodes, up to their ends.
-pub fn work_all<R: Threads + Wait + Sync, W: Starter, G: Gate + Sync>(
+pub fn work_all<C: RunCodes + Send + Sync, R: Threads + Wait + Sync, W: Starter, G: Gate + Sync>(
     rt: &R,
-    lock: &Mutex<Locked>,
-    bells: &WakeSignals,
+    lock: &Mutex<Locked<C>>,
+    signals: &WakeSignals,
     count: u32,
     starter: &mut W,
     gate: &G,
@@ -30,22 +30,22 @@ pub fn work_all<R: Threads + Wait + Sync, W: Starter, G: Gate + Sync>(
             let started = starter.admits(node)
                 && Builder::new()
                     .stack_size(STACK)
-                    .spawn_scoped(scope, move || work(rt, lock, bells, gate, node))
+                    .spawn_scoped(scope, move || work(rt, lock, signals, gate, node))
                     .is_ok();
             if !started {
                 lock.lock(rt).give_to_caller(node);
             }
         }
-        work_in_turns(rt, lock, bells, count, gate);
+        work_in_turns(rt, lock, signals, count, gate);
     });
 }
 
 // The part of a node, in a thread of its own: turns under the lock, and jobs outside it. If a turn waits, the
 // thread sleeps under the same lock, and takes the next one as soon as it is woken.
-fn work<R: Wait, G: Gate>(
+fn work<C: RunCodes, R: Wait, G: Gate>(
     rt: &R,
-    lock: &Mutex<Locked>,
-    bells: &WakeSignals,
+    lock: &Mutex<Locked<C>>,
+    signals: &WakeSignals,
     gate: &G,
     node: NodeNo,
 ) {
@@ -54,16 +54,16 @@ fn work<R: Wait, G: Gate>(
         let mut locked = lock.lock(rt);
         let (turn, wake) = match locked.turn(node, done) {
             (NextMove::Wait, wake) => {
-                bells.ring(wake);
-                locked = bells.sleep(rt, locked, node);
+                signals.notify(wake);
+                locked = signals.sleep(rt, locked, node);
                 locked.turn(node, None)
             }
             other => other,
         };
         drop(locked);
-        bells.ring(wake);
+        signals.notify(wake);
         done = match turn {
-            NextMove::Work(job) => Some(done_by(gate, node, job)),
+            NextMove::Work(job) => Some(job.done_by(gate)),
             NextMove::Wait | NextMove::Again => None,
             NextMove::Over => return,
         };
@@ -71,36 +71,36 @@ fn work<R: Wait, G: Gate>(
 }
 
 // The parts of the nodes that have no thread, in turns, in the thread that calls it.
-fn work_in_turns<R: Wait, G: Gate>(
+fn work_in_turns<C: RunCodes, R: Wait, G: Gate>(
     rt: &R,
-    lock: &Mutex<Locked>,
-    bells: &WakeSignals,
+    lock: &Mutex<Locked<C>>,
+    signals: &WakeSignals,
     count: u32,
     gate: &G,
 ) {
     for _ in rt.forever() {
         for number in 0..count {
-            work_one_turn(rt, lock, bells, NodeNo(number), gate);
+            work_one_turn(rt, lock, signals, NodeNo(number), gate);
         }
-        if bells.sleep_caller(rt, lock) {
+        if signals.sleep_caller(rt, lock) {
             return;
         }
     }
 }
 
 // The turn of a node, where the calling thread has it, with the job that it asks for.
-fn work_one_turn<R: Wait, G: Gate>(
+fn work_one_turn<C: RunCodes, R: Wait, G: Gate>(
     rt: &R,
-    lock: &Mutex<Locked>,
-    bells: &WakeSignals,
+    lock: &Mutex<Locked<C>>,
+    signals: &WakeSignals,
     node: NodeNo,
     gate: &G,
 ) {
     let (turn, wake) = lock.lock(rt).turn_of_caller(node);
-    bells.ring(wake);
+    signals.notify(wake);
     if let NextMove::Work(job) = turn {
-        let done = done_by(gate, node, job);
-        let wake = lock.lock(rt).finish_of_caller(node, done);
-        bells.ring(wake);
+        let done = job.done_by(gate);
+        let wake = lock.lock(rt).finish_of_caller(done);
+        signals.notify(wake);
     }
 }

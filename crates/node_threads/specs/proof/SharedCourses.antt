@@ -71,9 +71,10 @@ pub record IsCourse (c : CourseValue) : Type 0 where
 abbrev pub IsOf : BusValue → Clocks → CourseValue → Type 0
 IsOf bus clocks c = (c.bus.run ≡ bus.run) × (lists_in c.clocks ≡ lists_in clocks)
 
--- the run and the lists stay, whatever is picked and done
+-- the run, its step codes and the lists stay, whatever is picked and done
 pub record Stays (old new : CourseValue) : Type 0 where
   pub run : new.bus.run ≡ old.bus.run
+  pub codes : new.bus.codes ≡ old.bus.codes
   pub lists : lists_in new.clocks ≡ lists_in old.clocks
 
 -- a node whose part continues

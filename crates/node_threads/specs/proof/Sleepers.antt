@@ -11,7 +11,7 @@ use Rattle.node_threads.specs.declared.wake_list.Sleeper.{Sleeper}
 use Rattle.node_threads.specs.declared.sleepers.ThreadSlot.{ThreadSlot}
 use Rattle.node_threads.specs.declared.sleepers.Sleepers.{Sleepers}
 use Rattle.node_threads.specs.proof.SharedCourses.{CourseValue, IsOpen}
-use Rattle.node_threads.specs.declared.wake_list.Sleeper.TheVariants as bell
+use Rattle.node_threads.specs.declared.wake_list.Sleeper.TheVariants as sleeper
 
 -- nobody is to be woken
 abbrev pub no_wakes : WakeList
@@ -45,34 +45,34 @@ pub record Waits (c : CourseValue) (hour node : ℕ) : Type 0 where
 
 -- ---- who is woken
 -- whether the thread that has a node is to be woken: the calling thread, or its own
-abbrev pub is_rung : WakeList → ℕ → Bool → Bool
-is_rung wakes node true = wakes.any && wakes.caller
-is_rung wakes node false = wakes.any && slice_index_or wakes.nodes node false
+abbrev pub wakes_thread : WakeList → ℕ → Bool → Bool
+wakes_thread wakes node true = wakes.any && wakes.caller
+wakes_thread wakes node false = wakes.any && slice_index_or wakes.nodes node false
 
 -- the thread that has a node is to be woken too
-abbrev pub with_rung : WakeList → ℕ → Bool → WakeList
-with_rung w node true = record w { any = true; caller = true }
-with_rung w node false = record w { any = true; nodes = slice_set w.nodes node true }
+abbrev pub with_wake : WakeList → ℕ → Bool → WakeList
+with_wake w node true = record w { any = true; caller = true }
+with_wake w node false = record w { any = true; nodes = slice_set w.nodes node true }
 
--- a bell is to be rung
-abbrev pub is_to_ring : WakeList → Sleeper → Bool
-is_to_ring w (bell.Node node) = is_rung w node false
-is_to_ring w bell.Caller = is_rung w 0 true
+-- a thread is to be woken
+abbrev pub is_to_wake : WakeList → Sleeper → Bool
+is_to_wake w (sleeper.Node node) = wakes_thread w node false
+is_to_wake w sleeper.Caller = wakes_thread w 0 true
 
--- a bell need not be rung; if there is none, nobody has to be woken
-abbrev pub without_bell : WakeList → Option Sleeper → WakeList
-without_bell w None = record w { any = false }
-without_bell w (Some (bell.Node node)) = record w { nodes = slice_set w.nodes node false }
-without_bell w (Some bell.Caller) = record w { any = false; caller = false }
+-- a thread need not be woken; if there is none, nobody has to be
+abbrev pub without_sleeper : WakeList → Option Sleeper → WakeList
+without_sleeper w None = record w { any = false }
+without_sleeper w (Some (sleeper.Node node)) = record w { nodes = slice_set w.nodes node false }
+without_sleeper w (Some sleeper.Caller) = record w { any = false; caller = false }
 
 -- the thread that had a node slept, and is to be woken
 pub record IsRoused (old new : Sleepers) (node : ℕ) : Type 0 where
   pub slept : (slot_at old.threads node).sleeps ≡ true
   pub slot : slot_at new.threads node ≡ record { of_caller = (slot_at old.threads node).of_caller; sleeps = false }
-  pub rung : node < length new.wakes.nodes → is_rung new.wakes node (slot_at old.threads node).of_caller ≡ true
+  pub woken : node < length new.wakes.nodes → wakes_thread new.wakes node (slot_at old.threads node).of_caller ≡ true
 
 -- some who slept are roused, and nothing else changes for anybody; who was to be woken still is
 pub record Rouses (old new : Sleepers) : Type 0 where
   pub threads : (node : ℕ) → (slot_at new.threads node ≡ slot_at old.threads node) ⊎ IsRoused old new node
   pub many : length new.wakes.nodes ≡ length old.wakes.nodes
-  pub rung : (node : ℕ) (own : Bool) → is_rung old.wakes node own ≡ true → is_rung new.wakes node own ≡ true
+  pub woken : (node : ℕ) (own : Bool) → wakes_thread old.wakes node own ≡ true → wakes_thread new.wakes node own ≡ true

@@ -5,12 +5,14 @@ use Rattle.node_threads.proofs.course.SharedRun.hand_in.Goals as goal
 
 pub invariant_of-self : goal.invariant_of-self
 invariant_of-self c =
-    let within : c.args.node.0 < length c.args.self.now.bus.run.design.components = grind (arith, common_steps) in
-    (finish_keeps c.self.inside.bus c.self.inside.lists c.self.inside.notes c.finish.new.self _ c.args.node c.args.done
-    c.finish.result c.self.view_is c.self.invariant within c.finish.ensures.ok c.finish.ensures.same).course
+    let within : c.node-node.result.0 < length c.args.self.now.bus.run.design.components = grind (arith, common_steps) in
+    (finish_keeps c.self.inside.bus c.self.inside.lists c.self.inside.notes c.finish_own.new.self _ c.node-node.result
+    c.args.done c.finish_own.result c.self.view_is c.self.invariant within c.finish_own.ensures.ok
+    c.finish_own.ensures.same).course
 
 pub returns : goal.returns
 returns c =
-    let within : c.args.node.0 < length c.args.self.now.bus.run.design.components = grind (arith, common_steps) in
-    (finish_keeps c.self.inside.bus c.self.inside.lists c.self.inside.notes c.finish.new.self _ c.args.node c.args.done
-    c.finish.result c.self.view_is c.self.invariant within c.finish.ensures.ok c.finish.ensures.same).stays
+    let within : c.node-node.result.0 < length c.args.self.now.bus.run.design.components = grind (arith, common_steps) in
+    (finish_keeps c.self.inside.bus c.self.inside.lists c.self.inside.notes c.finish_own.new.self _ c.node-node.result
+    c.args.done c.finish_own.result c.self.view_is c.self.invariant within c.finish_own.ensures.ok
+    c.finish_own.ensures.same).stays

@@ -10,8 +10,8 @@ invariant_of-self c =
     (note_keeps c.self.inside.bus c.self.inside.lists c.self.inside.notes _ c.args.node.0 c.args.target c.self.view_is
     c.self.invariant c.requires.is_open c.requires.ended).course
 
-pub returns : goal.returns
-returns c =
+pub returns-clause-stays : goal.returns-clause-stays
+returns-clause-stays c =
     subst (λ (ns : List NodeNote). Stays c.args.self.now (course_of c.self.inside.bus c.self.inside.lists ns))
     (sym c.set.ensures)
     (note_keeps c.self.inside.bus c.self.inside.lists c.self.inside.notes _ c.args.node.0 c.args.target c.self.view_is

@@ -10,8 +10,8 @@ invariant_of-self c =
     (memory_keeps c.self.inside.bus c.self.inside.lists c.self.inside.notes c.close.new.self _ c.args.node.0
     c.self.view_is c.self.invariant c.requires c.close.ensures).course
 
-pub returns : goal.returns
-returns c =
+pub returns-clause-stays : goal.returns-clause-stays
+returns-clause-stays c =
     subst (λ (ns : List NodeNote). Stays c.args.self.now (course_of c.close.new.self c.self.inside.lists ns))
     (sym c.set.ensures)
     (memory_keeps c.self.inside.bus c.self.inside.lists c.self.inside.notes c.close.new.self _ c.args.node.0

@@ -7,8 +7,8 @@ invariant_of-self c =
     c.finish_here.result c.self.view_is c.self.invariant c.requires c.finish_here.ensures.ok
     c.finish_here.ensures.same).course
 
-pub returns : goal.returns
-returns c =
+pub returns-clause-stays : goal.returns-clause-stays
+returns-clause-stays c =
     (finish_here_keeps c.self.inside.bus c.self.inside.lists c.self.inside.notes c.finish_here.new.self _ c.args.node
     c.finish_here.result c.self.view_is c.self.invariant c.requires c.finish_here.ensures.ok
     c.finish_here.ensures.same).stays

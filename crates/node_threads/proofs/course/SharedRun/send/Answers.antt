@@ -14,8 +14,8 @@ invariant_of-self c =
     (Some c.args.reading) c.send.result c.self.view_is c.self.invariant c.requires.sends c.send.ensures.ok
     c.send.ensures.same).course
 
-pub returns : goal.returns
-returns c =
+pub returns-clause-stays : goal.returns-clause-stays
+returns-clause-stays c =
     (send_keeps c.self.inside.bus c.self.inside.lists c.self.inside.notes c.send.new.self _ c.args.node
     (Some c.args.reading) c.send.result c.self.view_is c.self.invariant c.requires.sends c.send.ensures.ok
     c.send.ensures.same).stays
