@@ -7,8 +7,8 @@ import runpy
 import sys
 import tempfile
 
-from lib.bundles import Refused, read
-from lib.program import found_by_pals
+from lib.running.program import found_by_pals
+from lib.scenarios.bundles import Refused, read
 
 HERE = os.path.dirname(os.path.dirname(os.path.abspath(__file__)))
 TOP = os.path.dirname(HERE)

@@ -9,11 +9,11 @@ import subprocess
 import sys
 import tempfile
 
-from lib.bundles import Bundle
-from lib.joining import Joined
-from lib.nodes_of import nodes_of
-from lib.raw_arrivals import comments_of
-from lib.records import read_record
+from lib.nodes.joining import Joined
+from lib.nodes.nodes_of import nodes_of
+from lib.nodes.raw_arrivals import comments_of
+from lib.nodes.records import read_record
+from lib.scenarios.bundles import Bundle
 from tests.common import TOP, WITHIN, Skipped, Wrong, built, page, tool
 
 NODES = os.path.join(TOP, "nodes")

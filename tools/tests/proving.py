@@ -3,13 +3,13 @@
 import random
 import shutil
 
-from lib.listing import read_listing
+from lib.language.listing import read_listing
 from lib.proving.circuit import Circuit, Facts, Query
 from lib.proving.evaluate import Run
 from lib.proving.machine import Machine
-from lib.random_behaviours import INTEGER, Behaviour, Transition
-from lib.random_designs import RATES, Component, DesignMaker, design_text, scenario
-from lib.rows import Report
+from lib.running.random_behaviours import INTEGER, Behaviour, Transition
+from lib.running.random_designs import RATES, Component, DesignMaker, design_text, scenario
+from lib.running.rows import Report
 from tests.common import Skipped, Wrong
 from tests.nodes import listing_of, pals
 

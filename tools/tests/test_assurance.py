@@ -6,8 +6,8 @@ import re
 import shutil
 import subprocess
 
-from lib.bundles import read
-from lib.promises import PAGE, all_wrong, defines, page_of, promises
+from lib.project.promises import PAGE, all_wrong, defines, page_of, promises
+from lib.scenarios.bundles import read
 from tests.common import TOP, Skipped, expect, page, tool
 
 # What the ported crates depend on in the kit, if the kit is not installed.

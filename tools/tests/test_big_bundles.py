@@ -5,9 +5,9 @@ import shutil
 import sys
 import tempfile
 
-from lib.big_kinds import KINDS
-from lib.bundles import MOST_BYTES, divider_at
-from lib.measuring import file_of, instructions, instructions_grow, measured, size_of
+from lib.project.big_kinds import KINDS
+from lib.project.measuring import file_of, instructions, instructions_grow, measured, size_of
+from lib.scenarios.bundles import MOST_BYTES, divider_at
 from tests.common import Skipped, expect, script, tool
 
 

@@ -4,8 +4,8 @@ import json
 import os
 import tempfile
 
-from lib.bundles import Bundle, bundle_of, read
-from lib.tokens import tokens_of
+from lib.language.tokens import tokens_of
+from lib.scenarios.bundles import Bundle, bundle_of, read
 from tests.common import EXAMPLES, TOP, examples, expect, tool
 
 

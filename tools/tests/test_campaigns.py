@@ -9,10 +9,10 @@ import sys
 import tempfile
 import time
 
-from lib.bundles import read
-from lib.campaign import Falsified, Plan
-from lib.ranges import values_of
-from lib.shrinking import Shrink
+from lib.commands.ranges import values_of
+from lib.running.campaign import Falsified, Plan
+from lib.running.shrinking import Shrink
+from lib.scenarios.bundles import read
 from tests.common import EXAMPLES, TOP, WITHIN, Wrong, built, expect
 from tests.test_scenarios import JUDGE, Files, campaign
 

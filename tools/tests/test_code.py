@@ -4,8 +4,8 @@ import os
 import random
 import tempfile
 
-from lib.bundles import Refused
-from lib.listing import read_listing
+from lib.language.listing import read_listing
+from lib.scenarios.bundles import Refused
 from tests.common import expect, explained, page, tool
 from tests.nodes import (CHECKED, HOST, MORE, OWN, c_of, compiled, compilers, design_nodes, folder, joined, listing_of,
                          object_of, pals, program_of)

@@ -5,7 +5,7 @@ import random
 import re
 import tempfile
 
-from lib.random_designs import DesignMaker, design_text
+from lib.running.random_designs import DesignMaker, design_text
 from tests.common import expect, page, tool
 from tests.nodes import MORE, compiled, compilers, listing_of
 

@@ -8,8 +8,8 @@ import random
 import re
 import tempfile
 
-from lib.bundles import read
-from lib.model import Model, root_of
+from lib.language.model import Model, root_of
+from lib.language.tokens import tokens_of
 from lib.proving.conditions import deciding, leaves_of
 from lib.proving.coverage import Coverage
 from lib.proving.evaluate import value_of
@@ -17,7 +17,7 @@ from lib.proving.opened import Opened
 from lib.proving.places import layout_of
 from lib.proving.questions import Questions
 from lib.proving.terms import Terms
-from lib.tokens import tokens_of
+from lib.scenarios.bundles import read
 from tests.common import EXAMPLES, built, expect, tool
 from tests.nodes import MORE, pals
 from tests.proving import made, needed

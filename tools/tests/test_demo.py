@@ -5,9 +5,9 @@ import re
 import subprocess
 import tempfile
 
-from lib.bundles import Refused
-from lib.joining import Joined
-from lib.records import read_record
+from lib.nodes.joining import Joined
+from lib.nodes.records import read_record
+from lib.scenarios.bundles import Refused
 from tests.common import WITHIN, Skipped, Wrong, expect, page, tool
 from tests.nodes import NodesInC, audited, compilers, design_nodes, folder, scenario_lines
 

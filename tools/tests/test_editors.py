@@ -7,7 +7,7 @@ import subprocess
 import sys
 import tempfile
 
-from lib.bundles import read
+from lib.scenarios.bundles import read
 from tests.common import HERE, WITHIN, Skipped, expect, page
 
 EDITORS = os.path.join(HERE, "editors")

@@ -5,11 +5,11 @@ import os
 import random
 import tempfile
 
-from lib.bundles import Bundle, Refused
-from lib.joined_bundle import joined_bundle
-from lib.joining import Joined
-from lib.record_ends import endings, jumps, other_designs
-from lib.records import read_record
+from lib.nodes.joined_bundle import joined_bundle
+from lib.nodes.joining import Joined
+from lib.nodes.record_ends import endings, jumps, other_designs
+from lib.nodes.records import read_record
+from lib.scenarios.bundles import Bundle, Refused
 from tests.common import expect, page, tool
 from tests.nodes import (MORE, audited, compilers, design_nodes, pals, program_of, recorded_within, records_in)
 

@@ -3,11 +3,11 @@
 import os
 import re
 
-from lib import sentences
-from lib.bundles import read
-from lib.page import advice
-from lib.properties import PLACES, likely
-from lib.words import ANNEX, DECLARATIONS
+from lib.explaining import sentences
+from lib.explaining.page import advice
+from lib.language.properties import PLACES, likely
+from lib.language.words import ANNEX, DECLARATIONS
+from lib.scenarios.bundles import read
 from tests.common import EXAMPLES, TOP, answers, changed, check_examples, expect, explained, page, tool
 
 

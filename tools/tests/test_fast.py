@@ -6,13 +6,13 @@ import random
 import re
 import tempfile
 
-from lib import fast_c
-from lib.campaign import Plan, judge
-from lib.fast import Fast, Wrong, sample
-from lib.listing import read_listing
+from lib.commands.ranges import values_of
+from lib.language.listing import read_listing
 from lib.proving.formula_forms import atoms_in
 from lib.proving.formula_text import read_property
-from lib.ranges import values_of
+from lib.running import fast_c
+from lib.running.campaign import Plan, judge
+from lib.running.fast import Fast, Wrong, sample
 from tests.common import EXAMPLES, built, expect, tool
 from tests.nodes import MORE, compilers, listing_of
 from tests.proving import made

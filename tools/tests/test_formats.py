@@ -5,7 +5,7 @@ import os
 import tempfile
 import xml.etree.ElementTree as ElementTree
 
-from lib.bundles import read
+from lib.scenarios.bundles import read
 from tests.common import TOP, built, expect, on_bundle, tool
 from tests.test_traps import JOURNAL, LAW, ROWS, WATCHED
 

@@ -4,8 +4,7 @@ import random
 import re
 import tempfile
 
-from lib.bundles import Refused
-from lib.listing import read_listing
+from lib.language.listing import read_listing
 from lib.proving.confirm import check_copy, reads_ports, sync_text, truth
 from lib.proving.copies import component_rows
 from lib.proving.evaluate import Run
@@ -14,7 +13,8 @@ from lib.proving.formula_text import read_properties, read_property
 from lib.proving.observers import observed
 from lib.proving.opened import Opened
 from lib.proving.properties import Formulas, paths_in
-from lib.rows import Report
+from lib.running.rows import Report
+from lib.scenarios.bundles import Refused
 from tests.common import EXAMPLES, built, expect, page, tool
 from tests.nodes import MORE
 from tests.proving import made

@@ -6,10 +6,10 @@ import random
 import re
 import tempfile
 
-from lib import words
-from lib.bundles import join, read
-from lib.model import Model, declared_in
-from lib.properties import PLACES
+from lib.language import words
+from lib.language.model import Model, declared_in
+from lib.language.properties import PLACES
+from lib.scenarios.bundles import join, read
 from tests.common import EXAMPLES, HERE, TOP, built, examples, expect, tool
 from tests.test_scenarios import answered
 

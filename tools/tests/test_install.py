@@ -5,11 +5,11 @@ import shutil
 import subprocess
 import tempfile
 
-from lib import manual
-from lib.bundles import Refused, read
-from lib.installing import Installation
-from lib.program import found_by_pals
-from lib.version import VERSION
+from lib.commands import manual
+from lib.commands.installing import Installation
+from lib.commands.version import VERSION
+from lib.running.program import found_by_pals
+from lib.scenarios.bundles import Refused, read
 from tests.common import TOP, WITHIN, Skipped, expect, page, tool
 
 DESIGN = os.path.join(TOP, "examples/two_counters.aadl")

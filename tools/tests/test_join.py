@@ -6,12 +6,12 @@ import random
 import tempfile
 from collections import Counter
 
-from lib.bundles import Bundle, Refused
-from lib.joining import Joined
-from lib.nodes_of import nodes_of
-from lib.platform_bounds import Bounds, lines_of_records
-from lib.raw_arrivals import comments_of
-from lib.records import read_record
+from lib.nodes.joining import Joined
+from lib.nodes.nodes_of import nodes_of
+from lib.nodes.platform_bounds import Bounds, lines_of_records
+from lib.nodes.raw_arrivals import comments_of
+from lib.nodes.records import read_record
+from lib.scenarios.bundles import Bundle, Refused
 from tests.common import TOP, expect, page, tool
 from tests.nodes import MORE, audited, pals
 

@@ -8,16 +8,16 @@ import subprocess
 import sys
 import time
 
-from lib.bundles import Refused, read
-from lib.completing import completions
-from lib.cursor import Fault
-from lib.describing import described
-from lib.edited import Edited
-from lib.folding import foldings
-from lib.grammar import package_of
-from lib.grammar import read as read_design_tree
-from lib.language_server import Server, diagnostics, places_of
-from lib.recovering import read_all
+from lib.editing.completing import completions
+from lib.editing.cursor import Fault
+from lib.editing.describing import described
+from lib.editing.edited import Edited
+from lib.editing.folding import foldings
+from lib.editing.language_server import Server, diagnostics, places_of
+from lib.language.grammar import package_of
+from lib.language.grammar import read as read_design_tree
+from lib.language.recovering import read_all
+from lib.scenarios.bundles import Refused, read
 from tests.common import TOP, WITHIN, Skipped, built, expect, page
 from tests.test_traps import LAW
 

@@ -3,13 +3,13 @@
 import random
 import tempfile
 
-from lib.clocks import Clock
-from lib.listing import read_listing
-from lib.model import Model, declared_in, root_of
+from lib.language.listing import read_listing
+from lib.language.model import Model, declared_in, root_of
 from lib.proving.latency import Flow, chains_of
-from lib.random_designs import adaptor_of, period_of
-from lib.rows import Report
-from lib.timed import Times, World
+from lib.running.clocks import Clock
+from lib.running.random_designs import adaptor_of, period_of
+from lib.running.rows import Report
+from lib.running.timed import Times, World
 from tests.common import EXAMPLES, Wrong, built, expect, tool
 from tests.nodes import MORE, listing_of, pals
 

@@ -2,10 +2,10 @@
 
 import re
 
-from lib.bundles import Bundle, Refused
-from lib.lint import RULES
-from lib.model import model_of
-from lib.program import program_at
+from lib.language.model import model_of
+from lib.linting.rules import RULES
+from lib.running.program import program_at
+from lib.scenarios.bundles import Bundle, Refused
 from tests.common import Skipped, examples, expect, on_bundle, page, tool
 
 # A train's supervision: the odometer runs four steps in a round of 20 ms, and sends the first three.

@@ -4,7 +4,7 @@ import os
 import re
 import subprocess
 
-from lib.bundles import read
+from lib.scenarios.bundles import read
 from tests.common import TOP, WITHIN, built, expect, explained, page
 
 # The minimum number of mistakes, and the share of explanations that name the fix itself.

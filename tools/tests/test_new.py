@@ -4,7 +4,7 @@ import json
 import os
 import tempfile
 
-from lib.bundles import read
+from lib.scenarios.bundles import read
 from tests.common import expect, tool
 from tests.test_scenarios import answered
 

@@ -2,9 +2,9 @@
 
 import random
 
-from lib.bundles import Refused
-from lib.listing import read_listing
-from lib.random_designs import DesignMaker, design_text, scenario
+from lib.language.listing import read_listing
+from lib.running.random_designs import DesignMaker, design_text, scenario
+from lib.scenarios.bundles import Refused
 from tests.common import expect, page
 from tests.nodes import (CHECKED, MORE, NodesInC, audited, compilers, design_nodes, joined, listing_of, pals,
                          program_of, recorded_within, within)

@@ -6,7 +6,7 @@ import re
 import subprocess
 import tempfile
 
-from lib.bundles import read
+from lib.scenarios.bundles import read
 from tests.common import TOP, WITHIN, blocks, built, expect, page, script
 
 LISTINGS = ("code_listing", "pals_code")

@@ -12,7 +12,7 @@ import tempfile
 import threading
 import time
 
-from lib.bundles import read
+from lib.scenarios.bundles import read
 from tests.common import TOP, WITHIN, examples, expect, page, script, tool
 
 

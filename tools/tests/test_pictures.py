@@ -7,12 +7,12 @@ import tempfile
 import xml.dom.minidom
 from collections import namedtuple
 
-from lib.bundles import read
-from lib.crate_picture import CratePicture
-from lib.crates import chains, dependencies, direct, purposes
-from lib.graph import Box, Wire
-from lib.graph_dot import dot_text, drawn_by_dot
-from lib.rows import Report
+from lib.drawing.crate_picture import CratePicture
+from lib.drawing.graph import Box, Wire
+from lib.drawing.graph_dot import dot_text, drawn_by_dot
+from lib.project.crates import chains, dependencies, direct, purposes
+from lib.running.rows import Report
+from lib.scenarios.bundles import read
 from tests.common import EXAMPLES, TOP, Skipped, answers, expect, page, tool
 
 # The parts of a design that are drawn.

@@ -5,7 +5,7 @@ import subprocess
 import sys
 import tempfile
 
-from lib.bundles import read
+from lib.scenarios.bundles import read
 from tests.common import EXAMPLES, TOP, WITHIN, Skipped, built, expect, on_bundle, tool
 
 TOOLS = ("bundle", "explain", "lint", "timeline", "rows2csv", "rows2vcd", "fail_alloc", "big_bundles", "on_files",

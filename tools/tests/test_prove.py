@@ -6,7 +6,6 @@ import random
 import re
 import tempfile
 
-from lib.bundles import Refused, read
 from lib.proving import steps, terms, vectors
 from lib.proving.coverage import Coverage
 from lib.proving.evaluate import Run
@@ -14,6 +13,7 @@ from lib.proving.formula_text import read_property
 from lib.proving.opened import Opened
 from lib.proving.questions import Questions
 from lib.proving.solver import SecondOpinion
+from lib.scenarios.bundles import Refused, read
 from tests.common import EXAMPLES, HERE, Wrong, built, expect, script, tool
 from tests.nodes import MORE
 from tests.proving import made, needed

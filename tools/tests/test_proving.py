@@ -2,12 +2,12 @@
 
 import random
 
-from lib.listing import read_listing
+from lib.language.listing import read_listing
+from lib.language.step_code import BINARY, UNARY
 from lib.proving.evaluate import Run
 from lib.proving.machine import Machine
 from lib.proving.steps import COMPARISONS, Step
 from lib.proving.vectors import Graph
-from lib.step_code import BINARY, UNARY
 from tests.common import Wrong, expect, page
 from tests.nodes import MORE, listing_of
 from tests.proving import Averager, first_difference, graph_difference, machine_of, made, run_rows, sync_rows

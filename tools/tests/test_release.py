@@ -8,7 +8,7 @@ import subprocess
 import sys
 import tempfile
 
-from lib.bundles import read
+from lib.scenarios.bundles import read
 from tests.common import TOP, WITHIN, Skipped, built, expect, script
 from tests.test_pals import carry, change, pals, record, small_tree
 

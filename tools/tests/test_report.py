@@ -9,7 +9,7 @@ import tempfile
 import time
 import xml.dom.minidom
 
-from lib.bundles import read
+from lib.scenarios.bundles import read
 from tests.common import EXAMPLES, TOP, built, expect, on_bundle, tool
 
 # Tags that stand alone.

@@ -6,8 +6,8 @@ import re
 import shutil
 import subprocess
 
-from lib.bundles import read
-from lib.surface import CRATES, PAGE, exported, items, surface
+from lib.project.surface import CRATES, PAGE, exported, items, surface
+from lib.scenarios.bundles import read
 from tests.common import TOP, WITHIN, Skipped, expect, page, tool
 from tests.test_assurance import crates_below
 

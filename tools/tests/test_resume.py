@@ -5,8 +5,8 @@ import os
 import random
 import tempfile
 
-from lib.bundles import Bundle
-from lib.random_designs import DesignMaker, design_text, scenario
+from lib.running.random_designs import DesignMaker, design_text, scenario
+from lib.scenarios.bundles import Bundle
 from tests.common import expect, page, tool
 from tests.nodes import (CHECKED, MORE, NodesInC, compilers, design_nodes, listing_of, program_of,
                          records_in)

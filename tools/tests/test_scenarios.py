@@ -6,9 +6,9 @@ import stat
 import subprocess
 import tempfile
 
-from lib.bundles import join, read
-from lib.clocks import Clock
-from lib.ranges import nanos_of, values_of
+from lib.commands.ranges import nanos_of, values_of
+from lib.running.clocks import Clock
+from lib.scenarios.bundles import join, read
 from tests.common import EXAMPLES, TOP, WITHIN, built, expect, tool
 
 TURN = os.path.join(EXAMPLES, "turn_controller.aadl")

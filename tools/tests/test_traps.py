@@ -5,15 +5,15 @@ import os
 import random
 import tempfile
 
-from lib import tree
-from lib.bundles import Bundle
-from lib.composition import adapted
-from lib.conditions import verdict
-from lib.grammar import Grammar
-from lib.interpreter import Frame, Trap
-from lib.program import ask_program
-from lib.random_designs import DesignMaker, design_text, scenario
-from lib.traps import traps_of
+from lib.explaining.traps import traps_of
+from lib.language import tree
+from lib.language.composition import adapted
+from lib.language.conditions import verdict
+from lib.language.grammar import Grammar
+from lib.language.interpreter import Frame, Trap
+from lib.running.program import ask_program
+from lib.running.random_designs import DesignMaker, design_text, scenario
+from lib.scenarios.bundles import Bundle
 from tests.common import EXAMPLES, built, expect, explained, on_bundle, tool
 from tests.test_scenarios import Files
 

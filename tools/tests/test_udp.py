@@ -4,14 +4,14 @@ import json
 import os
 import time
 
-from lib.bundles import read
-from lib.records import read_record
+from lib.nodes.records import read_record
+from lib.scenarios.bundles import read
 from tests.common import Skipped, Wrong, page, tool
 from tests.nodes import design_nodes, folder, pals
 from tests.test_demo import slower
 from tests.udp import Network, Run, changed_listing, udp_program
 
-SLOWER, ROUNDS, TRIES = 50, 6, 2
+SLOWER, ROUNDS, TRIES, LONG_TRIES = 50, 6, 2, 6
 M, L, R, T = range(4)
 # Links by their numbers in the listing.
 M_L, M_R, M_T, L_TARGET, R_TARGET, T_TARGET = range(6)
@@ -135,8 +135,8 @@ def test_500_rounds_over_udp():
     nodes = Nodes(1, 500)
     network = Network(len(nodes.nodes.paths))
     try:
-        for number in range(TRIES):
-            run = nodes.begin(network, number, {})
+        for number in range(LONG_TRIES):
+            run = nodes.begin(network, number, {"direct": True})
             run.end()
             found = nodes.judged(run.where)
             if (found[0], found[1].split("\n")[0]) == ("sound rounds 500 stop none", "within"):

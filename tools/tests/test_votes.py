@@ -4,9 +4,9 @@ import json
 import os
 import random
 
-from lib.c_step import c_name
-from lib.listing import name_of_link, read_listing
-from lib.random_designs import DesignMaker, design_text, scenario
+from lib.language.listing import name_of_link, read_listing
+from lib.nodes.c_step import c_name
+from lib.running.random_designs import DesignMaker, design_text, scenario
 from tests.common import expect, page
 from tests.nodes import CHECKED, MORE, NodesInC, compiled, compilers, listing_of, pals
 

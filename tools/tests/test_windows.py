@@ -6,12 +6,12 @@ import os
 import random
 import tempfile
 
-from lib import windows
-from lib.bundles import Bundle
-from lib.joining import Joined
-from lib.model import model_of
-from lib.random_designs import DesignMaker, design_text, scenario
-from lib.records import read_record
+from lib.language.model import model_of
+from lib.nodes import windows
+from lib.nodes.joining import Joined
+from lib.nodes.records import read_record
+from lib.running.random_designs import DesignMaker, design_text, scenario
+from lib.scenarios.bundles import Bundle
 from tests.common import Skipped, expect, page, tool
 from tests.nodes import MORE, compilers, design_nodes, pals, program_of, records_in
 

@@ -1,10 +1,12 @@
 """What the tests of nodes over UDP share: namespaces, or else the host's own addresses, and runs of four nodes."""
 
+import atexit
 import os
 import re
 import shutil
 import subprocess
 import sys
+import tempfile
 import time
 
 from tests.common import HERE, WITHIN, Wrong
@@ -60,36 +62,53 @@ class Network:
         return (f"10.77.0.{number + 1}", 5000 + run) if self.apart else ("127.0.0.1", 25000 + 16 * run + number)
 
 
+def memory_folder():
+    """A folder in memory if the system has one: a disk may block a node that writes its record for milliseconds."""
+    memory = "/dev/shm"
+    if not os.access(memory, os.W_OK):
+        return folder()
+    path = tempfile.mkdtemp(dir=memory)
+    atexit.register(shutil.rmtree, path, True)
+    return path
+
+
 def udp_program(listing):
     """The program of the nodes of a listing over UDP."""
     return NodesInC(listing, compilers()[0], ["-O2"]).program(UDP[0], *UDP[1:]).path
 
 
 class Run:
-    """A run of the nodes, begun at once: `faults` are for the proxy, `words` and `programs` are of nodes by number,
-    and `kill` and `delay` give when a node is killed, or started, in seconds after the start."""
+    """A run of the nodes, begun at once. The proxy passes their messages on, with `faults`, or if `direct` they send
+    to each other. `words` and `programs` are of nodes by number, and `kill` and `delay` give when a node is killed,
+    or started, in seconds after the start."""
 
     def __init__(self, network, number, program, paths, given, **more):
         self.network, self.number, self.paths, self.given, self.more = network, number, paths, given, more
-        self.where = os.path.join(folder(), f"udp{number}-{os.getpid()}-{time.monotonic_ns()}")
+        self.where = os.path.join(memory_folder(), f"udp{number}")
         os.makedirs(os.path.join(self.where, "records"))
         places = [network.address(at, number) for at in range(len(paths))]
         base = 30000 + 100 * number
-        self.proxy = subprocess.Popen(
-            [*network.inside(None), sys.executable, os.path.join(HERE, "tests", "udp_proxy.py"), network.host,
-             str(base), ",".join(f"{address}:{port}" for address, port in places), *more.get("faults", [])],
-            stdin=subprocess.PIPE, stdout=subprocess.PIPE)
-        self.proxy.stdout.readline()
+        self.proxy = None if more.get("direct") else self.begin_proxy(places, base)
         for one in range(len(paths)):
             with open(os.path.join(self.where, f"peers{one}"), "w", encoding="ascii") as file:
                 for other, path in enumerate(paths):
-                    address, port = places[one] if one == other else (network.host, base + 16 * one + other)
+                    passed_on = self.proxy and one != other
+                    address, port = (network.host, base + 16 * one + other) if passed_on else places[other]
                     file.write(f"{path} {address} {port}\n")
         self.start = time.clock_gettime_ns(time.CLOCK_MONOTONIC) + 500_000_000
         delays = more.get("delay", {})
         self.nodes = {at: self.begin(at, program) for at in range(len(paths)) if at not in delays}
         self.later = {at: (self.start + int(seconds * 1e9), program) for at, seconds in delays.items()}
         self.kills = {at: self.start + int(seconds * 1e9) for at, seconds in more.get("kill", {}).items()}
+
+    def begin_proxy(self, places, base):
+        """Begins the proxy, whose first port is given."""
+        proxy = subprocess.Popen(
+            [*self.network.inside(None), sys.executable, os.path.join(HERE, "tests", "udp_proxy.py"), self.network.host,
+             str(base), ",".join(f"{address}:{port}" for address, port in places), *self.more.get("faults", [])],
+            stdin=subprocess.PIPE, stdout=subprocess.PIPE)
+        proxy.stdout.readline()
+        return proxy
 
     def begin(self, at, program):
         """Begins one node."""
@@ -122,10 +141,11 @@ class Run:
         for at, ran in self.nodes.items():
             said = ran.stderr.read().decode()
             ends[at] = ran.wait(WITHIN), said
-        self.proxy.stdin.close()
-        if self.proxy.wait(WITHIN):
-            raise Wrong("the proxy failed")
-        self.proxy.stdout.close()
+        if self.proxy:
+            self.proxy.stdin.close()
+            if self.proxy.wait(WITHIN):
+                raise Wrong("the proxy failed")
+            self.proxy.stdout.close()
         return ends
 
 

@@ -9,7 +9,7 @@ of literals `NAME:BIT` or `-NAME:BIT`; one of them holds before each round.
 import json
 import os
 
-from ..bundles import Refused
+from ..scenarios.bundles import Refused
 from .circuit import Facts
 from .engine import Job, first_of
 from .solver import implied

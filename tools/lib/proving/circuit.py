@@ -1,6 +1,6 @@
 """A machine as a circuit of bits: the graph that engines get, in the form AIGER."""
 
-from ..listing import GREATEST, LEAST
+from ..language.listing import GREATEST, LEAST
 from .vectors import TRUE, Graph
 
 

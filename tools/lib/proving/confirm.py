@@ -1,6 +1,6 @@
 """Confirms by the proved program that a property is false at the inputs that an engine found."""
 
-from ..bundles import Refused
+from ..scenarios.bundles import Refused
 from .copies import check_rows, component_rows
 from .evaluate import expression_value
 from .formula_forms import OPERATORS, atoms_in

@@ -1,9 +1,9 @@
 """Copies of a design with further variables and actions in its behaviours."""
 
-from ..bundles import Refused
-from ..rows import Report
-from ..tokens import tokens_of, word_of
-from ..tree import Assign, Send, acts_in
+from ..language.tokens import tokens_of, word_of
+from ..language.tree import Assign, Send, acts_in
+from ..running.rows import Report
+from ..scenarios.bundles import Refused
 
 ENDS = (";", "}", "end", "else", "elsif")
 

@@ -1,6 +1,6 @@
 """The coverage of a design, and the code that no input reaches."""
 
-from ..found import Found
+from ..linting.finding import Found
 from .coverage import Coverage
 from .goals import Goals
 from .progress import Progress

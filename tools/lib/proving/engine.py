@@ -7,7 +7,7 @@ import signal
 import subprocess
 import time
 
-from ..bundles import Refused
+from ..scenarios.bundles import Refused
 
 ENGINE = "berkeley-abc"
 INSTALL = "apt install berkeley-abc (Debian and Ubuntu) installs it"

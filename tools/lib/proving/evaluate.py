@@ -1,6 +1,6 @@
 """The values of terms: for tests of the translation, and for what a scenario covers."""
 
-from ..listing import GREATEST, LEAST
+from ..language.listing import GREATEST, LEAST
 from .properties import EXACT
 from .terms import compared, computed, quotient
 

@@ -1,6 +1,6 @@
 """Forms of formulas: the forms of `watch` if they suffice, and the atoms of a form."""
 
-from ..listing import GREATEST, LEAST
+from ..language.listing import GREATEST, LEAST
 from .properties import EXACT
 
 MIRRORED = {"=": "=", "!=": "!=", "<": ">", "<=": ">=", ">": "<", ">=": "<="}

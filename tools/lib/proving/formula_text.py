@@ -7,9 +7,9 @@ A formula becomes a form of `watch`, or else one with further parts: ["compare",
 
 import re
 
-from ..bundles import Refused
-from ..listing import GREATEST
-from ..names import meant
+from ..language.listing import GREATEST
+from ..language.names import meant
+from ..scenarios.bundles import Refused
 from .formula_forms import compared, running, within
 
 TOKEN = re.compile(r"\s*(?:(--[^\n]*)|([A-Za-z][A-Za-z0-9_]*(?:\.[A-Za-z][A-Za-z0-9_]*)*)|([0-9]+)|"

@@ -1,7 +1,7 @@
 """The goals of coverage as people know them: with their positions in the design's text."""
 
-from ..model import Model, root_of
-from ..tokens import tokens_of
+from ..language.model import Model, root_of
+from ..language.tokens import tokens_of
 from .machine import Machine
 from .places import layout_of
 

@@ -1,6 +1,6 @@
 """Arithmetic on ranges: pairs of the smallest and the largest number, or None if no value is possible."""
 
-from ..listing import GREATEST, LEAST
+from ..language.listing import GREATEST, LEAST
 from .terms import quotient
 
 WIDEST = (LEAST, GREATEST)

@@ -3,7 +3,7 @@ shows that no round leaves them before any other query assumes them."""
 
 import time
 
-from ..listing import GREATEST, LEAST
+from ..language.listing import GREATEST, LEAST
 from .interval_arithmetic import EITHER, WIDEST, arithmetic, comparison, hull, meet
 
 # A bound moves this often before it moves to the next threshold, and this often in total before it moves to the end.

@@ -9,7 +9,7 @@ less than the skew at each end; a step then takes its execution time."""
 
 from collections import namedtuple
 
-from ..bundles import Refused
+from ..scenarios.bundles import Refused
 
 MOST_CHAINS = 10_000
 # A chain: the name of its first end (an input or a component), the numbers of its components, the name of its output.

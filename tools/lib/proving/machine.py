@@ -1,6 +1,6 @@
 """The synchronous composition of a design as a transition system of terms."""
 
-from ..listing import GREATEST, LEAST
+from ..language.listing import GREATEST, LEAST
 from .steps import Step
 from .terms import Terms
 

@@ -3,9 +3,9 @@
 An atom of one component becomes a Boolean variable of its implementation. Each transition that ends a step sets it. The
 copy runs as the design does, since nothing reads the new variables."""
 
-from ..bundles import Refused
-from ..model import Model, root_of
-from ..tree import behaviour_of
+from ..language.model import Model, root_of
+from ..language.tree import behaviour_of
+from ..scenarios.bundles import Refused
 from .copies import Copy
 from .evaluate import expression_value
 from .formula_forms import atoms_in, replaced

@@ -2,14 +2,14 @@
 
 import json
 
-from ..bundles import DIVIDER, Refused, bundle_of, read, without_mark
-from ..answers import WATCHED
-from ..lint import scenario_of
-from ..listing import GREATEST, LEAST, read_listing
-from ..model import declared_in, root_of
-from ..program import ask_program, code_program_at, program_at
-from ..ranges import named_ranges, values_of
-from ..rows import Report
+from ..commands.ranges import named_ranges, values_of
+from ..language.listing import GREATEST, LEAST, read_listing
+from ..language.model import declared_in, root_of
+from ..linting.rules import scenario_of
+from ..running.answers import WATCHED
+from ..running.program import ask_program, code_program_at, program_at
+from ..running.rows import Report
+from ..scenarios.bundles import DIVIDER, Refused, bundle_of, read, without_mark
 from .evaluate import Run
 from .machine import Machine
 

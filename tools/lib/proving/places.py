@@ -3,8 +3,8 @@
 The instructions of a behaviour are laid out again from its tokens, in the order of docs/step_code.md. If the listing
 has the same names, each place of the code has the position of its token."""
 
-from ..tokens import word_of
-from ..tree import behaviour_of
+from ..language.tokens import word_of
+from ..language.tree import behaviour_of
 
 COMPARING = {"=": "Eq", "!=": "Ne", "<": "Lt", "<=": "Le", ">": "Gt", ">=": "Ge"}
 ADDING = {"+": "Add", "-": "Sub"}

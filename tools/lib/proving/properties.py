@@ -1,6 +1,6 @@
 """Watched formulas as terms: their value after a round, with a bit of the state for each temporal operator."""
 
-from ..bundles import Refused
+from ..scenarios.bundles import Refused
 
 COMPARISONS = {"=": "eq", "!=": "ne", "<": "lt", "<=": "le", ">": "gt", ">=": "ge"}
 EXACT = {"+": "add", "-": "sub", "*": "mul"}

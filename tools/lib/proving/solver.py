@@ -3,7 +3,7 @@
 import shutil
 import subprocess
 
-from ..bundles import Refused
+from ..scenarios.bundles import Refused
 
 SOLVER = "cadical"
 INSTALL = "apt install cadical (Debian and Ubuntu) installs it"

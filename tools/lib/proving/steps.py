@@ -1,7 +1,7 @@
 """The step code of a component as terms: one step, from the state before it to the state after it."""
 
-from ..bundles import Refused
-from ..step_code import Verified
+from ..language.step_code import Verified
+from ..scenarios.bundles import Refused
 from .conditions import deciding, leaves_of
 
 COMPARISONS = {"Eq": "eq", "Ne": "ne", "Lt": "lt", "Le": "le", "Gt": "gt", "Ge": "ge"}

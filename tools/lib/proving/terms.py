@@ -1,7 +1,7 @@
 """Terms over integers and truth values, each stored once and simplified when it is made."""
 
-from ..bundles import Refused
-from ..listing import GREATEST, LEAST
+from ..language.listing import GREATEST, LEAST
+from ..scenarios.bundles import Refused
 
 # The two sorts of terms.
 INTEGER, BOOLEAN = "I", "B"

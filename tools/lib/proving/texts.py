@@ -1,6 +1,6 @@
 """The properties of a command: from its scenario, and written as text."""
 
-from ..bundles import Refused, read
+from ..scenarios.bundles import Refused, read
 from .formula_text import read_properties, read_property
 
 

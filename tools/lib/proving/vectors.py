@@ -4,7 +4,7 @@ A literal is twice the number of a node, plus 1 if it is negated: 0 is false, 1 
 the lowest bit first; the last one is the sign. Vectors are as short as their values allow, so no operation overflows.
 """
 
-from ..bundles import Refused
+from ..scenarios.bundles import Refused
 
 FALSE, TRUE = 0, 1
 # A graph with more gates than this is rejected before memory runs out: a gate takes some 250 bytes.

@@ -1,0 +1,1 @@
+"""Command lines of the tools, their manual and their installation."""

@@ -1,0 +1,1 @@
+"""Pictures and pages: designs, runs, signals, timetables and reports."""

@@ -1,0 +1,1 @@
+"""Whether the C of a step computes what its listing does."""

@@ -1,0 +1,1 @@
+"""Explanations of the program's outputs: the cause of a rejection, its place and its mend."""

@@ -1,0 +1,1 @@
+"""Designs made of AADL of other tools, and new designs."""

@@ -1,0 +1,1 @@
+"""What the program accepts and is likely not meant."""

@@ -1,0 +1,1 @@
+"""Nodes: C made of step code, and the records of real runs."""

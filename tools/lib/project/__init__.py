@@ -1,0 +1,1 @@
+"""Checks of this repository: crates, promises, public calls, and costs of large bundles."""

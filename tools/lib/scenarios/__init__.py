@@ -1,0 +1,1 @@
+"""Bundles and scenarios: reading, writing, and the places in them."""
